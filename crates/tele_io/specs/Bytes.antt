@@ -1,0 +1,27 @@
+-- What one read gives and one write takes. A stream that tells its bytes has `Some` of them, and any other has `None`.
+use Rattle.std.specs.Prelude.{◌≡◌, ℕ, ◌-◌, ◌^◌, ◌<◌, ◌≤◌, ◌⊎◌, List, [], ◌++◌, length, take, drop, Option, Some, None}
+
+-- where a count of faults stands still
+abbrev pub fault_limit : ℕ
+fault_limit = 2 ^ 64 - 1
+
+-- a fault was counted since, or the count is at its end
+abbrev pub HaveRisen : ℕ → ℕ → Type 0
+HaveRisen before now = (before < now) ⊎ (now ≡ fault_limit)
+
+-- of the bytes that were left, the first n stand at the front of the buffer, and the others are left; none is the end
+pub record GivesFirst (bytes : List ℕ) (now : Option (List ℕ)) (n : ℕ) (buffer : List ℕ) : Type 0 where
+  pub within : n ≤ length bytes
+  pub given : take n buffer ≡ take n bytes
+  pub others : now ≡ Some (drop n bytes)
+  pub at_end : n ≡ 0 → bytes ≡ []
+
+-- a read gave n bytes, which are known where the source tells its bytes
+abbrev pub Gives : Option (List ℕ) → Option (List ℕ) → ℕ → List ℕ → Type 0
+Gives (Some bytes) now n buffer = GivesFirst bytes now n buffer
+Gives None now n buffer = Unit {0}
+
+-- a write took these bytes, behind those that the sink tells
+abbrev pub Appends : Option (List ℕ) → Option (List ℕ) → List ℕ → Type 0
+Appends (Some before) now bytes = now ≡ Some (before ++ bytes)
+Appends None now bytes = Unit {0}

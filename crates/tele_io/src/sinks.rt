@@ -1,0 +1,34 @@
+//! Sinks of bytes.
+ghost use Rattle.std.specs.Prelude.{◌≡◌, ℕ, ◌<◌, ◌≤◌, List, length, take, Option, IfOk, OnErr, IsErrOf};
+ghost use Rattle.tele_io.specs.Bytes.{HaveRisen, Appends};
+
+/// Why a sink took nothing of a piece.
+#[derive(Clone, Copy, Debug, PartialEq, Eq, Drop)]
+pub enum SinkFault {
+    /// What lies behind the sink failed.
+    Failed,
+    /// No memory was left to keep the bytes in.
+    Memory,
+}
+
+/// Takes bytes, piece by piece, and keeps them in order.
+pub trait Sink {
+    // the bytes that were taken so far, where they are known
+    ghost written: { Self → Option (List ℕ) };
+    // how often a write has failed
+    ghost faults: { Self → ℕ };
+
+    /// Takes at least one byte from the front of a piece that isn't empty, and says how many.
+    ///
+    /// `Failed` comes only where a fault was counted in this call. After a refusal nothing was taken.
+    fn write(&mut self, bytes: &[u8]) -> Result<usize, SinkFault>
+        requires { 0 < length bytes.now }
+
+        ensures some { IfOk result (λ n. (0 < n) × (n ≤ length bytes.now)) }
+        ensures taken { IfOk result (λ n. Appends (written self.old) (written self.new) (take n bytes.now)) }
+
+        ensures failed { IsErrOf result SinkFault.Failed → HaveRisen (faults self.old) (faults self.new) }
+        ensures kept { OnErr result (written self.new ≡ written self.old) }
+
+        ensures counted { faults self.old ≤ faults self.new };
+}
