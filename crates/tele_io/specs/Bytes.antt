@@ -25,3 +25,7 @@ Gives None now n buffer = Unit {0}
 abbrev pub Appends : Option (List ℕ) → Option (List ℕ) → List ℕ → Type 0
 Appends (Some before) now bytes = now ≡ Some (before ++ bytes)
 Appends None now bytes = Unit {0}
+
+-- some first bytes of these were taken, behind those that the sink tells
+abbrev pub AppendsPart : Option (List ℕ) → Option (List ℕ) → List ℕ → Type 0
+AppendsPart before now bytes = (n : ℕ) × (n ≤ length bytes) × Appends before now (take n bytes)
