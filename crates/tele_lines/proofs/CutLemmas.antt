@@ -1,0 +1,77 @@
+-- Cutting lines off the front of bytes. Serves the reader.
+use Rattle.std.proofs.Common.{◌≡◌, ℕ, suc, ◌+◌, ◌<◌, true, false, List, [], ◌∷◌, ◌++◌, length, take, drop, refl, ◌∙◌, ap, subst, arith, add-one, cond, not}
+use Rattle.std.specs.Prelude.{◌==◌, if◌then◌else◌}
+use Rattle.std.specs.List.{position_or_len, onto_first}
+use Rattle.tele_lines.specs.Lines.{newline, lines_of}
+use Rattle.tele_lines.specs.Buffers.{is_newline, IsUnbroken}
+
+-- one more byte at the front makes the first line longer
+first_longer : (byte : ℕ) (bytes others : List ℕ) (k : ℕ) → lines_of (bytes ++ others) ≡ take k bytes ∷ lines_of (drop (k + 1) bytes ++ others)
+    → onto_first byte (lines_of (bytes ++ others)) ≡ (byte ∷ take k bytes) ∷ lines_of (drop (suc k) bytes ++ others)
+first_longer byte bytes others k is = ap (onto_first byte) is ∙ ap (λ n. (byte ∷ take k bytes) ∷ lines_of (drop n bytes ++ others)) (add-one k)
+
+-- the first line ends at the first newline
+pub cut_first : (bytes others : List ℕ) (k : ℕ) → position_or_len is_newline bytes ≡ k → k < length bytes
+    → lines_of (bytes ++ others) ≡ take k bytes ∷ lines_of (drop (k + 1) bytes ++ others)
+cut_first [] others k is below = absurd (omega arith)
+cut_first (byte ∷ bytes) others k is below =
+    elim (byte == newline) as (λ b. cond (not b) (1 + position_or_len is_newline bytes) 0 ≡ k
+    → (if b then [] ∷ lines_of (bytes ++ others) else onto_first byte (lines_of (bytes ++ others)))
+    ≡ take k (byte ∷ bytes) ∷ lines_of (drop (k + 1) (byte ∷ bytes) ++ others)) [
+      | true ↦ λ e. subst (λ n. [] ∷ lines_of (bytes ++ others) ≡ take n (byte ∷ bytes) ∷ lines_of (drop (n + 1) (byte ∷ bytes) ++ others)) e refl
+      | false ↦ λ e.
+          let p = position_or_len is_newline bytes in
+          let e' : suc p ≡ k = omega arith in
+          let less : p < length bytes = omega arith in
+          subst (λ n. onto_first byte (lines_of (bytes ++ others)) ≡ take n (byte ∷ bytes) ∷ lines_of (drop (n + 1) (byte ∷ bytes) ++ others)) e'
+          (rw add-one (first_longer byte bytes others p (cut_first bytes others p refl less)))
+    ] is
+
+-- bytes without a newline are one line, or none
+last_or_none : (byte : ℕ) (bytes : List ℕ) → IsUnbroken bytes → onto_first byte (lines_of bytes) ≡ (byte ∷ bytes) ∷ []
+last_or_none byte [] is = refl
+last_or_none byte (next ∷ bytes) is =
+    elim (next == newline) as (λ b. cond (not b) (1 + position_or_len is_newline bytes) 0 ≡ length (next ∷ bytes)
+    → onto_first byte (if b then [] ∷ lines_of bytes else onto_first next (lines_of bytes)) ≡ (byte ∷ next ∷ bytes) ∷ []) [
+      | true ↦ λ e. absurd (omega arith)
+      | false ↦ λ e. ap (onto_first byte) (last_or_none next bytes (omega arith))
+    ] is
+
+-- bytes without a newline are one line
+pub cut_last : (bytes : List ℕ) → IsUnbroken bytes → 0 < length bytes → lines_of bytes ≡ bytes ∷ []
+cut_last [] is some = absurd (omega arith)
+cut_last (byte ∷ bytes) is some =
+    elim (byte == newline) as (λ b. cond (not b) (1 + position_or_len is_newline bytes) 0 ≡ length (byte ∷ bytes)
+    → (if b then [] ∷ lines_of bytes else onto_first byte (lines_of bytes)) ≡ (byte ∷ bytes) ∷ []) [
+      | true ↦ λ e. absurd (omega arith)
+      | false ↦ λ e. last_or_none byte bytes (omega arith)
+    ] is
+
+-- a first line that begins with these bytes, and the lines behind it
+abbrev Begins : List ℕ → List (List ℕ) → Type 0
+Begins start lines = (more : List ℕ) × (others : List (List ℕ)) × (lines ≡ (start ++ more) ∷ others)
+
+-- a byte that goes onto the first line begins it
+begins_one : (byte : ℕ) (lines : List (List ℕ)) → Begins (byte ∷ []) (onto_first byte lines)
+begins_one byte [] = ([], [], refl)
+begins_one byte (line ∷ lines) = (line, lines, refl)
+
+-- so do a byte and bytes without a newline
+begins_all : (byte : ℕ) (bytes others : List ℕ) → IsUnbroken bytes → Begins (byte ∷ bytes) (onto_first byte (lines_of (bytes ++ others)))
+begins_all byte [] others is = begins_one byte (lines_of others)
+begins_all byte (next ∷ bytes) others is =
+    elim (next == newline) as (λ b. cond (not b) (1 + position_or_len is_newline bytes) 0 ≡ length (next ∷ bytes)
+    → Begins (byte ∷ next ∷ bytes) (onto_first byte (if b then [] ∷ lines_of (bytes ++ others) else onto_first next (lines_of (bytes ++ others))))) [
+      | true ↦ λ e. absurd (omega arith)
+      | false ↦ λ e. let p = begins_all next bytes others (omega arith) in (p.0, p.1, ap (onto_first byte) p.2)
+    ] is
+
+-- bytes without a newline begin the first line
+pub cut_long : (bytes others : List ℕ) → IsUnbroken bytes → 0 < length bytes → (more : List ℕ) × (rest : List (List ℕ)) × (lines_of (bytes ++ others) ≡ (bytes ++ more) ∷ rest)
+cut_long [] others is some = absurd (omega arith)
+cut_long (byte ∷ bytes) others is some =
+    elim (byte == newline) as (λ b. cond (not b) (1 + position_or_len is_newline bytes) 0 ≡ length (byte ∷ bytes)
+    → Begins (byte ∷ bytes) (if b then [] ∷ lines_of (bytes ++ others) else onto_first byte (lines_of (bytes ++ others)))) [
+      | true ↦ λ e. absurd (omega arith)
+      | false ↦ λ e. begins_all byte bytes others (omega arith)
+    ] is

@@ -1,0 +1,18 @@
+use Rattle.std.proofs.Common.{◌≡◌, ◌+◌, ◌-◌, ◌≤◌, length, true}
+use Rattle.std.specs.Prelude.{if◌then◌else◌}
+use Rattle.tele_lines.specs.Buffers.{unread_of, StillUnread}
+use Rattle.tele_lines.proofs.reader.gather.Given as goal
+
+-- no byte is lost, and behind the end nothing is read
+abbrev pub invariant-loop-bytes : goal.invariant-loop-bytes
+invariant-loop-bytes g l =
+    let left = g.S.Source.left in
+    record {
+      kept : StillUnread (unread_of l.fn.buffer l.fn.ended (left l.fn.source)) (unread_of l.buffer l.ended (left l.source));
+      counted : g.S.Source.faults l.fn.source ≤ g.S.Source.faults l.source;
+      again : l.fn.ended ≡ true → (l.source ≡ l.fn.source) × (l.buffer ≡ l.fn.buffer) × (l.ended ≡ true);
+    }
+
+-- a line is decided within 82 bytes, and the end comes once
+abbrev pub decreases-loop-bytes : goal.decreases-loop-bytes
+decreases-loop-bytes g l = 82 - length l.buffer + (if l.ended then 0 else 1)

@@ -1,0 +1,47 @@
+-- Bytes that were taken from a source and are not yet read as lines, and where the first line ends in them.
+use Rattle.std.specs.Prelude.{◌≡◌, ℕ, ◌+◌, ◌<◌, ◌==◌, ◌⊎◌, Bool, true, List, [], ◌++◌, length, Option, Some, None, IfSome, option_map, if◌then◌else◌}
+use Rattle.std.specs.List.{position_or_len}
+use Rattle.tele_lines.specs.Lines.{newline, longest}
+
+-- n more bytes were taken: of those that the source had left, the first stand behind the old ones; none is the end
+pub record FillsFrom (bytes : List ℕ) (now : Option (List ℕ)) (old new : List ℕ) (n : ℕ) : Type 0 where
+  pub rest : List ℕ
+  pub others : now ≡ Some rest
+  pub same : new ++ rest ≡ old ++ bytes
+  pub at_end : n ≡ 0 → bytes ≡ []
+
+-- n more bytes were taken, which are known where the source tells its bytes
+pub record Fills (left now : Option (List ℕ)) (old new : List ℕ) (n : ℕ) : Type 0 where
+  pub longer : length new ≡ length old + n
+  pub bytes : IfSome left (λ bytes. FillsFrom bytes now old new n)
+
+-- the test for a newline
+abbrev pub is_newline : ℕ → Bool
+is_newline byte = byte == newline
+
+-- no byte is a newline
+abbrev pub IsUnbroken : List ℕ → Type 0
+IsUnbroken bytes = position_or_len is_newline bytes ≡ length bytes
+
+-- the first newline stands at this place
+pub record BreaksAt (bytes : List ℕ) (place : ℕ) : Type 0 where
+  pub first : position_or_len is_newline bytes ≡ place
+  pub within : place < length bytes
+
+-- no newline will show where the first line ends: the input has, or the line is too long
+pub record IsOpenEnded (bytes : List ℕ) (ended : Bool) : Type 0 where
+  pub unbroken : IsUnbroken bytes
+  pub why : (ended ≡ true) ⊎ (longest < length bytes)
+
+-- where the first line ends: at a newline, or with the bytes
+abbrev pub EndsAt : List ℕ → Bool → Option ℕ → Type 0
+EndsAt bytes ended (Some place) = BreaksAt bytes place
+EndsAt bytes ended None = IsOpenEnded bytes ended
+
+-- what is still to be read: the bytes in the buffer, and then those that the source has left, where it tells them; behind the end it has none
+abbrev pub unread_of : List ℕ → Bool → Option (List ℕ) → Option (List ℕ)
+unread_of buffer ended left = option_map (λ bytes. buffer ++ bytes) (if ended then Some [] else left)
+
+-- what was known to be still to be read is so still
+abbrev pub StillUnread : Option (List ℕ) → Option (List ℕ) → Type 0
+StillUnread before now = IfSome before (λ bytes. now ≡ Some bytes)

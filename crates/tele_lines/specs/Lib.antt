@@ -1,0 +1,6 @@
+-- what the public contracts rest on, in the order to read them
+pub mod Lines
+pub mod Answer
+pub mod Progress
+-- what the functions inside this crate promise each other
+pub mod Buffers

@@ -1,0 +1,59 @@
+//! One printed line, which is put together on the stack and goes out in one piece.
+ghost use Rattle.std.specs.Prelude.{◌≡◌, ◌+◌, ◌≤◌, [], ◌++◌, length, decimal};
+
+use arrayvec::ArrayVec;
+use itoa::Buffer;
+use std::marker::Model;
+
+/// How many bytes a printed line has at the most.
+pub(crate) const ROOM: usize = 64;
+
+/// Bytes that are to be printed together.
+#[derive(Drop)]
+pub(crate) struct Text {
+    bytes: ArrayVec<u8, ROOM>,
+}
+
+impl Model for Text {
+    ghost use Rattle.std.specs.Prelude.{ℕ, List};
+
+    ghost Value = { List ℕ };
+
+    ghost view = { λ t. t.bytes.items };
+}
+
+impl Text {
+    /// No byte yet.
+    pub(crate) fn new() -> Self
+        ensures empty { result ≡ [] }
+    {
+        Text {
+            bytes: ArrayVec::new(),
+        }
+    }
+
+    /// Adds some bytes behind the others.
+    pub(crate) fn push(&mut self, bytes: &[u8])
+        requires room { length self.old + length bytes.now ≤ ROOM }
+        ensures added { self.new ≡ self.old ++ bytes.now }
+    {
+        let _ = self.bytes.try_extend_from_slice(bytes);
+    }
+
+    /// Adds a number in decimal.
+    pub(crate) fn push_number(&mut self, number: u64)
+        requires room { length self.old + 20 ≤ ROOM }
+        ensures added { self.new ≡ self.old ++ decimal number }
+        ensures short { length self.new ≤ length self.old + 20 }
+    {
+        let mut buffer = Buffer::new();
+        self.push(buffer.format(number).as_bytes());
+    }
+
+    /// The bytes.
+    pub(crate) fn as_slice(&self) -> &[u8]
+        ensures value { result.now ≡ self.now }
+    {
+        self.bytes.as_slice()
+    }
+}
