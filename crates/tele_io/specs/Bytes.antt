@@ -1,13 +1,17 @@
 -- What one read gives and one write takes. A stream that tells its bytes has `Some` of them, and any other has `None`.
-use Rattle.std.specs.Prelude.{◌≡◌, ℕ, ◌-◌, ◌^◌, ◌<◌, ◌≤◌, ◌⊎◌, List, [], ◌++◌, length, take, drop, Option, Some, None}
+use Rattle.std.specs.Prelude.{◌≡◌, ℕ, ◌+◌, ◌-◌, ◌^◌, ◌<◌, ◌≤◌, ◌⊎◌, min, List, [], ◌++◌, length, take, drop, Option, Some, None}
 
--- where a count of faults stands still
-abbrev pub fault_limit : ℕ
-fault_limit = 2 ^ 64 - 1
+-- where a count stands still
+abbrev pub count_limit : ℕ
+count_limit = 2 ^ 64 - 1
+
+-- a count behind one more
+abbrev pub raised : ℕ → ℕ
+raised count = min (count + 1) count_limit
 
 -- a fault was counted since, or the count is at its end
 abbrev pub HaveRisen : ℕ → ℕ → Type 0
-HaveRisen before now = (before < now) ⊎ (now ≡ fault_limit)
+HaveRisen before now = (before < now) ⊎ (now ≡ count_limit)
 
 -- of the bytes that were left, the first n stand at the front of the buffer, and the others are left; none is the end
 pub record GivesFirst (bytes : List ℕ) (now : Option (List ℕ)) (n : ℕ) (buffer : List ℕ) : Type 0 where
@@ -29,3 +33,8 @@ Appends None now bytes = Unit {0}
 -- some first bytes of these were taken, behind those that the sink tells
 abbrev pub AppendsPart : Option (List ℕ) → Option (List ℕ) → List ℕ → Type 0
 AppendsPart before now bytes = (n : ℕ) × (n ≤ length bytes) × Appends before now (take n bytes)
+
+-- the bytes that a stream tells are those that it told before
+abbrev pub Keeps : Option (List ℕ) → Option (List ℕ) → Type 0
+Keeps (Some before) now = now ≡ Some before
+Keeps None now = Unit {0}

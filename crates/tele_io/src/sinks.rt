@@ -1,6 +1,6 @@
 //! Sinks of bytes.
-ghost use Rattle.std.specs.Prelude.{◌≡◌, ℕ, ◌<◌, ◌≤◌, List, length, take, Option, IfOk, OnErr, IsErrOf};
-ghost use Rattle.tele_io.specs.Bytes.{HaveRisen, Appends};
+ghost use Rattle.std.specs.Prelude.{ℕ, ◌<◌, ◌≤◌, List, length, take, Option, IfOk, OnErr, IsErrOf};
+ghost use Rattle.tele_io.specs.Bytes.{HaveRisen, Appends, Keeps};
 
 /// Why a sink took nothing of a piece.
 #[derive(Clone, Copy, Debug, PartialEq, Eq, Drop)]
@@ -28,7 +28,7 @@ pub trait Sink {
         ensures taken { IfOk result (λ n. Appends (written self.old) (written self.new) (take n bytes.now)) }
 
         ensures failed { IsErrOf result SinkFault.Failed → HaveRisen (faults self.old) (faults self.new) }
-        ensures kept { OnErr result (written self.new ≡ written self.old) }
+        ensures kept { OnErr result (Keeps (written self.old) (written self.new)) }
 
         ensures counted { faults self.old ≤ faults self.new };
 }

@@ -1,6 +1,6 @@
 //! Sources of bytes.
-ghost use Rattle.std.specs.Prelude.{◌≡◌, ℕ, ◌<◌, ◌≤◌, List, length, Option, IfOk, OnErr};
-ghost use Rattle.tele_io.specs.Bytes.{HaveRisen, Gives};
+ghost use Rattle.std.specs.Prelude.{ℕ, ◌<◌, ◌≤◌, List, length, Option, IfOk, OnErr};
+ghost use Rattle.tele_io.specs.Bytes.{HaveRisen, Gives, Keeps};
 
 /// A read that gave nothing, since what lies behind the source failed.
 #[derive(Clone, Copy, Debug, PartialEq, Eq, Drop)]
@@ -23,7 +23,7 @@ pub trait Source {
         ensures given { IfOk result (λ n. Gives (left self.old) (left self.new) n buf.new) }
 
         ensures failed { OnErr result (HaveRisen (faults self.old) (faults self.new)) }
-        ensures kept { OnErr result (left self.new ≡ left self.old) }
+        ensures kept { OnErr result (Keeps (left self.old) (left self.new)) }
 
         ensures counted { faults self.old ≤ faults self.new };
 }

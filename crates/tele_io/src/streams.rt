@@ -1,0 +1,111 @@
+//! A source over a reader of std, and a sink over a writer of std.
+ghost use Rattle.std.specs.Prelude.{◌≡◌, ℕ, ◌<◌, ◌≤◌, List, length, take, Option, is_err, if◌then◌else◌, IfOk, OnErr, IsErrOf};
+ghost use Rattle.tele_io.specs.Bytes.{HaveRisen, Gives, Appends, Keeps, raised};
+ghost use Rattle.tele_io.specs.Streams.{reader_of, read_faults, writer_of, write_faults};
+
+use super::sinks::{Sink, SinkFault};
+use super::sources::{Failed, Source};
+use std::io::{Read, Write};
+
+/// Gives what a reader gives. Each `Err` of the reader is a fault, that of an interrupted read too,
+/// and none is tried again.
+///
+/// It tells the bytes that the reader tells: those over memory, and none over a file or a pipe.
+#[derive(Drop)]
+pub struct ReadSource<R> {
+    reader: R,
+    faults: u64,
+}
+
+impl<R: Read> ReadSource<R> {
+    /// A source over this reader, with no fault so far.
+    pub fn new(reader: R) -> ReadSource<R>
+        ensures reader { reader_of result ≡ reader }
+        ensures faults { read_faults result ≡ 0 }
+    {
+        ReadSource { reader, faults: 0 }
+    }
+}
+
+impl<R: Read> Source for ReadSource<R> {
+    ghost left = { λ s. R.remaining (reader_of s) };
+
+    ghost faults = { read_faults };
+
+    fn read(&mut self, buf: &mut [u8]) -> Result<usize, Failed>
+        requires { 0 < length buf.old }
+
+        ensures within { IfOk result (λ n. n ≤ length buf.new) }
+        ensures given { IfOk result (λ n.
+            Gives (R.remaining (reader_of self.old)) (R.remaining (reader_of self.new)) n buf.new) }
+
+        ensures failed { OnErr result (HaveRisen (read_faults self.old) (read_faults self.new)) }
+        ensures kept { OnErr result
+            (Keeps (R.remaining (reader_of self.old)) (R.remaining (reader_of self.new))) }
+
+        ensures counted { read_faults self.old ≤ read_faults self.new }
+        ensures faults { read_faults self.new
+            ≡ (if is_err result then raised (read_faults self.old) else read_faults self.old) }
+    {
+        match self.reader.read(buf) {
+            Ok(n) => Ok(n),
+            Err(_) => {
+                self.faults = self.faults.saturating_add(1);
+                Err(Failed)
+            }
+        }
+    }
+}
+
+/// Hands bytes on to a writer. Each `Err` of the writer is a fault, and so is a write that takes
+/// no byte. None is tried again.
+///
+/// It tells the bytes that the writer tells: those over memory, and none over a file or a pipe.
+/// It keeps no byte back and flushes nothing: std's standard output has no buffer, and who hands
+/// in a writer that has one flushes it.
+#[derive(Drop)]
+pub struct WriteSink<W> {
+    writer: W,
+    faults: u64,
+}
+
+impl<W: Write> WriteSink<W> {
+    /// A sink over this writer, with no fault so far.
+    pub fn new(writer: W) -> WriteSink<W>
+        ensures writer { writer_of result ≡ writer }
+        ensures faults { write_faults result ≡ 0 }
+    {
+        WriteSink { writer, faults: 0 }
+    }
+}
+
+impl<W: Write> Sink for WriteSink<W> {
+    ghost written = { λ s. W.contents (writer_of s) };
+
+    ghost faults = { write_faults };
+
+    fn write(&mut self, bytes: &[u8]) -> Result<usize, SinkFault>
+        requires { 0 < length bytes.now }
+
+        ensures some { IfOk result (λ n. (0 < n) × (n ≤ length bytes.now)) }
+        ensures taken { IfOk result (λ n. Appends (W.contents (writer_of self.old))
+            (W.contents (writer_of self.new)) (take n bytes.now)) }
+
+        ensures failed { OnErr result (HaveRisen (write_faults self.old) (write_faults self.new)) }
+        ensures kept { OnErr result
+            (Keeps (W.contents (writer_of self.old)) (W.contents (writer_of self.new))) }
+
+        ensures counted { write_faults self.old ≤ write_faults self.new }
+        ensures faults { write_faults self.new
+            ≡ (if is_err result then raised (write_faults self.old) else write_faults self.old) }
+        ensures no_memory { OnErr result (IsErrOf result SinkFault.Failed) }
+    {
+        match self.writer.write(bytes) {
+            Ok(n) if 0 < n => Ok(n),
+            _ => {
+                self.faults = self.faults.saturating_add(1);
+                Err(SinkFault::Failed)
+            }
+        }
+    }
+}
