@@ -1,5 +1,5 @@
 -- What the sources and sinks in memory are: their bytes, and which of their calls fail.
-use Rattle.std.specs.Prelude.{◌≡◌, ◌==◌, ℕ, Bool, List, ◌++◌, if◌then◌else◌}
+use Rattle.std.specs.Prelude.{◌==◌, ℕ, Bool, List, if◌then◌else◌}
 use Rattle.std.specs.List.{list_any}
 use Rattle.tele_io.specs.Bytes.{raised}
 

@@ -18,3 +18,108 @@ pub use sinks::{Sink, SinkFault};
 pub use sources::{Failed, Source};
 pub use streams::{ReadSource, WriteSink};
 pub use whole::write_whole;
+
+#[cfg(test)]
+mod tests {
+    use super::*;
+    use std::fs::File;
+    use std::io::Cursor;
+    use std::test::Fail;
+
+    #[test]
+    fn a_quiet_source_gives_its_bytes_and_then_none(rt: HostRuntime) -> Result<(), Fail> {
+        let mut source = QuietSource::new(b"abcde".to_vec(rt.alloc())?);
+        let mut buf = [0u8; 3];
+        // how many bytes, the buffer behind the read
+        let reads = [(3, b"abc"), (2, b"dec"), (0, b"dec")];
+        for (count, bytes) in reads {
+            assert_eq!(rt; source.read(&mut buf), Ok(count), "at {bytes:?}");
+            assert_eq!(rt; &buf, bytes);
+        }
+        Ok(())
+    }
+
+    #[test]
+    fn a_quiet_sink_keeps_what_is_written(rt: HostRuntime) -> Result<(), Fail> {
+        let mut sink = QuietSink::new(rt.alloc());
+        for piece in [b"ab", b"cd"] {
+            assert_eq!(rt; write_whole(&mut sink, piece), Ok(()));
+        }
+        assert_eq!(rt; write_whole(&mut sink, b""), Ok(()));
+        assert_eq!(rt; sink.bytes(), b"abcd".as_slice());
+        Ok(())
+    }
+
+    #[test]
+    fn the_reads_with_the_named_numbers_fail(rt: HostRuntime) -> Result<(), Fail> {
+        let fails = [0, 2].to_vec(rt.alloc())?;
+        let mut source = MemorySource::new(b"abc".to_vec(rt.alloc())?, 2, fails);
+        let mut buf = [b'-'; 4];
+        // the answer, the buffer behind the read
+        let reads = [
+            (Err(Failed), b"----"),
+            (Ok(2), b"ab--"),
+            (Err(Failed), b"ab--"),
+            (Ok(1), b"cb--"),
+            (Ok(0), b"cb--"),
+        ];
+        for (answer, bytes) in reads {
+            assert_eq!(rt; source.read(&mut buf), answer, "at {bytes:?}");
+            assert_eq!(rt; &buf, bytes);
+        }
+        Ok(())
+    }
+
+    #[test]
+    fn the_writes_with_the_named_numbers_fail(rt: HostRuntime) -> Result<(), Fail> {
+        let mut sink = MemorySink::new(rt.alloc(), [1].to_vec(rt.alloc())?);
+        // the piece, the answer, what the sink holds then
+        let writes = [
+            (b"ab", Ok(()), b"ab".as_slice()),
+            (b"cd", Err(SinkFault::Failed), b"ab".as_slice()),
+            (b"ef", Ok(()), b"abef".as_slice()),
+        ];
+        for (piece, answer, bytes) in writes {
+            assert_eq!(rt; write_whole(&mut sink, piece), answer, "at {piece:?}");
+            assert_eq!(rt; sink.bytes(), bytes);
+        }
+        Ok(())
+    }
+
+    #[test]
+    fn a_reader_is_read_to_its_end(rt: HostRuntime) -> Result<(), Fail> {
+        let mut source = ReadSource::new(Cursor::new(b"abc".to_vec(rt.alloc())?));
+        let mut buf = [0u8; 2];
+        for (count, bytes) in [(2, b"ab"), (1, b"cb"), (0, b"cb")] {
+            assert_eq!(rt; source.read(&mut buf), Ok(count), "at {bytes:?}");
+            assert_eq!(rt; &buf, bytes);
+        }
+        Ok(())
+    }
+
+    #[test]
+    fn a_writer_gets_what_is_written(rt: HostRuntime) -> Result<(), Fail> {
+        let mut out = Vec::new(rt.alloc());
+        assert_eq!(rt; write_whole(&mut WriteSink::new(&mut out), b"abc"), Ok(()));
+        assert_eq!(rt; out.as_slice(), b"abc".as_slice());
+        Ok(())
+    }
+
+    #[test]
+    fn a_writer_without_room_fails_behind_what_fits(rt: HostRuntime) -> Result<(), Fail> {
+        let mut room = [b'-'; 3];
+        let written = write_whole(&mut WriteSink::new(room.as_mut_slice()), b"abcde");
+        assert_eq!(rt; written, Err(SinkFault::Failed));
+        assert_eq!(rt; &room, b"abc");
+        Ok(())
+    }
+
+    #[test]
+    fn a_directory_can_neither_be_read_nor_written(rt: HostRuntime) -> Result<(), Fail> {
+        let mut source = ReadSource::new(File::open(&rt, ".")?);
+        assert_eq!(rt; source.read(&mut [0u8; 8]), Err(Failed));
+        let mut sink = WriteSink::new(File::open(&rt, ".")?);
+        assert_eq!(rt; sink.write(b"abc"), Err(SinkFault::Failed));
+        Ok(())
+    }
+}

@@ -1,5 +1,5 @@
 //! A source over a reader of std, and a sink over a writer of std.
-ghost use Rattle.std.specs.Prelude.{◌≡◌, ℕ, ◌<◌, ◌≤◌, List, length, take, Option, is_err, if◌then◌else◌, IfOk, OnErr, IsErrOf};
+ghost use Rattle.std.specs.Prelude.{◌≡◌, ℕ, ◌<◌, ◌≤◌, List, length, take, Option, is_err, if◌then◌else◌, IfOk, OnErr, IfErr};
 ghost use Rattle.tele_io.specs.Bytes.{HaveRisen, Gives, Appends, Keeps, raised};
 ghost use Rattle.tele_io.specs.Streams.{reader_of, read_faults, writer_of, write_faults};
 
@@ -98,7 +98,7 @@ impl<W: Write> Sink for WriteSink<W> {
         ensures counted { write_faults self.old ≤ write_faults self.new }
         ensures faults { write_faults self.new
             ≡ (if is_err result then raised (write_faults self.old) else write_faults self.old) }
-        ensures no_memory { OnErr result (IsErrOf result SinkFault.Failed) }
+        ensures only_failed { IfErr result (λ fault. fault ≡ SinkFault.Failed) }
     {
         match self.writer.write(bytes) {
             Ok(n) if 0 < n => Ok(n),
