@@ -8,6 +8,7 @@ use super::sinks::{Sink, SinkFault};
 ///
 /// At the first refusal it stops and hands the refusal on. The bytes that were taken before are a
 /// prefix of the piece, and stay taken.
+#[tactic(auto, using(crate::proofs::AppendsLemmas::appends))]
 pub fn write_whole<O: Sink>(out: &mut O, bytes: &[u8]) -> Result<(), SinkFault>
     ensures whole { OnOk result (Appends (O.written out.old) (O.written out.new) bytes.now) }
 
