@@ -9,7 +9,8 @@ use Rattle.tele_lines.specs.declared.items.Item.{Item}
 use Rattle.tele_lines.specs.declared.items.Cause.{Cause}
 use Rattle.tele_lines.specs.declared.items.Cause.TheVariants.{Letter}
 use Rattle.tele_lines.specs.Lines.{longest, lines_of, reading}
-use Rattle.tele_lines.specs.Buffers.{is_newline, IsUnbroken, BreaksAt, IsOpenEnded, EndsAt, Fills, unread_of, StillUnread}
+use Rattle.tele_io.specs.Bytes.{Keeps}
+use Rattle.tele_lines.specs.Buffers.{is_newline, IsUnbroken, BreaksAt, IsOpenEnded, EndsAt, Fills, unread_of}
 use Rattle.tele_lines.specs.Progress.{TakesLine, MeetsBad}
 use Rattle.tele_lines.proofs.FirstLemmas.{first_place}
 use Rattle.tele_lines.proofs.CutLemmas.{cut_first, cut_last, cut_long}
@@ -24,15 +25,15 @@ ends_at buffer ended None h why = record {
 }
 
 -- bytes that go from the source to the buffer are unread still
-pub unread-fills : (before : Option (List ℕ)) (old new : List ℕ) (n : ℕ) (left now : Option (List ℕ)) → StillUnread before (unread_of old false left)
-    → Fills left now old new n → StillUnread before (unread_of new false now)
+pub unread-fills : (before : Option (List ℕ)) (old new : List ℕ) (n : ℕ) (left now : Option (List ℕ)) → Keeps before (unread_of old false left)
+    → Fills left now old new n → Keeps before (unread_of new false now)
 unread-fills None old new n left now h f = tt
 unread-fills (Some bytes) old new n (Some given) now h f = rw f.bytes.others (ap Some f.bytes.same ∙ h)
 unread-fills (Some bytes) old new n None now h f = absurd (cc)
 
 -- and at the end of the input there are no others
-pub unread-ends : (before : Option (List ℕ)) (old new : List ℕ) (n : ℕ) (left now : Option (List ℕ)) → n ≡ 0 → StillUnread before (unread_of old false left)
-    → Fills left now old new n → StillUnread before (unread_of new true now)
+pub unread-ends : (before : Option (List ℕ)) (old new : List ℕ) (n : ℕ) (left now : Option (List ℕ)) → n ≡ 0 → Keeps before (unread_of old false left)
+    → Fills left now old new n → Keeps before (unread_of new true now)
 unread-ends None old new n left now none h f = tt
 unread-ends (Some bytes) old new n (Some given) now none h f =
     let no_more : given ≡ [] = f.bytes.at_end none in

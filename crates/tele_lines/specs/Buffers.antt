@@ -41,7 +41,3 @@ EndsAt bytes ended None = IsOpenEnded bytes ended
 -- what is still to be read: the bytes in the buffer, and then those that the source has left, where it tells them; behind the end it has none
 abbrev pub unread_of : List ℕ → Bool → Option (List ℕ) → Option (List ℕ)
 unread_of buffer ended left = option_map (λ bytes. buffer ++ bytes) (if ended then Some [] else left)
-
--- what was known to be still to be read is so still
-abbrev pub StillUnread : Option (List ℕ) → Option (List ℕ) → Type 0
-StillUnread before now = IfSome before (λ bytes. now ≡ Some bytes)

@@ -13,3 +13,6 @@ mod texts;
 pub use items::{Cause, Item, Line, LineFault};
 pub use printing::{print_answer, print_bad};
 pub use reader::Lines;
+
+#[cfg(test)]
+mod tests;

@@ -19,7 +19,7 @@ fn answer_line(line: u64, reply: Reply) -> Text
         Some(value) => text.push_number(value),
         None => text.push(b"-"),
     }
-    text.push(b"\n");
+    text.end_line();
     text
 }
 
@@ -41,7 +41,7 @@ fn bad_line(line: u64, cause: Cause) -> Text
     text.push_number(line);
     text.push(b" ");
     text.push(cause_word(cause));
-    text.push(b"\n");
+    text.end_line();
     text
 }
 

@@ -1,7 +1,7 @@
 //! Lines, one after another, from a source that gives its bytes in any pieces.
 ghost use Rattle.std.specs.Prelude.{◌≡◌, ◌≤◌, ◌^◌, IfOk, IsOk, OnErr, true};
-ghost use Rattle.tele_io.specs.Bytes.{HaveRisen};
-ghost use Rattle.tele_lines.specs.Buffers.{EndsAt, unread_of, StillUnread};
+ghost use Rattle.tele_io.specs.Bytes.{HaveRisen, Keeps};
+ghost use Rattle.tele_lines.specs.Buffers.{EndsAt, unread_of};
 
 use crate::buffers::Buffer;
 use crate::items::{Cause, Line, LineFault};
@@ -23,10 +23,10 @@ pub struct Lines {
 
 impl Lines {
     ghost use Rattle.std.specs.Prelude.{◌≡◌, ◌≢◌, ◌+◌, ◌<◌, ◌≤◌, ◌^◌, [], Some, None, IfOk, IfSome, IfNone, IsSome, OnOk, OnErr, Ok, Err, length, take, drop};
-    ghost use Rattle.tele_io.specs.Bytes.{HaveRisen};
+    ghost use Rattle.tele_io.specs.Bytes.{HaveRisen, Keeps};
     ghost use Rattle.tele_lines.specs.Lines.{reading};
     ghost use Rattle.tele_lines.specs.Progress.{limit_of, count_of, stop_of, unread, IsDone, TakesLine, MeetsBad};
-    ghost use Rattle.tele_lines.specs.Buffers.{EndsAt, StillUnread};
+    ghost use Rattle.tele_lines.specs.Buffers.{EndsAt};
 
     /// A reader that has read nothing, and allows so many lines.
     pub fn new(limit: u64) -> Self
@@ -77,9 +77,10 @@ impl Lines {
 
         ensures failed { result ≡ Err LineFault.Read → HaveRisen (S.faults source.old) (S.faults source.new) }
         ensures kept { OnErr result (
-            StillUnread (unread self.old (S.left source.old)) (unread self.new (S.left source.new))) }
+            Keeps (unread self.old (S.left source.old)) (unread self.new (S.left source.new))) }
         ensures still { OnErr result (count_of self.new ≡ count_of self.old) }
-        ensures going { result ≡ Err LineFault.Read → stop_of self.new ≡ None }
+        ensures going { OnOk result (stop_of self.new ≡ None) }
+        ensures waiting { result ≡ Err LineFault.Read → stop_of self.new ≡ None }
 
         ensures limit { limit_of self.new ≡ limit_of self.old }
         ensures counted { S.faults source.old ≤ S.faults source.new }
@@ -118,6 +119,7 @@ impl Lines {
 
         ensures kept { OnErr result (self.new.buffer ≡ self.old.buffer) }
         ensures still { OnErr result (self.new.count ≡ self.old.count) }
+        ensures going { OnOk result (self.new.stop ≡ self.old.stop) }
         ensures ended { self.new.ended ≡ self.old.ended }
         ensures limit { self.new.limit ≡ self.old.limit }
     {
@@ -154,6 +156,7 @@ impl Lines {
 
         ensures kept { OnErr result (self.new.buffer ≡ self.old.buffer) }
         ensures still { OnErr result (self.new.count ≡ self.old.count) }
+        ensures going { OnOk result (self.new.stop ≡ self.old.stop) }
         ensures ended { self.new.ended ≡ self.old.ended }
         ensures limit { self.new.limit ≡ self.old.limit }
     {
@@ -182,7 +185,7 @@ fn gather<S: Source>(
     source: &mut S,
 ) -> Result<Option<usize>, Failed>
     ensures ends { IfOk result (λ end. EndsAt buffer.new ended.new end) }
-    ensures kept { StillUnread (unread_of buffer.old ended.old (S.left source.old))
+    ensures kept { Keeps (unread_of buffer.old ended.old (S.left source.old))
         (unread_of buffer.new ended.new (S.left source.new)) }
 
     ensures failed { OnErr result (HaveRisen (S.faults source.old) (S.faults source.new)) }

@@ -1,5 +1,5 @@
 //! One printed line, which is put together on the stack and goes out in one piece.
-ghost use Rattle.std.specs.Prelude.{◌≡◌, ◌+◌, ◌≤◌, [], ◌++◌, length, decimal};
+ghost use Rattle.std.specs.Prelude.{◌≡◌, ◌+◌, ◌<◌, ◌≤◌, [], ◌++◌, length, codes, decimal};
 
 use arrayvec::ArrayVec;
 use itoa::Buffer;
@@ -48,6 +48,14 @@ impl Text {
     {
         let mut buffer = Buffer::new();
         self.push(buffer.format(number).as_bytes());
+    }
+
+    /// Ends the line.
+    pub(crate) fn end_line(&mut self)
+        requires room { length self.old < ROOM }
+        ensures added { self.new ≡ self.old ++ codes "\n" }
+    {
+        self.push(b"\n");
     }
 
     /// The bytes.

@@ -1,0 +1,26 @@
+use Rattle.std.proofs.Common.{◌≡◌, ◌-◌, ◌≤◌}
+use Rattle.std.specs.Prelude.{IfSome, None}
+use Rattle.tele_lines.specs.Lines.{line_limit}
+use Rattle.tele_lines.specs.Answer.{answer}
+use Rattle.tele_lines.specs.Progress.{limit_of, count_of, stop_of, unread}
+use Rattle.tele_run.specs.Due.{GoesOn}
+use Rattle.tele_run.proofs.runs.run.Given as goal
+
+-- what was printed and what is still due are the answer
+abbrev pub invariant-loop-status : goal.invariant-loop-status
+invariant-loop-status g l =
+    let left = g.S.Source.left in
+    let written = g.O.Sink.written in
+    record {
+      due : IfSome (left l.fn.source) (λ bytes.
+          GoesOn (answer bytes) (written l.fn.out) (written l.out) (unread l.lines (left l.source)) l.table (count_of l.lines));
+      limit : limit_of l.lines ≡ line_limit;
+      allowed : count_of l.lines ≤ line_limit;
+      going : stop_of l.lines ≡ None;
+      source_counted : g.S.Source.faults l.fn.source ≤ g.S.Source.faults l.source;
+      sink_counted : g.O.Sink.faults l.fn.out ≤ g.O.Sink.faults l.out;
+    }
+
+-- each turn reads a line, and so many are allowed
+abbrev pub decreases-loop-status : goal.decreases-loop-status
+decreases-loop-status g l = line_limit - count_of l.lines

@@ -1,0 +1,15 @@
+//! The program as one call, from bytes to bytes.
+//!
+//! Read the contract of `run` in `runs.rt`. Stands on `ist_core`, `tele_io` and `tele_lines`.
+#![tactic(auto)]
+
+mod outcomes;
+mod runs;
+mod steps;
+mod tables;
+
+pub use outcomes::{ANSWERED, BAD_LINE, NO_MEMORY, Outcome, READ_FAILED, WRITE_FAILED};
+pub use runs::run;
+
+#[cfg(test)]
+mod tests;
