@@ -1,0 +1,4 @@
+pub mod RisingLemmas
+pub mod ValueLemmas
+pub mod PlaceLemmas
+pub mod ListingLemmas

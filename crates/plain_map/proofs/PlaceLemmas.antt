@@ -1,0 +1,150 @@
+-- What a search finds in a list of pairs that rise, and what an edit at that place does to the list and its map.
+use Rattle.std.proofs.Common.{◌≡◌, ℕ, ◌+◌, ◌-◌, ◌<◌, ◌≤◌, ◌≢◌, ◌==◌, List, length, get_or, set, if◌then◌else◌, Some, None, Result, Ok, Err, IfOk, IfErr, refl, sym, ap, subst, ◌∙◌, arith}
+use Rattle.std.specs.FinMap as fin
+use Rattle.std.specs.List.{insert, remove}
+use Rattle.std.specs.List.Sorted.{IsSearchInRange, IsBinarySearchResult, IsNonDecreasingBy}
+use Rattle.std.specs.Ordering.{nat_cmp, ordering_index}
+use Rattle.std.specs.Cmp.{unsigned_tied}
+use Rattle.std.proofs.lemmas.Cmp.{ranked, nat_cmp_total}
+use Rattle.std.proofs.lemmas.List.Sorted.{IsNonDecreasingBy-from_default}
+use Rattle.std.proofs.lemmas.List.Edits.{length-insert, get_or-insert_below, get_or-insert_at, get_or-insert_above, length-remove, get_or-remove_below, get_or-remove_above}
+use Rattle.std.proofs.lemmas.Bool.Decides.{nat_tests}
+use Rattle.std.proofs.lemmas.Grind.{common_steps}
+use Rattle.ist_core.specs.Map.{map_of}
+use Rattle.ist_core.specs.declared.pairs.Pair.{Pair}
+use Rattle.plain_map.specs.Rising.{IsRising}
+use Rattle.plain_map.specs.Place.{key_at, IsAt, IsGapFor}
+use Rattle.plain_map.proofs.RisingLemmas.{key_at-rises, rises_by_steps}
+use Rattle.plain_map.proofs.ValueLemmas.{NoKeyBefore, no_pair, value_in, get-map_of, value_in-absent, value_in-at, value_in-set, value_in-insert, value_in-remove}
+
+-- lists that answer alike but at one key stand for maps that differ by a put
+set_from_values : (old new : List Pair) (key value : ℕ)
+    → ((q : ℕ) → value_in new q ≡ (if q == key then Some value else value_in old q))
+    → map_of new ≡ fin.insert (map_of old) key value
+set_from_values old new key value values =
+    fin.same_map nat_cmp_total fin.nat_cmp-IsAntisymmetric _ _ (λ q.
+    get-map_of new q ∙ values q ∙ sym (fin.get-insert nat_cmp_total (map_of old) key value q ∙ rw (unsigned_tied, get-map_of) refl))
+
+-- or by a remove
+gone_from_values : (old new : List Pair) (key : ℕ)
+    → ((q : ℕ) → value_in new q ≡ (if q == key then None else value_in old q))
+    → map_of new ≡ fin.remove (map_of old) key
+gone_from_values old new key values =
+    fin.same_map nat_cmp_total fin.nat_cmp-IsAntisymmetric _ _ (λ q.
+    get-map_of new q ∙ values q ∙ sym (fin.get-remove nat_cmp_total (map_of old) key q ∙ rw (unsigned_tied, get-map_of) refl))
+
+module _ (pairs : List Pair) (rising : IsRising pairs) (key : ℕ) where
+  -- the comparisons with the key rise along the list, as a search by halving asks
+  comparisons_rise : IsNonDecreasingBy (λ p. ordering_index (nat_cmp p.key key)) pairs
+  comparisons_rise = IsNonDecreasingBy-from_default (λ p. ordering_index (nat_cmp p.key key)) pairs no_pair (λ i j le within.
+      let keys_rise : key_at pairs i ≤ key_at pairs j =
+      grind (arith, key_at-rises pairs rising i j, λ (same : i ≡ j). ap (key_at pairs) same) in
+      grind (arith, nat_tests))
+
+  -- the search ends at the key, or at the gap for it
+  pub searched : (r : Result ℕ ℕ) → IsSearchInRange r (length pairs)
+      → IsBinarySearchResult (λ p. nat_cmp p.key key) pairs r
+      → record { found : IfOk r (IsAt pairs key); absent : IfErr r (IsGapFor pairs key) }
+  searched (Ok at) within equal = record {
+    found = record { within = within; has_key = ranked _ key _ (sym (equal no_pair)) };
+    absent = tt;
+  }
+  searched (Err at) within parted = record {
+    found = tt;
+    absent = record {
+      within = within;
+      below = λ j lt. ranked _ key _ (sym ((parted comparisons_rise).0 j no_pair (omega arith) lt));
+      above = λ j le lt. ranked _ key _ (sym ((parted comparisons_rise).1 j no_pair le lt));
+    };
+  }
+
+module _ (pairs : List Pair) (rising : IsRising pairs) (key at : ℕ) (here : IsAt pairs key at) where
+  -- the keys before the place are below, so none is the key
+  none_before : NoKeyBefore pairs key at
+  none_before j before same = omega (arith, key_at-rises pairs rising j at before here.within, here.has_key)
+
+  -- and those behind it are above
+  none_behind : (j : ℕ) → at < j → j < length pairs → key_at pairs j ≢ key
+  none_behind j behind within same = omega (arith, key_at-rises pairs rising at j behind within, here.has_key)
+
+  -- the key has the value that stands there
+  pub get_at : fin.get (map_of pairs) key ≡ Some (get_or pairs at no_pair).value
+  get_at = get-map_of pairs key ∙ value_in-at key pairs at here none_before
+
+  -- writing over its pair sets that key alone
+  pub map_of-set : (value : ℕ)
+      → map_of (set pairs at (record { key = key; value = value })) ≡ fin.insert (map_of pairs) key value
+  map_of-set value = set_from_values _ _ key value (value_in-set key pairs at value here none_before)
+
+  -- and keeps the order, since every key stays
+  pub rising_set : (value : ℕ) → IsRising (set pairs at (record { key = key; value = value }))
+  rising_set value = rises_by_steps _ (λ i within.
+      grind (arith, common_steps, key_at-rises pairs rising i (i + 1), here.within, here.has_key))
+
+  -- without its pair the key is gone
+  pub map_of-remove : map_of (remove pairs at) ≡ fin.remove (map_of pairs) key
+  map_of-remove = gone_from_values _ _ key (value_in-remove key pairs at here none_before none_behind)
+
+  -- and the others keep their order
+  pub rising_remove : IsRising (remove pairs at)
+  rising_remove = rises_by_steps _ (λ i within.
+      let fewer = length-remove pairs at here.within in
+      let left : (i : ℕ) → i < at → key_at (remove pairs at) i ≡ key_at pairs i =
+      λ i before. ap (λ (p : Pair). p.key) (get_or-remove_below pairs at no_pair i before here.within) in
+      let right : (i : ℕ) → at ≤ i → key_at (remove pairs at) i ≡ key_at pairs (i + 1) =
+      λ i behind. ap (λ (p : Pair). p.key) (get_or-remove_above pairs at no_pair i behind here.within) in
+      grind (
+        arith,
+        left i,
+        left (i + 1),
+        right i,
+        right (i + 1),
+        key_at-rises pairs rising i (i + 1),
+        key_at-rises pairs rising i (i + 1 + 1),
+        key_at-rises pairs rising (i + 1) (i + 1 + 1),
+      ))
+
+module _ (pairs : List Pair) (key at : ℕ) (gap : IsGapFor pairs key at) where
+  -- a key that has a gap has no value
+  pub get_in_gap : fin.get (map_of pairs) key ≡ None
+  get_in_gap = get-map_of pairs key
+      ∙ value_in-absent pairs key (λ j within same. grind (arith, gap.below j, gap.above j))
+
+  -- so taking it away changes nothing
+  pub map_of-absent : map_of pairs ≡ fin.remove (map_of pairs) key
+  map_of-absent =
+      let none = value_in-absent pairs key (λ j within same. grind (arith, gap.below j, gap.above j)) in
+      gone_from_values pairs pairs key (λ q. grind (arith, nat_tests, λ (same : q ≡ key). ap (value_in pairs) same))
+
+  -- a new pair in the gap sets that key alone
+  pub map_of-insert : (value : ℕ)
+      → map_of (insert pairs at (record { key = key; value = value })) ≡ fin.insert (map_of pairs) key value
+  map_of-insert value = set_from_values _ _ key value
+      (value_in-insert key pairs at value (λ j before same. omega (arith, gap.below j before)))
+
+  -- and keeps the order
+  pub rising_insert : (value : ℕ) → IsRising pairs → IsRising (insert pairs at (record { key = key; value = value }))
+  rising_insert value rising = rises_by_steps _ (λ i within.
+      let p : Pair = record { key = key; value = value } in
+      let more = length-insert pairs at p gap.within in
+      let left : (i : ℕ) → i < at → key_at (insert pairs at p) i ≡ key_at pairs i =
+      λ i before. ap (λ (p : Pair). p.key) (get_or-insert_below pairs at p no_pair i before gap.within) in
+      let middle : (i : ℕ) → i ≡ at → key_at (insert pairs at p) i ≡ key =
+      λ i same. rw same (ap (λ (p : Pair). p.key) (get_or-insert_at pairs at p no_pair gap.within)) in
+      let right : (i : ℕ) → at ≤ i → key_at (insert pairs at p) (i + 1) ≡ key_at pairs i =
+      λ i behind. ap (λ (p : Pair). p.key) (get_or-insert_above pairs at p no_pair i behind gap.within) in
+      let before_right : at < i → key_at (insert pairs at p) i ≡ key_at pairs (i - 1) =
+      λ behind. subst (λ q. key_at (insert pairs at p) q ≡ key_at pairs (i - 1)) {x = i - 1 + 1} (omega arith) (right (i - 1) (omega arith)) in
+      grind (
+        arith,
+        left i,
+        left (i + 1),
+        middle i,
+        middle (i + 1),
+        right i,
+        before_right,
+        key_at-rises pairs rising i (i + 1),
+        key_at-rises pairs rising (i - 1) i,
+        gap.below i,
+        gap.above i,
+      ))
