@@ -2,3 +2,4 @@ pub mod RisingLemmas
 pub mod ValueLemmas
 pub mod PlaceLemmas
 pub mod ListingLemmas
+pub mod EntriesLemmas

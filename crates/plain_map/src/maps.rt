@@ -1,8 +1,8 @@
 //! The map of one thread: a vector of pairs in the order of their keys.
-ghost use Rattle.std.specs.Prelude.{◌≡◌, [], IfOk, IfErr, OnErr};
+ghost use Rattle.std.specs.Prelude.{◌≡◌, [], IfOk, IfErr, OnOk, OnErr};
 ghost use Rattle.std.specs.FinMap as fin;
 ghost use Rattle.ist_core.specs.Map.{map_of, step};
-ghost use Rattle.plain_map.specs.Rising.{IsRising, pairs_between, IsPut};
+ghost use Rattle.plain_map.specs.Rising.{IsRising, pairs_between, pairs_of, listed, IsPut};
 ghost use Rattle.plain_map.specs.Place.{IsAt, IsGapFor};
 
 use ist_core::{Command, Pair, Reply};
@@ -44,7 +44,8 @@ impl Plain {
     ///
     /// Only a put can want memory. The map then stays as it was.
     pub fn apply(&mut self, command: Command) -> Result<Reply, AllocError>
-        ensures step { IfOk result (λ reply. (map_of self.new, reply) ≡ step (map_of self.old) command) }
+        ensures step { IfOk result
+            (λ reply. (map_of self.new, reply) ≡ step (map_of self.old) command) }
         ensures refused { OnErr result (self.new ≡ self.old) }
         ensures only_put { OnErr result (IsPut command) }
     {
@@ -55,10 +56,11 @@ impl Plain {
         }
     }
 
-    /// The pairs with a key from `first` to `last`, both included, rising by key. Where `first` is above `last`
-    /// there are none.
+    /// The pairs with a key from `first` to `last`, both included, rising by key. There are none
+    /// where `first` is above `last`.
     pub fn list(&self, first: u64, last: u64) -> &[Pair]
-        ensures { result.now ≡ pairs_between first last self.now }
+        ensures between { result.now ≡ pairs_between first last self.now }
+        ensures listed { result.now ≡ listed first last (map_of self.now) }
     {
         let from = self.pairs.partition_point(|pair| pair.key < first);
         let rest = &self.pairs[from..];
@@ -69,6 +71,7 @@ impl Plain {
     /// All pairs, rising by key.
     pub fn pairs(&self) -> &[Pair]
         ensures all { result.now ≡ self.now }
+        ensures of_map { self.now ≡ pairs_of (map_of self.now) }
         ensures rising { IsRising self.now }
     {
         self.pairs.as_slice()
@@ -87,7 +90,7 @@ impl Plain {
     // Sets the key, and says what it had.
     fn put(&mut self, key: u64, value: u64) -> Result<Reply, AllocError>
         ensures reply { IfOk result (λ reply. reply ≡ fin.get (map_of self.old) key) }
-        ensures after { IfOk result (λ _. map_of self.new ≡ fin.insert (map_of self.old) key value) }
+        ensures after { OnOk result (map_of self.new ≡ fin.insert (map_of self.old) key value) }
         ensures refused { OnErr result (self.new ≡ self.old) }
     {
         match self.find(key) {

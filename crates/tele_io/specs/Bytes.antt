@@ -1,4 +1,5 @@
--- What one read gives and one write takes. A stream that tells its bytes has `Some` of them, and any other has `None`.
+-- What one read gives and one write takes.
+-- A stream that tells its bytes has `Some` of them, and any other has `None`.
 use Rattle.std.specs.Prelude.{◌≡◌, ℕ, ◌+◌, ◌-◌, ◌^◌, ◌<◌, ◌≤◌, ◌⊎◌, min, List, [], ◌++◌, length, take, drop, Option, Some, None}
 
 -- where a count stands still
@@ -13,8 +14,9 @@ raised count = min (count + 1) count_limit
 abbrev pub HaveRisen : ℕ → ℕ → Type 0
 HaveRisen before now = (before < now) ⊎ (now ≡ count_limit)
 
--- of the bytes that were left, the first n stand at the front of the buffer, and the others are left; none is the end
-pub record GivesFirst (bytes : List ℕ) (now : Option (List ℕ)) (n : ℕ) (buffer : List ℕ) : Type 0 where
+-- the first n of the bytes that were left stand in the buffer, the others are left; no byte is the end
+pub record GivesFirst (bytes : List ℕ) (now : Option (List ℕ)) (n : ℕ) (buffer : List ℕ)
+    : Type 0 where
   pub within : n ≤ length bytes
   pub given : take n buffer ≡ take n bytes
   pub others : now ≡ Some (drop n bytes)
@@ -30,7 +32,7 @@ abbrev pub Appends : Option (List ℕ) → Option (List ℕ) → List ℕ → Ty
 Appends (Some before) now bytes = now ≡ Some (before ++ bytes)
 Appends None now bytes = Unit {0}
 
--- some first bytes of these were taken, behind those that the sink tells
+-- a write took some first bytes of these, behind those that the sink tells
 abbrev pub AppendsPart : Option (List ℕ) → Option (List ℕ) → List ℕ → Type 0
 AppendsPart before now bytes = (n : ℕ) × (n ≤ length bytes) × Appends before now (take n bytes)
 

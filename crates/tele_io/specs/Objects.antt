@@ -3,7 +3,7 @@ use Rattle.std.specs.Prelude.{◌==◌, ℕ, Bool, List, if◌then◌else◌}
 use Rattle.std.specs.List.{list_any}
 use Rattle.tele_io.specs.Bytes.{raised}
 
--- which calls of an object fail: calls are numbered from 0, and `call` is the number of the next one
+-- which calls of an object fail: they are numbered from 0, and `call` is the next one's number
 pub record Schedule : Type 0 where
   pub call : ℕ
   pub fails : List ℕ

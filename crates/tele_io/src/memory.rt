@@ -1,6 +1,6 @@
 //! A source and a sink in memory that fail at the calls that they are told.
-ghost use Rattle.std.specs.Prelude.{◌≡◌, ◌≢◌, ℕ, ◌<◌, ◌≤◌, ◌↔◌, min, List, [], ◌++◌, length, take, drop, Some, IsTrue, IsErr, IfOk, OnOk, OnErr, IsErrOf};
-ghost use Rattle.tele_io.specs.Bytes.{HaveRisen, Gives, Appends, Keeps, raised};
+ghost use Rattle.std.specs.Prelude.{◌≡◌, ◌<◌, ◌≤◌, ◌↔◌, min, [], ◌++◌, length, take, drop, Some, IsTrue, IsErr, IfOk, OnOk, OnErr, IsErrOf};
+ghost use Rattle.tele_io.specs.Bytes.{HaveRisen};
 ghost use Rattle.tele_io.specs.Objects.{Supply, Store, schedule_of, fails_next, after_call};
 
 use super::calls::Calls;
@@ -62,7 +62,8 @@ impl Source for MemorySource {
         ensures bytes { IfOk result (λ n. buf.new ≡ take n self.old.left ++ drop n buf.old) }
         ensures others { IfOk result (λ n. self.new.left ≡ drop n self.old.left) }
 
-        ensures failed { OnErr result (HaveRisen self.old.schedule.faults self.new.schedule.faults) }
+        ensures failed { OnErr result
+            (HaveRisen self.old.schedule.faults self.new.schedule.faults) }
         ensures kept { OnErr result (self.new.left ≡ self.old.left) }
         ensures counted { self.old.schedule.faults ≤ self.new.schedule.faults }
     {

@@ -1,6 +1,5 @@
 //! A source and a sink in memory that have no faults.
-ghost use Rattle.std.specs.Prelude.{◌≡◌, ℕ, ◌<◌, ◌≤◌, min, List, [], ◌++◌, length, take, drop, Ok, Some, vec_len, IsOk, IfOk, OnOk, OnErr, IfErr, IsErrOf};
-ghost use Rattle.tele_io.specs.Bytes.{HaveRisen, Gives, Appends, Keeps};
+ghost use Rattle.std.specs.Prelude.{◌≡◌, ℕ, ◌<◌, ◌≤◌, min, List, [], ◌++◌, length, take, drop, Ok, Some, vec_len, IfOk, OnOk, OnErr, IfErr};
 
 use super::sinks::{Sink, SinkFault};
 use super::sources::{Failed, Source};

@@ -20,14 +20,17 @@ pub trait Sink {
 
     /// Takes at least one byte from the front of a piece that isn't empty, and says how many.
     ///
-    /// `Failed` comes only where a fault was counted in this call. After a refusal nothing was taken.
+    /// `Failed` comes only where a fault was counted in this call. After a refusal nothing was
+    /// taken.
     fn write(&mut self, bytes: &[u8]) -> Result<usize, SinkFault>
         requires { 0 < length bytes.now }
 
         ensures some { IfOk result (λ n. (0 < n) × (n ≤ length bytes.now)) }
-        ensures taken { IfOk result (λ n. Appends (written self.old) (written self.new) (take n bytes.now)) }
+        ensures taken { IfOk result
+            (λ n. Appends (written self.old) (written self.new) (take n bytes.now)) }
 
-        ensures failed { IsErrOf result SinkFault.Failed → HaveRisen (faults self.old) (faults self.new) }
+        ensures failed { IsErrOf result SinkFault.Failed
+            → HaveRisen (faults self.old) (faults self.new) }
         ensures kept { OnErr result (Keeps (written self.old) (written self.new)) }
 
         ensures counted { faults self.old ≤ faults self.new };

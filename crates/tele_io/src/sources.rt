@@ -13,7 +13,8 @@ pub trait Source {
     // how often a read has failed
     ghost faults: { Self → ℕ };
 
-    /// Reads some bytes into the front of `buf`, and says how many. `Ok(0)` is the end of the input.
+    /// Reads some bytes into the front of `buf`, and says how many. `Ok(0)` is the end of the
+    /// input.
     ///
     /// `Failed` comes only where a fault was counted in this call; no byte is lost then.
     fn read(&mut self, buf: &mut [u8]) -> Result<usize, Failed>

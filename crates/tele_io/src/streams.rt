@@ -1,5 +1,5 @@
 //! A source over a reader of std, and a sink over a writer of std.
-ghost use Rattle.std.specs.Prelude.{◌≡◌, ℕ, ◌<◌, ◌≤◌, List, length, take, Option, is_err, if◌then◌else◌, IfOk, OnErr, IfErr};
+ghost use Rattle.std.specs.Prelude.{◌≡◌, ◌<◌, ◌≤◌, length, take, is_err, if◌then◌else◌, IfOk, OnErr, IfErr};
 ghost use Rattle.tele_io.specs.Bytes.{HaveRisen, Gives, Appends, Keeps, raised};
 ghost use Rattle.tele_io.specs.Streams.{reader_of, read_faults, writer_of, write_faults};
 

@@ -12,7 +12,8 @@ use super::sinks::{Sink, SinkFault};
 pub fn write_whole<O: Sink>(out: &mut O, bytes: &[u8]) -> Result<(), SinkFault>
     ensures whole { OnOk result (Appends (O.written out.old) (O.written out.new) bytes.now) }
 
-    ensures failed { IsErrOf result SinkFault.Failed → HaveRisen (O.faults out.old) (O.faults out.new) }
+    ensures failed { IsErrOf result SinkFault.Failed
+        → HaveRisen (O.faults out.old) (O.faults out.new) }
     ensures part { OnErr result (AppendsPart (O.written out.old) (O.written out.new) bytes.now) }
 
     ensures counted { O.faults out.old ≤ O.faults out.new }
