@@ -1,0 +1,2 @@
+pub mod ArithmeticLemmas
+pub mod ShapeLemmas
