@@ -1,5 +1,5 @@
 -- Roots, degrees and parts: what `square_root`, `degree`, `part_len` and `part_start` come to.
-use Rattle.std.proofs.Common.{◌≡◌, ◌∙◌, ℕ, zero, suc, ◌+◌, ◌-◌, ◌*◌, ◌/◌, ◌%◌, ◌<◌, ◌≤◌, max, min, nat_le, nat_lt, Bool, true, false, cond, ⊎_elim, refl, sym, ap, arith, map, mul-le-mul_left, add-one}
+use Rattle.std.proofs.Common.{◌≡◌, ◌∙◌, ℕ, zero, suc, ◌+◌, ◌-◌, ◌*◌, ◌/◌, ◌%◌, ◌<◌, ◌≤◌, max, min, nat_le, nat_lt, Bool, true, false, cond, ⊎_elim, ◌⊎◌, inl, inr, refl, sym, ap, arith, map, mul-le-mul_left, add-one}
 use Rattle.std.proofs.lemmas.Bool.{cases_lt}
 use Rattle.std.proofs.lemmas.Bool.Decides.{nat_tests}
 use Rattle.std.proofs.lemmas.List.FromFn.{sum_by-map-range_with_len_more}
@@ -221,3 +221,36 @@ part_len-le n j r h k l = ⊎_elim few many (cases_lt (square_root n) 2)
                 (λ (z : j < o). omega (arith, long z, quotient_root_more n s q o (omega arith) w b (omega arith)))
                 (λ (z : o ≤ j). omega (arith, short z, quotient_root n s q o (omega arith) w b))
                 (cases_lt j o)
+
+-- a part ends where the next one begins
+pub part_start-suc : (n j : ℕ) → part_start n (suc j) ≡ part_start n j + part_len n j
+unfolding part_start
+part_start-suc n j = sum_of_more (λ x. x) n j
+
+-- a part lies within the whole
+pub part_end-le : (n j : ℕ) → j < degree n → part_start n j + part_len n j ≤ n
+part_end-le n j h = within (degree n) (n / degree n) (n % degree n) (omega (arith, least_degree-le n)) h (part_start_is n (suc j) ∙ refl)
+  where
+    within : (d q r : ℕ) → d * q + r ≡ n → j < d → part_start n (suc j) ≡ suc j * q + min (suc j) r → part_start n j + part_len n j ≤ n
+    within d q r e k f = let a = mul-le-mul_left q k in omega (arith, part_start-suc n j)
+
+-- from n to n + 1 the degree stays, or n + 1 is the square of the next degree
+pub degree_next : (n : ℕ) → 2 ≤ n
+    → (degree (n + 1) ≡ degree n) ⊎ ((degree (n + 1) ≡ degree n + 1) × (n + 1 ≡ (degree n + 1) * (degree n + 1)))
+degree_next n h = at (square_root n) (square_root-le n) (square_root-lt n)
+  where
+    at : (s : ℕ) → s * s ≤ n → n < (s + 1) * (s + 1)
+        → (degree (n + 1) ≡ degree n) ⊎ ((degree (n + 1) ≡ degree n + 1) × (n + 1 ≡ (degree n + 1) * (degree n + 1)))
+    at s a b = ⊎_elim same next (cases_lt (n + 1) ((s + 1) * (s + 1)))
+      where
+        same : n + 1 < (s + 1) * (s + 1) → (degree (n + 1) ≡ degree n) ⊎ ((degree (n + 1) ≡ degree n + 1) × (n + 1 ≡ (degree n + 1) * (degree n + 1)))
+        same y = inl (degree_is (n + 1) s (omega arith) y ∙ sym (degree_is n s a b))
+
+        next : (s + 1) * (s + 1) ≤ n + 1 → (degree (n + 1) ≡ degree n) ⊎ ((degree (n + 1) ≡ degree n + 1) × (n + 1 ≡ (degree n + 1) * (degree n + 1)))
+        next y =
+            let old = degree_is n s a b in
+            let new = degree_is (n + 1) (s + 1) y (omega arith) in
+            ⊎_elim
+            (λ (z : s < 2). inl (let w : 0 < s = ⊎_elim (λ (v : s < 1). let u = square_grows (s + 1) 1 (omega arith) in absurd (omega arith)) (λ (v : 1 ≤ s). v) (cases_lt s 1) in omega arith))
+            (λ (z : 2 ≤ s). inr (omega arith, let d : degree n ≡ s = omega arith in let e : n + 1 ≡ (s + 1) * (s + 1) = omega arith in e ∙ ap (λ k. (k + 1) * (k + 1)) (sym d)))
+            (cases_lt s 2)

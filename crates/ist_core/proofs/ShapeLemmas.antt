@@ -155,6 +155,26 @@ words_bound_up_to (suc top) (suc (suc m)) h k = many (suc (suc m)) (omega arith)
 pub ideal_words-le : (n : ℕ) → 1 ≤ n → ideal_words n + 7 ≤ 9 * n
 ideal_words-le n h = words_bound_up_to n n (omega arith) h
 
+-- none for no key
+pub ideal_words_none : ideal_words 0 ≡ 0
+unfolding ideal_words ideal_words_within
+ideal_words_none = refl
+
+-- a leaf for one
+pub ideal_words_one : ideal_words 1 ≡ 2
+unfolding ideal_words ideal_words_within
+ideal_words_one = refl
+
+-- two leaves and a pair row for two
+pub ideal_words_two : ideal_words 2 ≡ 11
+unfolding ideal_words ideal_words_within part_lens part_len degree square_root root_up_to
+ideal_words_two = refl
+
+-- at most nine words for each key, if there is one
+pub ideal_words_nine : (n : ℕ) → ideal_words n ≤ 9 * n
+ideal_words_nine zero = omega (arith, ideal_words_none)
+ideal_words_nine (suc n) = omega (arith, ideal_words-le (suc n))
+
 -- the parts have at most two sizes, p and p + 1, so the words of these two give the words of the whole
 pub ideal_words_by_two : (n p : ℕ) → 2 ≤ n → degree n * p ≤ n → n ≤ degree n * (p + 1)
     → ideal_words n ≡ inner_words (degree n) + ((degree n - (n - degree n * p)) * ideal_words p + (n - degree n * p) * ideal_words (p + 1))

@@ -1,0 +1,4 @@
+pub mod PartLemmas
+pub mod SizeLemmas
+pub mod GuessLemmas
+pub mod ChildLemmas
