@@ -1,4 +1,4 @@
-use Rattle.std.proofs.Common.{◌<◌, length, get_or, sym, arith}
+use Rattle.std.proofs.Common.{sym}
 use Rattle.ist_math.proofs.ChildLemmas.{first-lt-last, child_count_is}
 use Rattle.ist_math.proofs.children.child_of.Goals as goal
 
