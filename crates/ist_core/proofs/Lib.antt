@@ -1,2 +1,4 @@
 pub mod ArithmeticLemmas
 pub mod ShapeLemmas
+pub mod ReferenceLemmas
+pub mod StatusLemmas
