@@ -1,4 +1,3 @@
-pub mod PartLemmas
 pub mod SizeLemmas
 pub mod GuessLemmas
 pub mod ChildLemmas

@@ -78,5 +78,5 @@ fn words_of_node(n: u64, shortest: u64, parts: Both) -> u64
     let children = degree(n);
     let longer = n - children * shortest;
     let row = 2 * children + FIXED_WORDS;
-    row + ((children - longer) * parts.first + longer * parts.second)
+    row + (longer * parts.second + (children - longer) * parts.first)
 }

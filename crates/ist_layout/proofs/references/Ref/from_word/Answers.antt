@@ -11,4 +11,5 @@ returns-in-7-clause-value c = sym (ap ref_of c.in-7.is ∙ ref_of-unset)
 
 -- neither fixed word: the tag and the base decide
 pub returns-in_default-clause-value : goal.returns-in_default-clause-value
-returns-in_default-clause-value c = c.row.ensures.value ∙ sym (ref_of-row c.args.word (λ z. omega arith) (λ z. omega arith))
+returns-in_default-clause-value c = c.row.ensures.value ∙ sym
+    (ref_of-row c.args.word (λ z. omega arith) (λ z. omega arith))
