@@ -20,40 +20,43 @@ unfolding ref_of
 ref_of-unset = refl
 
 -- any other word is read as a tag and a base
-pub ref_of-row : (word : ℕ) → word ≢ 0 → word ≢ 7 → ref_of word ≡ good_row_tagged (word % 8)
-    (word / 8)
+pub ref_of-row : (word : ℕ) → word ≢ 0 → word ≢ 7
+    → ref_of word ≡ good_row_tagged (word % 8) (word / 8)
 unfolding ref_of
 ref_of-row word h k = at (word == 0) (word == 7) refl refl
   where
     at : (a b : Bool) → (word == 0) ≡ a → (word == 7) ≡ b
         → cond a (Some Empty) (cond b (Some Unset) (good_row_tagged (word % 8) (word / 8)))
-            ≡ good_row_tagged (word % 8) (word / 8)
+          ≡ good_row_tagged (word % 8) (word / 8)
     at true b e f = absurd (h (grind (arith, nat_tests)))
     at false true e f = absurd (k (grind (arith, nat_tests)))
     at false false e f = refl
 
 -- at a good base the tag alone decides
-pub good_row_tagged-good : (tag base : ℕ) → IsGoodBase base → good_row_tagged tag base
-    ≡ row_tagged tag base
+pub good_row_tagged-good : (tag base : ℕ) → IsGoodBase base
+    → good_row_tagged tag base ≡ row_tagged tag base
 good_row_tagged-good tag base good = at (nat_le first_row base) (nat_lt base place_limit) refl refl
   where
-    at : (a b : Bool) → nat_le first_row base ≡ a → nat_lt base place_limit ≡ b → cond (a && b)
-        (row_tagged tag base) None ≡ row_tagged tag base
+    at : (a b : Bool) → nat_le first_row base ≡ a → nat_lt base place_limit ≡ b
+        → cond (a && b) (row_tagged tag base) None ≡ row_tagged tag base
     at true true e f = refl
-    at true false e f = absurd (let x : place_limit ≤ base = grind (arith, nat_tests) in omega
-        (arith, good.below_limit))
-    at false b e f = absurd (let x : base < first_row = grind (arith, nat_tests) in omega
-        (arith, good.behind_fixed))
+    at true false e f =
+        let beyond : place_limit ≤ base = grind (arith, nat_tests) in
+        absurd (omega (arith, good.below_limit))
+    at false b e f =
+        let fixed : base < first_row = grind (arith, nat_tests) in
+        absurd (omega (arith, good.behind_fixed))
 
 -- a row at a base with a tag is read back
-ref_of-tagged : (tag base : ℕ) (ref : Ref) → IsGoodBase base → tag < 7 → row_tagged tag base
-    ≡ Some ref → ref_of (base * 8 + tag) ≡ Some ref
+ref_of-tagged : (tag base : ℕ) (ref : Ref) → IsGoodBase base → tag < 7
+    → row_tagged tag base ≡ Some ref → ref_of (base * 8 + tag) ≡ Some ref
 ref_of-tagged tag base ref good h e =
-    ref_of-row (base * 8 + tag) (λ z. omega (arith, good.behind_fixed))
-        (λ z. omega (arith, good.behind_fixed))
-    ∙ ap (λ t. good_row_tagged t ((base * 8 + tag) / 8))
-        (let x : (base * 8 + tag) % 8 ≡ tag = omega arith in x)
-    ∙ ap (λ b. good_row_tagged tag b) (let x : (base * 8 + tag) / 8 ≡ base = omega arith in x)
+    let behind = good.behind_fixed in
+    let rest : (base * 8 + tag) % 8 ≡ tag = omega arith in
+    let quotient : (base * 8 + tag) / 8 ≡ base = omega arith in
+    ref_of-row (base * 8 + tag) (λ z. omega arith) (λ z. omega arith)
+    ∙ ap (λ t. good_row_tagged t ((base * 8 + tag) / 8)) rest
+    ∙ ap (λ b. good_row_tagged tag b) quotient
     ∙ good_row_tagged-good tag base good ∙ e
 
 -- a good reference is read back from its word
@@ -67,61 +70,49 @@ ref_of-word_of (RebuildAt base) good = ref_of-tagged 4 base (RebuildAt base) goo
 
 -- ---- back to the word
 
--- where a choice gives a value, it is the first one, or the rest gives it
-chosen : {A : Type 0} (b : Bool) (x y : A) (rest : Option A) → cond b (Some x) rest ≡ Some y →
-    ((b ≡ true) × (x ≡ y)) ⊎ (rest ≡ Some y)
-chosen true x y rest e = inl (refl, cc)
-chosen false x y rest e = inr e
-
 -- a reference that is read from a word is good, and has this word
 pub record IsReadFrom (word : ℕ) (ref : Ref) : Type 0 where
   pub good : IsGoodRef ref
   pub same_word : word_of ref ≡ word
 
+-- a row with this tag and base is read from their word
+tagged_read : (tag known base : ℕ) (found ref : Ref) → (tag == known) ≡ true → IsGoodRef found
+    → word_of found ≡ base * 8 + known → found ≡ ref → IsReadFrom (base * 8 + tag) ref
+tagged_read tag known base found ref test good word same =
+    let number : known ≡ tag = grind (arith, nat_tests) in
+    let read : IsReadFrom (base * 8 + tag) found =
+        record { good = good; same_word = word ∙ ap (λ k. base * 8 + k) number } in
+    subst (λ (r : Ref). IsReadFrom (base * 8 + tag) r) same read
+
+-- so is whatever row the tag gives
 row_read : (tag base : ℕ) (ref : Ref) → IsGoodBase base → row_tagged tag base ≡ Some ref
     → IsReadFrom (base * 8 + tag) ref
-row_read tag base ref good e =
-    ⊎_elim (λ (h : ((tag == 1) ≡ true) × (LeafAt base ≡ ref)). is 1 (LeafAt base) h.0 good refl h.1)
-    (λ (f : cond (tag == 2) (Some (InnerAt base))
-        (cond (tag == 3) (Some (ChangeAt base)) (cond (tag == 4) (Some (RebuildAt base)) None))
-        ≡ Some ref).
-        ⊎_elim (λ (h : ((tag == 2) ≡ true) × (InnerAt base ≡ ref)). is 2
-            (InnerAt base) h.0 good refl h.1)
-        (λ (f : cond (tag == 3) (Some (ChangeAt base))
-            (cond (tag == 4) (Some (RebuildAt base)) None) ≡ Some ref).
-            ⊎_elim (λ (h : ((tag == 3) ≡ true) × (ChangeAt base ≡ ref)). is 3
-                (ChangeAt base) h.0 good refl h.1)
-            (λ (f : cond (tag == 4) (Some (RebuildAt base)) None ≡ Some ref).
-                ⊎_elim (λ (h : ((tag == 4) ≡ true) × (RebuildAt base ≡ ref)). is 4
-                    (RebuildAt base) h.0 good refl h.1)
-                (λ (f : None ≡ Some ref). cc)
-                (chosen (tag == 4) (RebuildAt base) ref None f))
-            (chosen (tag == 3) (ChangeAt base) ref
-                (cond (tag == 4) (Some (RebuildAt base)) None) f))
-        (chosen (tag == 2) (InnerAt base) ref
-            (cond (tag == 3) (Some (ChangeAt base))
-            (cond (tag == 4) (Some (RebuildAt base)) None)) f))
-    (chosen (tag == 1) (LeafAt base) ref (cond (tag == 2) (Some (InnerAt base))
-        (cond (tag == 3) (Some (ChangeAt base)) (cond (tag == 4) (Some (RebuildAt base)) None))) e)
+row_read tag base ref good e = at (tag == 1) (tag == 2) (tag == 3) (tag == 4) refl refl refl refl e
   where
-    is : (known : ℕ) (found : Ref) → (tag == known) ≡ true → IsGoodRef found → word_of found
-        ≡ base * 8 + known → found ≡ ref → IsReadFrom (base * 8 + tag) ref
-    is known found t g w same =
-        let number : tag ≡ known = grind (arith, nat_tests) in
-        subst (λ (r : Ref). IsReadFrom (base * 8 + tag) r) same
-            (record { good = g; same_word = w ∙ ap (λ k. base * 8 + k) (sym number) })
+    at : (a b c d : Bool) → (tag == 1) ≡ a → (tag == 2) ≡ b → (tag == 3) ≡ c → (tag == 4) ≡ d
+        → cond a (Some (LeafAt base)) (cond b (Some (InnerAt base))
+            (cond c (Some (ChangeAt base)) (cond d (Some (RebuildAt base)) None))) ≡ Some ref
+        → IsReadFrom (base * 8 + tag) ref
+    at true b c d f g i j e = tagged_read tag 1 base (LeafAt base) ref f good refl (cc)
+    at false true c d f g i j e = tagged_read tag 2 base (InnerAt base) ref g good refl (cc)
+    at false false true d f g i j e = tagged_read tag 3 base (ChangeAt base) ref i good refl (cc)
+    at false false false true f g i j e =
+        tagged_read tag 4 base (RebuildAt base) ref j good refl (cc)
+    at false false false false f g i j e = cc
 
+-- and whatever row the tag and the base of a word give
 good_row_read : (word : ℕ) (ref : Ref) → good_row_tagged (word % 8) (word / 8) ≡ Some ref
     → IsReadFrom word ref
-good_row_read word ref e = at (nat_le first_row (word / 8))
-    (nat_lt (word / 8) place_limit) refl refl e
+good_row_read word ref e =
+    at (nat_le first_row (word / 8)) (nat_lt (word / 8) place_limit) refl refl e
   where
     at : (a b : Bool) → nat_le first_row (word / 8) ≡ a → nat_lt (word / 8) place_limit ≡ b
         → cond (a && b) (row_tagged (word % 8) (word / 8)) None ≡ Some ref → IsReadFrom word ref
     at true true f g e =
-        subst (λ w. IsReadFrom w ref) (let x : word / 8 * 8 + word % 8 ≡ word = omega arith in x)
-        (row_read (word % 8) (word / 8) ref (record { behind_fixed = grind (arith, nat_tests);
-            below_limit = grind (arith, nat_tests) }) e)
+        let whole : word / 8 * 8 + word % 8 ≡ word = omega arith in
+        let good : IsGoodBase (word / 8) = record {
+            behind_fixed = grind (arith, nat_tests); below_limit = grind (arith, nat_tests) } in
+        subst (λ w. IsReadFrom w ref) whole (row_read (word % 8) (word / 8) ref good e)
     at true false f g e = cc
     at false b f g e = cc
 
@@ -132,13 +123,16 @@ word_of-ref_of word ref e = at (word == 0) (word == 7) refl refl e
   where
     at : (a b : Bool) → (word == 0) ≡ a → (word == 7) ≡ b
         → cond a (Some Empty) (cond b (Some Unset) (good_row_tagged (word % 8) (word / 8)))
-            ≡ Some ref → IsReadFrom word ref
+          ≡ Some ref
+        → IsReadFrom word ref
     at true b f g e =
-        let is : Empty ≡ ref = cc in
-        subst (λ (r : Ref). IsReadFrom word r) is
-            (record { good = tt; same_word = grind (arith, nat_tests) })
+        let same : Empty ≡ ref = cc in
+        let read : IsReadFrom word Empty =
+            record { good = tt; same_word = grind (arith, nat_tests) } in
+        subst (λ (r : Ref). IsReadFrom word r) same read
     at false true f g e =
-        let is : Unset ≡ ref = cc in
-        subst (λ (r : Ref). IsReadFrom word r) is
-            (record { good = tt; same_word = grind (arith, nat_tests) })
+        let same : Unset ≡ ref = cc in
+        let read : IsReadFrom word Unset =
+            record { good = tt; same_word = grind (arith, nat_tests) } in
+        subst (λ (r : Ref). IsReadFrom word r) same read
     at false false f g e = good_row_read word ref e

@@ -5,5 +5,6 @@ use Rattle.ist_math.proofs.shares.degree.Goals as goal
 -- the degree is the larger of 2 and the root
 pub returns-clause-value : goal.returns-clause-value
 returns-clause-value c =
-    omega
-        (arith, degree_is c.args.n c.isqrt.result c.isqrt.ensures.square_le c.isqrt.ensures.next_square_gt)
+    let known =
+        degree_is c.args.n c.isqrt.result c.isqrt.ensures.square_le c.isqrt.ensures.next_square_gt in
+    omega arith
