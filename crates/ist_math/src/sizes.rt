@@ -51,10 +51,16 @@ fn words_of_both(n: u64) -> Both
     ensures second { result.second ≡ ideal_words (n + 1) }
 {
     if n == 0 {
-        return Both { first: 0, second: LEAF_WORDS };
+        return Both {
+            first: 0,
+            second: LEAF_WORDS,
+        };
     }
     if n == 1 {
-        return Both { first: LEAF_WORDS, second: 2 * LEAF_WORDS + 2 * 2 + FIXED_WORDS };
+        return Both {
+            first: LEAF_WORDS,
+            second: 2 * LEAF_WORDS + 2 * 2 + FIXED_WORDS,
+        };
     }
     let shortest = (n / degree(n)).min((n + 1) / degree(n + 1));
     let parts = words_of_both(shortest);
