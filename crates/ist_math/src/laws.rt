@@ -1,11 +1,13 @@
-//! What follows from the definitions alone, for all numbers. Each law is the contract of a function that does nothing.
+//! What follows from the definitions alone, for all numbers. Each law is the contract of a function
+//! that does nothing.
 ghost use Rattle.std.specs.Prelude.{◌≡◌, ℕ, ◌+◌, ◌*◌, ◌<◌, ◌≤◌, ◌^◌};
 ghost use Rattle.std.specs.List.{sum};
 ghost use Rattle.ist_core.specs.Arithmetic.{square_root, degree, part_len, part_lens};
 ghost use Rattle.ist_core.specs.Shapes.{ideal_words, shape, depth};
 ghost use Rattle.ist_math.specs.Guess.{guess_of};
 
-/// The square root, rounded down, is the one number whose square is at most `n`, while the next square is above `n`.
+/// The square root, rounded down, is the one number whose square is at most `n`, while the next
+/// square is above `n`.
 pub fn square_root_is_the_last()
     ensures square { (n : ℕ) → square_root n * square_root n ≤ n }
     ensures next_square { (n : ℕ) → n < (square_root n + 1) * (square_root n + 1) }

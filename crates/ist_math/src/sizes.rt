@@ -14,8 +14,8 @@ const FIXED_WORDS: u64 = 3;
 /// A node is due for a rebuild after at least so many updates.
 const LEAST_LIMIT: u64 = 8;
 
-/// After how many updates a node that was built over `size` keys is due for a rebuild: a quarter of its keys, but at
-/// least 8.
+/// After how many updates a node that was built over `size` keys is due for a rebuild: a quarter of
+/// its keys, but at least 8.
 pub fn limit(size: u64) -> u64
     ensures value { result ≡ limit size }
 {
@@ -24,7 +24,8 @@ pub fn limit(size: u64) -> u64
 
 /// How many words an ideal tree of `n` keys takes, with its leaves.
 ///
-/// The parts of all nodes of one level have two sizes at most, so each level costs the same few steps.
+/// The parts of all nodes of one level have two sizes at most, so each level costs the same few
+/// steps.
 pub fn ideal_words(n: u64) -> u64
     requires fits { n < 2 ^ 32 }
     ensures value { result ≡ ideal_words n }
