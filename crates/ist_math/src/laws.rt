@@ -3,8 +3,10 @@
 ghost use Rattle.std.specs.Prelude.{◌≡◌, ℕ, ◌+◌, ◌*◌, ◌<◌, ◌≤◌, ◌^◌};
 ghost use Rattle.std.specs.List.{sum};
 ghost use Rattle.ist_core.specs.Arithmetic.{square_root, degree, part_len, part_lens};
-ghost use Rattle.ist_core.specs.Shapes.{ideal_words, shape, depth};
+ghost use Rattle.ist_core.specs.Shapes.{ideal_words, shape, depth, share_from};
 ghost use Rattle.ist_math.specs.Guess.{guess_of};
+
+use crate::sizes::SHARE_FROM;
 
 /// The square root, rounded down, is the one number whose square is at most `n`, while the next
 /// square is above `n`.
@@ -38,4 +40,10 @@ pub fn words_are_nine_a_key()
 /// A path of an ideal tree of fewer than 2^32 keys has at most seven inner rows.
 pub fn paths_are_short()
     ensures most { (n : ℕ) → n < 2 ^ 32 → depth n ≤ 7 }
+{}
+
+/// The constant is the one that the definitions name, and a shared root has two keys or more.
+pub fn shared_roots_have_several_keys()
+    ensures value { SHARE_FROM ≡ share_from }
+    ensures least { 2 ≤ share_from }
 {}

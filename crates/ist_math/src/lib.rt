@@ -16,7 +16,7 @@ pub mod tables;
 pub use children::{child_of, guess};
 pub use parts::Part;
 pub use shares::{degree, part};
-pub use sizes::{ideal_words, limit};
+pub use sizes::{SHARE_FROM, ideal_words, limit};
 
 #[cfg(test)]
 mod tests;

@@ -5,6 +5,9 @@ ghost use Rattle.ist_core.specs.Shapes.{ideal_words};
 
 use crate::shares::degree;
 
+/// From this many keys on, the helpers of a rebuild share its root and build one part each.
+pub const SHARE_FROM: u64 = 256;
+
 /// The words of a leaf.
 const LEAF_WORDS: u64 = 2;
 
