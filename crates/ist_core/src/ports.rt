@@ -1,6 +1,6 @@
 //! What the program asks of a map that callers share.
 ghost use Rattle.std.specs.Prelude.{◌≡◌, ℕ, ◌+◌, ◌<◌, List, [], ◌∷◌, ◌++◌, Option, Some, IfOk, IfErr, OnOk, OnErr};
-ghost use Rattle.ist_core.specs.Ports.{Answered, Refused};
+ghost use Rattle.ist_core.specs.Replies.{Answered, Refused};
 
 use std::sync::Wait;
 
