@@ -110,7 +110,7 @@ sum_of_long_parts g n (suc k) h =
 -- the sum of a function over all longer parts and m others
 pub sum_of_parts : (g : ℕ → ℕ) (n m : ℕ)
     → sum_by g (map (part_len n) (range_with_len 0 (n % degree n + m)))
-      ≡ n % degree n * g (n / degree n + 1) + m * g (n / degree n)
+    ≡ n % degree n * g (n / degree n + 1) + m * g (n / degree n)
 sum_of_parts g n zero =
     ap (λ k. sum_by g (map (part_len n) (range_with_len 0 k))) (let e : n % degree n + 0 ≡ n % degree n = omega arith in e)
     ∙ sum_of_long_parts g n (n % degree n) (omega arith) ∙ omega arith

@@ -140,7 +140,7 @@ pub data FitsKind (first : Snapshot) (log : Log) (change : ChangeRow) (fresh : L
 abbrev pub IsUnrefused : Snapshot → ℕ → ℕ → Type 0
 IsUnrefused t caller node =
     (base : ℕ) (earlier : ChangeRow) → t.pieces base ≡ Some (Change earlier)
-      → earlier.owner ≡ caller → earlier.node ≡ node → earlier.decision ≢ decided_no
+    → earlier.owner ≡ caller → earlier.node ≡ node → earlier.decision ≢ decided_no
 
 -- the change at the base may be installed: its caller holds its row and its fresh rows, its slot holds `from`, and its node
 -- is linked or was

@@ -25,7 +25,9 @@ pub mod Marking
 pub mod Building
 pub mod Enabled
 pub mod Lawful
+pub mod Spending
 pub mod Changes
 pub mod Standing
 pub mod Histories
 pub mod Resting
+pub mod ExampleLogs

@@ -1,6 +1,5 @@
 -- Logs: lists of events, of which the newest stands first; the state behind each, and what was true or happened on the way.
 use Rattle.std.specs.Prelude.{◌≡◌, ℕ, ◌⊎◌, Bool, List, [], ◌∷◌}
-use Rattle.ist_core.specs.declared.lists.Row.{Row}
 use Rattle.ist_core.specs.declared.events.Event.{Event}
 use Rattle.ist_core.specs.declared.events.Event.TheVariants.{Reserve, Okay, Decide, Resolve, Count, Pass, Draw, Lose}
 use Rattle.ist_core.specs.Lists.{Among}

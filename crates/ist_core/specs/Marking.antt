@@ -41,6 +41,10 @@ pub record CanPass (t : Snapshot) (caller node i word : ℕ) : Type 0 where
   pub no_change : (change : ℕ) → ref_of word ≢ Some (ChangeAt change)
   pub set : word ≢ unset_word
 
+-- slot i of the node is frozen with the word: it was passed with it
+abbrev pub IsFrozen : Log → ℕ → ℕ → ℕ → Type 0
+IsFrozen log node i word = Happened (Passes node i word) log
+
 -- ---- Finish
 
 -- how many keys a passed word counts for: none for Empty, one for a leaf, for an inner row the number with which it is

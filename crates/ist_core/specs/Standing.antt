@@ -54,8 +54,8 @@ pub record StandAmong (m : Map) (entries : List Entry) (number : ℕ) (calls : L
   pub in_order : AllFollow calls
 
 -- the calls of the pass with this number stand in the log
-abbrev pub StandIn : List Pair → ℕ → Log → ℕ → List Call → Type 0
-StandIn pairs words log number calls = StandAmong (map_of pairs) (changes_of pairs words log) number calls
+abbrev pub StandsIn : List Pair → ℕ → Log → ℕ → List Call → Type 0
+StandsIn pairs words log number calls = StandAmong (map_of pairs) (changes_of pairs words log) number calls
 
 -- the call is fresh: it comes after all that its pass had seen when it began, which is this log and this stamp
 pub record IsFresh (pairs : List Pair) (words : ℕ) (seen : Log) (stamp : ℕ) (call : Call) : Type 0 where

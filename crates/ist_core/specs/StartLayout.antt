@@ -1,5 +1,5 @@
 -- The table at its opening: the ideal tree of the start pairs, laid out from the first row on.
-use Rattle.std.specs.Prelude.{ℕ, zero, suc, ◌+◌, List, [], ◌∷◌, length, map, zip, drop, Option, Some, None}
+use Rattle.std.specs.Prelude.{ℕ, zero, suc, ◌+◌, List, [], ◌∷◌, length, map, zip, drop, Some, None}
 use Rattle.std.specs.List.{flat_map}
 use Rattle.ist_core.specs.declared.pairs.Pair.{Pair}
 use Rattle.ist_core.specs.Arithmetic.{degree, part_lens}

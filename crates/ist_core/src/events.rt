@@ -8,31 +8,84 @@ use crate::lists::{Bases, Rows};
 #[derive(Drop)]
 pub enum Event {
     /// A new caller: adds 1 to the number of callers.
-    Enter { caller: u64 },
+    Enter {
+        caller: u64,
+    },
     /// Takes `size` words from the free ones: exchanges the first free word for `base + size`.
-    Reserve { caller: u64, base: u64, size: u64 },
+    Reserve {
+        caller: u64,
+        base: u64,
+        size: u64,
+    },
     /// Puts the change into its slot: exchanges the slot's word for the change's.
-    Install { caller: u64, change: u64, rows: Rows },
+    Install {
+        caller: u64,
+        change: u64,
+        rows: Rows,
+    },
     /// Sees the change's node open: loads its status.
-    Okay { caller: u64, change: u64 },
+    Okay {
+        caller: u64,
+        change: u64,
+    },
     /// Fixes the outcome of the change: exchanges its decision for yes or no.
-    Decide { caller: u64, change: u64, yes: bool },
+    Decide {
+        caller: u64,
+        change: u64,
+        yes: bool,
+    },
     /// Takes the change out of its slot: exchanges its word for what it puts there, or for what stood there.
-    Resolve { caller: u64, change: u64 },
+    Resolve {
+        caller: u64,
+        change: u64,
+    },
     /// Counts a put or remove at the node: adds 1 to its count.
-    Count { caller: u64, node: u64 },
+    Count {
+        caller: u64,
+        node: u64,
+    },
     /// Marks the node: exchanges its status.
-    Mark { caller: u64, node: u64 },
+    Mark {
+        caller: u64,
+        node: u64,
+    },
     /// Sees a slot of a marked node free of changes: loads it.
-    Pass { caller: u64, node: u64, index: u64, word: u64 },
+    Pass {
+        caller: u64,
+        node: u64,
+        index: u64,
+        word: u64,
+    },
     /// Gives the node its number of keys: exchanges its status.
-    Finish { caller: u64, node: u64, keys: u64 },
+    Finish {
+        caller: u64,
+        node: u64,
+        keys: u64,
+    },
     /// Gives the rebuild its root: exchanges its root word.
-    Root { caller: u64, rebuild: u64, word: u64, rows: Rows },
+    Root {
+        caller: u64,
+        rebuild: u64,
+        word: u64,
+        rows: Rows,
+    },
     /// Draws a part of a shared root to build: adds 1 to the rebuild's draw word.
-    Draw { caller: u64, rebuild: u64, part: u64 },
+    Draw {
+        caller: u64,
+        rebuild: u64,
+        part: u64,
+    },
     /// Puts a built part into a shared root: exchanges the slot's word.
-    Place { caller: u64, rebuild: u64, part: u64, word: u64, rows: Rows },
+    Place {
+        caller: u64,
+        rebuild: u64,
+        part: u64,
+        word: u64,
+        rows: Rows,
+    },
     /// Gives up held rows that can't be published any more: the exchange of a Root or Place that fails, or a load.
-    Lose { caller: u64, bases: Bases },
+    Lose {
+        caller: u64,
+        bases: Bases,
+    },
 }

@@ -6,6 +6,7 @@
 mod calls;
 mod commands;
 mod events;
+pub mod examples;
 mod lists;
 mod maps;
 mod pairs;

@@ -6,9 +6,8 @@ ghost use Rattle.std.specs.List.Sorted.{IsStrictlyIncreasing};
 ghost use Rattle.std.specs.Ordering.{nat_cmp};
 ghost use Rattle.std.specs.FinMap as fin;
 
-use std::marker::Model;
-
 use crate::states::{ChangeRow, InnerRow, LeafRow, RebuildRow};
+use std::marker::Model;
 
 /// The published leaves by their bases. Contracts see the finite map of them.
 #[derive(Drop)]
@@ -21,7 +20,6 @@ impl Model for Leaves {
     ghost use Rattle.std.specs.Ordering.{nat_cmp};
     ghost use Rattle.std.specs.FinMap as fin;
     ghost use Rattle.ist_core.specs.declared.states.LeafRow.{LeafRow};
-
     ghost use Rattle.std.specs.Coded.{coded_ℕ};
     ghost use Rattle.ist_core.specs.contracts.states.LeafRow as row;
 
@@ -69,7 +67,6 @@ impl Model for Inners {
     ghost use Rattle.std.specs.Ordering.{nat_cmp};
     ghost use Rattle.std.specs.FinMap as fin;
     ghost use Rattle.ist_core.specs.declared.states.InnerRow.{InnerRow};
-
     ghost use Rattle.std.specs.Coded.{coded_ℕ};
     ghost use Rattle.ist_core.specs.contracts.states.InnerRow as row;
 
@@ -117,7 +114,6 @@ impl Model for Changes {
     ghost use Rattle.std.specs.Ordering.{nat_cmp};
     ghost use Rattle.std.specs.FinMap as fin;
     ghost use Rattle.ist_core.specs.declared.states.ChangeRow.{ChangeRow};
-
     ghost use Rattle.std.specs.Coded.{coded_ℕ};
     ghost use Rattle.ist_core.specs.contracts.states.ChangeRow as row;
 
@@ -165,7 +161,6 @@ impl Model for Rebuilds {
     ghost use Rattle.std.specs.Ordering.{nat_cmp};
     ghost use Rattle.std.specs.FinMap as fin;
     ghost use Rattle.ist_core.specs.declared.states.RebuildRow.{RebuildRow};
-
     ghost use Rattle.std.specs.Coded.{coded_ℕ};
     ghost use Rattle.ist_core.specs.contracts.states.RebuildRow as row;
 

@@ -2,9 +2,8 @@
 ghost use Rattle.std.specs.Prelude.{◌≡◌, ℕ, ◌+◌, ◌<◌, List, [], ◌∷◌, ◌++◌, Option, Some, IfOk, IfErr, OnOk, OnErr};
 ghost use Rattle.ist_core.specs.Replies.{Answered, Refused};
 
-use std::sync::Wait;
-
 use crate::commands::{Command, Reply};
+use std::sync::Wait;
 
 /// No row could be reserved: of `words` words the first free one is `next`, and `asked` more were wanted.
 #[derive(Clone, Copy, Debug, PartialEq, Eq, Drop)]

@@ -1,0 +1,67 @@
+-- Small logs and tables that show what the definitions mean. Of a log the newest event stands first.
+use Rattle.std.specs.Prelude.{ℕ, true, List, [], ◌∷◌}
+use Rattle.ist_core.specs.declared.pairs.Pair.{Pair}
+use Rattle.ist_core.specs.declared.lists.Row.{Row}
+use Rattle.ist_core.specs.declared.events.Event.TheVariants.{Enter, Reserve, Install, Okay, Decide, Resolve}
+use Rattle.ist_core.specs.Logs.{Log}
+
+-- ---- a table of two pairs
+
+-- the pairs (5, 7) and (9, 1)
+abbrev pub two_pairs : List Pair
+two_pairs = record { key = 5; value = 7 } ∷ record { key = 9; value = 1 } ∷ []
+
+-- the words of a new table of 20 words with these pairs: the fixed words, an inner row, and two leaves
+abbrev pub two_pairs_words : List ℕ
+two_pairs_words =
+    15 ∷ 0 ∷ 0 ∷ 34
+    ∷ 0 ∷ 0 ∷ 2 ∷ 2 ∷ 9 ∷ 89 ∷ 105
+    ∷ 5 ∷ 7
+    ∷ 9 ∷ 1
+    ∷ 0 ∷ 0 ∷ 0 ∷ 0 ∷ 0 ∷ []
+
+-- ---- a put of (1, 1) into an empty table
+
+-- the rows of the put: the change at 6, and the leaf at 4
+abbrev pub put_rows : List Row
+put_rows =
+    record { base = 6; words = 0 ∷ 1 ∷ 2 ∷ 0 ∷ 0 ∷ 33 ∷ 0 ∷ 1 ∷ 1 ∷ [] }
+    ∷ record { base = 4; words = 1 ∷ 1 ∷ [] }
+    ∷ []
+
+-- caller 0 enters and reserves both rows
+abbrev pub put_reserved : Log
+put_reserved = Reserve 0 6 9 ∷ Reserve 0 4 2 ∷ Enter 0 ∷ []
+
+-- the change stands in the anchor's slot
+abbrev pub put_installed : Log
+put_installed = Install 0 6 put_rows ∷ put_reserved
+
+-- the change is decided, once the anchor was seen open
+abbrev pub put_decided : Log
+put_decided = Decide 0 6 true ∷ Okay 0 6 ∷ put_installed
+
+-- the change has left the slot
+abbrev pub put_resolved : Log
+put_resolved = Resolve 0 6 ∷ put_decided
+
+-- the same without the Okay
+abbrev pub put_unseen : Log
+put_unseen = Resolve 0 6 ∷ Decide 0 6 true ∷ put_installed
+
+-- ---- a start of a rebuild of the anchor's child, which isn't due
+
+-- the pairs (10, 1) and (20, 2)
+abbrev pub start_pairs : List Pair
+start_pairs = record { key = 10; value = 1 } ∷ record { key = 20; value = 2 } ∷ []
+
+-- the rows of the start: the change at 20, and the rebuild at 15 with target 4
+abbrev pub start_rows : List Row
+start_rows =
+    record { base = 20; words = 0 ∷ 3 ∷ 2 ∷ 0 ∷ 34 ∷ 124 ∷ 0 ∷ 0 ∷ 0 ∷ [] }
+    ∷ record { base = 15; words = 4 ∷ 2 ∷ 0 ∷ 7 ∷ 0 ∷ [] }
+    ∷ []
+
+-- caller 0 enters, reserves both rows and installs the start
+abbrev pub start_installed : Log
+start_installed = Install 0 20 start_rows ∷ Reserve 0 20 9 ∷ Reserve 0 15 5 ∷ Enter 0 ∷ []

@@ -1,0 +1,39 @@
+//! What the definitions mean on small examples. The functions take no steps: their contracts are facts.
+ghost use Rattle.std.specs.Prelude.{◌≡◌, [], Some};
+ghost use Rattle.ist_core.specs.ExampleLogs.{two_pairs, two_pairs_words};
+ghost use Rattle.ist_core.specs.ExampleLogs.{put_installed, put_decided, put_resolved, put_unseen};
+ghost use Rattle.ist_core.specs.ExampleLogs.{start_pairs, start_installed};
+ghost use Rattle.ist_core.specs.References.{Empty, LeafAt, InnerAt, ChangeAt, RebuildAt, word_of};
+ghost use Rattle.ist_core.specs.StartLayout.{start};
+ghost use Rattle.ist_core.specs.Images.{IsImage};
+ghost use Rattle.ist_core.specs.Slots.{logical};
+ghost use Rattle.ist_core.specs.Lawful.{Lawful, state_of};
+
+/// The words of a new table of 20 words with the pairs (5, 7) and (9, 1).
+pub fn a_table_opens()
+    ensures image { IsImage (start two_pairs 20) two_pairs_words }
+{}
+
+/// A put of (1, 1) into an empty table of 15 words: it uses them all, and its leaf stands in the anchor's slot.
+///
+/// It isn't lawful where nobody saw the anchor open, nor where a word is missing.
+pub fn a_put_is_lawful()
+    ensures lawful { Lawful [] 15 put_resolved }
+    ensures next { (state_of [] 15 put_resolved).next ≡ 15 }
+    ensures callers { (state_of [] 15 put_resolved).callers ≡ 1 }
+    ensures anchor { (state_of [] 15 put_resolved).anchor ≡ word_of (LeafAt 4) }
+    ensures unseen { ¬ (Lawful [] 15 put_unseen) }
+    ensures no_room { ¬ (Lawful [] 14 put_resolved) }
+{}
+
+/// A change in a slot reads as what stood there, and once it is decided yes as what it puts there.
+pub fn a_change_is_read()
+    ensures undecided { logical (state_of [] 15 put_installed).pieces (word_of (ChangeAt 6)) ≡ Some Empty }
+    ensures decided { logical (state_of [] 15 put_decided).pieces (word_of (ChangeAt 6)) ≡ Some (LeafAt 4) }
+{}
+
+/// The start of a rebuild of the anchor's child is lawful where that child isn't due, and a rebuild reads as its target.
+pub fn a_start_is_lawful()
+    ensures lawful { Lawful start_pairs 100 start_installed }
+    ensures rebuild { logical (state_of start_pairs 100 start_installed).pieces (word_of (RebuildAt 15)) ≡ Some (InnerAt 4) }
+{}
