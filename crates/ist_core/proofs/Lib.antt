@@ -1,6 +1,9 @@
 pub mod ArithmeticLemmas
 pub mod EntryLemmas
+pub mod FinishExampleLemmas
+pub mod LeafLemmas
 pub mod PieceLemmas
 pub mod PutExampleLemmas
+pub mod RebuildExampleLemmas
 pub mod ShapeLemmas
 pub mod StartExampleLemmas

@@ -59,7 +59,7 @@ two_pairs_open =
       free = λ place low high. behind_rows place low high;
     }
 
-abbrev two : Snapshot
+abbrev pub two : Snapshot
 two = start start_pairs 100
 
 -- the start, with a decision

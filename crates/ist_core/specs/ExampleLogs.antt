@@ -2,7 +2,7 @@
 use Rattle.std.specs.Prelude.{ℕ, true, List, [], ◌∷◌}
 use Rattle.ist_core.specs.declared.pairs.Pair.{Pair}
 use Rattle.ist_core.specs.declared.lists.Row.{Row}
-use Rattle.ist_core.specs.declared.events.Event.TheVariants.{Enter, Reserve, Install, Okay, Decide, Resolve}
+use Rattle.ist_core.specs.declared.events.Event.TheVariants.{Enter, Reserve, Install, Okay, Decide, Resolve, Mark, Pass, Finish, Root}
 use Rattle.ist_core.specs.Logs.{Log}
 
 -- ---- a table of two pairs
@@ -65,3 +65,33 @@ start_rows =
 -- caller 0 enters, reserves both rows and installs the start
 abbrev pub start_installed : Log
 start_installed = Install 0 20 start_rows ∷ Reserve 0 20 9 ∷ Reserve 0 15 5 ∷ Enter 0 ∷ []
+
+-- ---- the whole rebuild
+
+-- the start is decided and leaves the slot, where the rebuild stands now
+abbrev pub rebuild_started : Log
+rebuild_started = Resolve 0 20 ∷ Decide 0 20 true ∷ Okay 0 20 ∷ start_installed
+
+-- the row at 4 is marked, its two leaves are passed, and it is finished with two keys
+abbrev pub rebuild_finished : Log
+rebuild_finished = Finish 0 4 2 ∷ Pass 0 4 1 105 ∷ Pass 0 4 0 89 ∷ Mark 0 4 ∷ rebuild_started
+
+-- the new row at 29, over the same leaves
+abbrev pub root_rows : List Row
+root_rows = record { base = 29; words = 0 ∷ 0 ∷ 2 ∷ 2 ∷ 20 ∷ 89 ∷ 105 ∷ [] } ∷ []
+
+-- the new row is reserved and becomes the rebuild's root
+abbrev pub rebuild_rooted : Log
+rebuild_rooted = Root 0 15 234 root_rows ∷ Reserve 0 29 7 ∷ rebuild_finished
+
+-- the row of the finish: the change at 36
+abbrev pub finish_rows : List Row
+finish_rows = record { base = 36; words = 0 ∷ 4 ∷ 2 ∷ 0 ∷ 124 ∷ 234 ∷ 0 ∷ 0 ∷ 0 ∷ [] } ∷ []
+
+-- the finish is installed
+abbrev pub finish_installed : Log
+finish_installed = Install 0 36 finish_rows ∷ Reserve 0 36 9 ∷ rebuild_rooted
+
+-- it is decided and leaves the slot, where the new row stands now
+abbrev pub rebuild_replaced : Log
+rebuild_replaced = Resolve 0 36 ∷ Decide 0 36 true ∷ Okay 0 36 ∷ finish_installed

@@ -2,11 +2,12 @@
 ghost use Rattle.std.specs.Prelude.{◌≡◌, [], Some};
 ghost use Rattle.ist_core.specs.ExampleLogs.{two_pairs, two_pairs_words};
 ghost use Rattle.ist_core.specs.ExampleLogs.{put_installed, put_decided, put_resolved, put_unseen};
-ghost use Rattle.ist_core.specs.ExampleLogs.{start_pairs, start_installed};
+ghost use Rattle.ist_core.specs.ExampleLogs.{start_pairs, start_installed, rebuild_replaced};
 ghost use Rattle.ist_core.specs.References.{Empty, LeafAt, InnerAt, ChangeAt, RebuildAt, word_of};
 ghost use Rattle.ist_core.specs.StartLayout.{start};
 ghost use Rattle.ist_core.specs.Images.{IsImage};
 ghost use Rattle.ist_core.specs.Slots.{logical};
+ghost use Rattle.ist_core.specs.Leaves.{HasContents};
 ghost use Rattle.ist_core.specs.Lawful.{Lawful, state_of};
 
 /// The words of a new table of 20 words with the pairs (5, 7) and (9, 1).
@@ -36,4 +37,13 @@ pub fn a_change_is_read()
 pub fn a_start_is_lawful()
     ensures lawful { Lawful start_pairs 100 start_installed }
     ensures rebuild { logical (state_of start_pairs 100 start_installed).pieces (word_of (RebuildAt 15)) ≡ Some (InnerAt 4) }
+{}
+
+/// The same rebuild carried through: its row is marked, passed and finished, a new row over the same leaves becomes the
+/// root, and the finish puts it into the anchor's slot. The contents stay.
+pub fn a_rebuild_is_lawful()
+    ensures lawful { Lawful start_pairs 100 rebuild_replaced }
+    ensures next { (state_of start_pairs 100 rebuild_replaced).next ≡ 45 }
+    ensures anchor { (state_of start_pairs 100 rebuild_replaced).anchor ≡ word_of (InnerAt 29) }
+    ensures contents { HasContents (state_of start_pairs 100 rebuild_replaced) start_pairs }
 {}

@@ -7,6 +7,7 @@ mod calls;
 mod commands;
 mod events;
 pub mod examples;
+pub mod laws;
 mod lists;
 mod maps;
 mod pairs;
