@@ -1,10 +1,12 @@
 //! The events of a log.
 use crate::lists::{Bases, Rows};
 
-/// One atomic step that counts, on one word of the table. `Enabled.antt` says when it may come, `After.antt` what it writes.
+/// One atomic step that counts, on one word of the table. `Enabled.antt` says when it may come,
+/// and `After.antt` what it writes.
 ///
-/// `caller` is the number of the caller whose seat makes the step; in `Enter` it is the new caller's number, and the
-/// maker's seat makes the step. `change`, `node` and `rebuild` are bases of rows, and `rows` is what the step publishes.
+/// `caller` is the number of the caller whose seat makes the step; in `Enter` it is the new
+/// caller's number, and the maker's seat makes the step. `change`, `node` and `rebuild` are bases
+/// of rows, and `rows` is what the step publishes.
 #[derive(Drop)]
 pub enum Event {
     /// A new caller: adds 1 to the number of callers.
@@ -34,7 +36,7 @@ pub enum Event {
         change: u64,
         yes: bool,
     },
-    /// Takes the change out of its slot: exchanges its word for what it puts there, or for what stood there.
+    /// Takes the change out of its slot: exchanges its word for the one that its decision leaves.
     Resolve {
         caller: u64,
         change: u64,
@@ -83,7 +85,7 @@ pub enum Event {
         word: u64,
         rows: Rows,
     },
-    /// Gives up held rows that can't be published any more: the exchange of a Root or Place that fails, or a load.
+    /// Gives up held rows that may be too late: a failed exchange of a Root or Place, or a load.
     Lose {
         caller: u64,
         bases: Bases,

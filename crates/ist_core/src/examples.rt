@@ -1,4 +1,4 @@
-//! What the definitions mean on small examples. The functions take no steps: their contracts are facts.
+//! What the definitions mean on small examples. The functions take no steps: contracts are facts.
 ghost use Rattle.std.specs.Prelude.{◌≡◌, [], Some};
 ghost use Rattle.ist_core.specs.ExampleLogs.{two_pairs, two_pairs_words};
 ghost use Rattle.ist_core.specs.ExampleLogs.{put_installed, put_decided, put_resolved, put_unseen};
@@ -15,7 +15,8 @@ pub fn a_table_opens()
     ensures image { IsImage (start two_pairs 20) two_pairs_words }
 {}
 
-/// A put of (1, 1) into an empty table of 15 words: it uses them all, and its leaf stands in the anchor's slot.
+/// A put of (1, 1) into an empty table of 15 words: it uses them all, and its leaf stands in the
+/// anchor's slot.
 ///
 /// It isn't lawful where nobody saw the anchor open, nor where a word is missing.
 pub fn a_put_is_lawful()
@@ -33,14 +34,16 @@ pub fn a_change_is_read()
     ensures decided { logical (state_of [] 15 put_decided).pieces (word_of (ChangeAt 6)) ≡ Some (LeafAt 4) }
 {}
 
-/// The start of a rebuild of the anchor's child is lawful where that child isn't due, and a rebuild reads as its target.
+/// The start of a rebuild of the anchor's child is lawful where that child isn't due, and a rebuild
+/// reads as its target.
 pub fn a_start_is_lawful()
     ensures lawful { Lawful start_pairs 100 start_installed }
-    ensures rebuild { logical (state_of start_pairs 100 start_installed).pieces (word_of (RebuildAt 15)) ≡ Some (InnerAt 4) }
+    ensures rebuild { let ps = (state_of start_pairs 100 start_installed).pieces in
+        logical ps (word_of (RebuildAt 15)) ≡ Some (InnerAt 4) }
 {}
 
-/// The same rebuild carried through: its row is marked, passed and finished, a new row over the same leaves becomes the
-/// root, and the finish puts it into the anchor's slot. The contents stay.
+/// The same rebuild carried through: its target is marked, passed and finished, a new row over the
+/// same leaves becomes the root, and the finish puts it into the anchor's slot. The contents stay.
 pub fn a_rebuild_is_lawful()
     ensures lawful { Lawful start_pairs 100 rebuild_replaced }
     ensures next { (state_of start_pairs 100 rebuild_replaced).next ≡ 45 }

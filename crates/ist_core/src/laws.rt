@@ -1,4 +1,4 @@
-//! Laws over the definitions. The functions take no steps and answer nothing: each law is a contract.
+//! Laws over the definitions. The functions take no steps and answer nothing: contracts are laws.
 ghost use Rattle.std.specs.Prelude.{◌≡◌, List};
 ghost use Rattle.ist_core.specs.declared.pairs.Pair.{Pair};
 ghost use Rattle.ist_core.specs.Snapshots.{Snapshot};

@@ -1,4 +1,4 @@
-//! Small lists, which contracts see as lists: the words of a row, the rows that an event publishes, bases, held rows.
+//! Small lists, which contracts see as lists: words of a row, rows of an event, bases, held rows.
 ghost use Rattle.std.specs.Prelude.{◌≡◌};
 
 use std::marker::Model;

@@ -1,6 +1,7 @@
 //! Published rows by their bases. Contracts see each type here as a finite map from bases to rows.
 //!
-//! Each is kept as a vector of bases and rows in which the bases rise; it is made from such a vector and gives it back.
+//! Each is kept as a vector of bases and rows in which the bases rise; it is made from such a
+//! vector and gives it back.
 ghost use Rattle.std.specs.Prelude.{◌≡◌, map};
 ghost use Rattle.std.specs.List.Sorted.{IsStrictlyIncreasing};
 ghost use Rattle.std.specs.Ordering.{nat_cmp};

@@ -5,7 +5,8 @@ ghost use Rattle.ist_core.specs.Replies.{Answered, Refused};
 use crate::commands::{Command, Reply};
 use std::sync::Wait;
 
-/// No row could be reserved: of `words` words the first free one is `next`, and `asked` more were wanted.
+/// No row could be reserved: of `words` words the first free one is `next`, and `asked` more were
+/// wanted.
 #[derive(Clone, Copy, Debug, PartialEq, Eq, Drop)]
 pub struct Full {
     pub next: u64,

@@ -1,4 +1,4 @@
-//! The state of a table, and its rows by kind. `Pieces.antt` says which words of the table they are.
+//! The state of a table, and its rows by kind. `Pieces.antt` says which words a row has.
 use crate::lists::{HeldRows, Words};
 use crate::maps::{Changes, Inners, Leaves, Rebuilds};
 
@@ -9,8 +9,8 @@ pub struct LeafRow {
     pub value: u64,
 }
 
-/// An inner node: its degree is the number of its slots, and it has one key less. `size` is the number of keys below it
-/// when it was built, and `count` the number of changes that were counted at it since.
+/// An inner node: its degree is the number of its slots, and it has one key less. `size` is the
+/// number of keys below it when it was built, and `count` the number of changes counted since.
 #[derive(Drop)]
 pub struct InnerRow {
     pub status: u64,
@@ -21,8 +21,9 @@ pub struct InnerRow {
     pub slots: Words,
 }
 
-/// A change: what one double-compare single-swap is to do. It puts the word `to` into slot `index` of `node` where
-/// `from` stands there, unless the node is marked. `owner` is the caller who filled it.
+/// A change: the descriptor of one double-compare single-swap. It puts the word `to` into slot
+/// `index` of `node` where `from` stands there, unless the node is marked. `owner` is the caller
+/// that filled it.
 #[derive(Clone, Copy, Debug, PartialEq, Eq, Drop)]
 pub struct ChangeRow {
     pub decision: u64,
@@ -36,8 +37,8 @@ pub struct ChangeRow {
     pub value: u64,
 }
 
-/// A rebuild of the node `target`, which hangs in slot `index` of `parent`. `root` is the word of the subtree that is to
-/// take its place, and `draw` the number of parts of it that were drawn.
+/// A rebuild of the node `target`, which hangs in slot `index` of `parent`. `root` is the word of
+/// the subtree that is to take its place, and `draw` the number of parts of it that were drawn.
 #[derive(Clone, Copy, Debug, PartialEq, Eq, Drop)]
 pub struct RebuildRow {
     pub target: u64,
@@ -47,8 +48,9 @@ pub struct RebuildRow {
     pub draw: u64,
 }
 
-/// The state of a table of `words` words, of which those from `next` on are free, with `callers` callers and the word
-/// `anchor` in the anchor's slot. The four maps go from bases to published rows, and `held` are the rows that callers hold.
+/// The state of a table of `words` words, of which those from `next` on are free, with `callers`
+/// callers and the word `anchor` in the anchor's slot. The four maps go from bases to published
+/// rows, and `held` are the rows that callers hold.
 #[derive(Drop)]
 pub struct State {
     pub words: u64,
