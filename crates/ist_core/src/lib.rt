@@ -22,3 +22,6 @@ pub use maps::{Changes, Inners, Leaves, Rebuilds};
 pub use pairs::Pair;
 pub use ports::{Full, Port};
 pub use states::{ChangeRow, InnerRow, LeafRow, RebuildRow, State};
+
+#[cfg(test)]
+mod tests;
