@@ -6,4 +6,5 @@ pub mod PieceLemmas
 pub mod PutExampleLemmas
 pub mod RebuildExampleLemmas
 pub mod ShapeLemmas
+pub mod SnapshotLemmas
 pub mod StartExampleLemmas

@@ -1,8 +1,16 @@
 //! Laws over the definitions. The functions take no steps and answer nothing: contracts are laws.
-ghost use Rattle.std.specs.Prelude.{◌≡◌, List};
+ghost use Rattle.std.specs.Prelude.{◌≡◌, ℕ, List};
 ghost use Rattle.ist_core.specs.declared.pairs.Pair.{Pair};
-ghost use Rattle.ist_core.specs.Snapshots.{Snapshot};
+ghost use Rattle.ist_core.specs.declared.states.State.{State};
+ghost use Rattle.ist_core.specs.Snapshots.{Snapshot, Shows};
 ghost use Rattle.ist_core.specs.Leaves.{HasContents};
+
+/// A snapshot is shown by one state, and a state shows the rows of one snapshot.
+pub fn states_are_shown()
+    ensures one_state { (s u : State) (t : Snapshot) → Shows s t → Shows u t → s ≡ u }
+    ensures one_snapshot { (s : State) (t u : Snapshot) → Shows s t → Shows s u
+        → (base : ℕ) → t.pieces base ≡ u.pieces base }
+{}
 
 /// A table has one list of contents at most.
 pub fn contents_are_one()
