@@ -19,69 +19,15 @@ use Rattle.ist_core.specs.Installing.{CanInstall, a_finish}
 use Rattle.ist_core.specs.Deciding.{CanOkay, CanDecide, CanResolve}
 use Rattle.ist_core.specs.Enabled.{CanReserve}
 use Rattle.ist_core.specs.Lawful.{Lawful}
-use Rattle.ist_core.specs.ExampleLogs.{start_pairs, rebuild_rooted, finish_rows, finish_installed, rebuild_replaced}
+use Rattle.ist_core.specs.ExampleLogs.{start_pairs, rebuild_started, rebuild_rooted, finish_rows, finish_installed, rebuild_replaced}
 use Rattle.ist_core.proofs.PieceLemmas.{among-pieces_of}
 use Rattle.ist_core.proofs.StartExampleLemmas.{two, start_is_lawful}
 use Rattle.ist_core.proofs.RebuildExampleLemmas.{the_start, the_finish, the_rebuild, the_row, low, high, both, rooted_log}
+use Rattle.ist_core.proofs.RefusalLemmas.{NotRefused, NoneRefused, none_refused-with_row, none_refused-changed_at, slot_keeps, status_keeps, yes_keeps, root_keeps}
 
--- ---- rows that were not decided no
+-- ---- no change was refused up to the start of the rebuild
 
--- the row is no change that was decided no
-NotRefused : Piece → Type 0
-NotRefused (Change r) = r.decision ≢ decided_no
-NotRefused _ = Unit {0}
-
--- no row is a change that was decided no
-abbrev NoneRefused : Pieces → Type 0
-NoneRefused ps = (base : ℕ) (p : Piece) → ps base ≡ Some p → NotRefused p
-
-none_refused-with_row : (ps : Pieces) (at : ℕ) (p : Piece) → NotRefused p → NoneRefused ps → NoneRefused (with_row ps at (Some p))
-none_refused-with_row ps at p h all base q e =
-    elim (base == at) as (λ b. (if b then Some p else ps base) ≡ Some q → NotRefused q) [
-      | true ↦ λ found. let same : p ≡ q = cc in subst NotRefused same h
-      | false ↦ λ found. all base q found
-    ] e
-
-mapped : (f : Piece → Piece) (o : Option Piece) (q : Piece) → option_map f o ≡ Some q → (p : Piece) × (o ≡ Some p) × (f p ≡ q)
-mapped f None q e = absurd (cc)
-mapped f (Some p) q e = (p, refl, (cc))
-
-none_refused-changed_at : (ps : Pieces) (at : ℕ) (f : Piece → Piece) → ((p : Piece) → NotRefused p → NotRefused (f p)) → NoneRefused ps → NoneRefused (changed_at ps at f)
-none_refused-changed_at ps at f keeps all base q e =
-    elim (base == at) as (λ b. (if b then option_map f (ps base) else ps base) ≡ Some q → NotRefused q) [
-      | true ↦ λ found. let it = mapped f (ps base) q found in subst NotRefused it.2 (keeps it.0 (all base it.0 it.1))
-      | false ↦ λ found. all base q found
-    ] e
-
-slot_keeps : (i word : ℕ) (p : Piece) → NotRefused p → NotRefused (with_slot i word p)
-unfolding NotRefused
-slot_keeps i word (Leaf r) h = h
-slot_keeps i word (Inner r) h = h
-slot_keeps i word (Change r) h = h
-slot_keeps i word (Rebuild r) h = h
-
-status_keeps : (status : ℕ) (p : Piece) → NotRefused p → NotRefused (with_status status p)
-unfolding NotRefused
-status_keeps status (Leaf r) h = h
-status_keeps status (Inner r) h = h
-status_keeps status (Change r) h = h
-status_keeps status (Rebuild r) h = h
-
-yes_keeps : (p : Piece) → NotRefused p → NotRefused (with_decision 1 p)
-unfolding NotRefused
-yes_keeps (Leaf r) h = h
-yes_keeps (Inner r) h = h
-yes_keeps (Change r) h = λ e. omega arith
-yes_keeps (Rebuild r) h = h
-
-root_keeps : (word : ℕ) (p : Piece) → NotRefused p → NotRefused (with_root word p)
-unfolding NotRefused
-root_keeps word (Leaf r) h = h
-root_keeps word (Inner r) h = h
-root_keeps word (Change r) h = h
-root_keeps word (Rebuild r) h = h
-
-at_opening : NoneRefused two.pieces
+pub at_opening : NoneRefused two.pieces
 unfolding NotRefused rows_within degree square_root root_up_to part_len part_lens ideal_words ideal_words_within
 at_opening base p e = by_row (among-pieces_of (rows_from first_row start_pairs) base p e)
   where
@@ -91,6 +37,14 @@ at_opening base p e = by_row (among-pieces_of (rows_from first_row start_pairs) 
     by_row (inr (inr (inl e))) = subst (λ row. NotRefused row.1) (sym e) tt
     by_row (inr (inr (inr e))) = absurd e
 
+pub none_refused_started : NoneRefused (state two rebuild_started).pieces
+unfolding NotRefused
+none_refused_started =
+    let installed = none_refused-with_row _ 20 (Change (the_start 0)) (λ e. omega arith) (none_refused-with_row _ 15 (Rebuild (the_rebuild 7)) tt at_opening) in
+    let standing = none_refused-changed_at _ 2 (with_slot 0 163) (slot_keeps 0 163) installed in
+    let decided = none_refused-changed_at _ 20 (with_decision 1) yes_keeps standing in
+    none_refused-changed_at _ 2 (with_slot 0 124) (slot_keeps 0 124) decided
+
 -- ---- the finish
 
 abbrev finish_held : Log
@@ -99,11 +53,7 @@ finish_held = Reserve 0 36 9 ∷ rebuild_rooted
 none_refused : NoneRefused (state two finish_held).pieces
 unfolding NotRefused
 none_refused =
-    let installed = none_refused-with_row _ 20 (Change (the_start 0)) (λ e. omega arith) (none_refused-with_row _ 15 (Rebuild (the_rebuild 7)) tt at_opening) in
-    let standing = none_refused-changed_at _ 2 (with_slot 0 163) (slot_keeps 0 163) installed in
-    let decided = none_refused-changed_at _ 20 (with_decision 1) yes_keeps standing in
-    let resolved = none_refused-changed_at _ 2 (with_slot 0 124) (slot_keeps 0 124) decided in
-    let marked = none_refused-changed_at _ 4 (with_status 1) (status_keeps 1) resolved in
+    let marked = none_refused-changed_at _ 4 (with_status 1) (status_keeps 1) none_refused_started in
     let finished = none_refused-changed_at _ 4 (with_status 11) (status_keeps 11) marked in
     let with_root_row = none_refused-with_row _ 29 (Inner (the_row 0)) tt finished in
     none_refused-changed_at _ 15 (with_root 234) (root_keeps 234) with_root_row

@@ -5,6 +5,7 @@ pub mod LeafLemmas
 pub mod PieceLemmas
 pub mod PutExampleLemmas
 pub mod RebuildExampleLemmas
+pub mod RefusalLemmas
 pub mod ShapeLemmas
 pub mod SnapshotLemmas
 pub mod StartExampleLemmas
