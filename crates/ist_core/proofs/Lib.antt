@@ -1,6 +1,7 @@
 pub mod ArithmeticLemmas
 pub mod EntryLemmas
 pub mod FinishExampleLemmas
+pub mod LateExampleLemmas
 pub mod LeafLemmas
 pub mod PieceLemmas
 pub mod PutExampleLemmas

@@ -60,7 +60,7 @@ start_decided = record { known = omega arith; change = the_start 0; pending = re
 start_resolved : CanResolve (state two (Decide 0 20 true ∷ Okay 0 20 ∷ start_installed)) 0 20
 start_resolved = record { known = omega arith; change = the_start 1; published = refl; decided = λ e. omega arith; in_slot = in_anchor refl refl refl }
 
-started : EachEnabled two rebuild_started
+pub started : EachEnabled two rebuild_started
 started = (((start_is_lawful.enabled, start_okayed), start_decided), start_resolved)
 
 -- ---- the target is marked, passed and finished

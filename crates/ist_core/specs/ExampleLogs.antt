@@ -95,3 +95,32 @@ finish_installed = Install 0 36 finish_rows ∷ Reserve 0 36 9 ∷ rebuild_roote
 -- it is decided and leaves the slot, where the new row stands now
 abbrev pub rebuild_replaced : Log
 rebuild_replaced = Resolve 0 36 ∷ Decide 0 36 true ∷ Okay 0 36 ∷ finish_installed
+
+-- ---- an update that the rebuild overtakes
+
+-- callers 1 and 2 enter, and caller 1 reserves the rows of a put
+abbrev pub late_reserved : Log
+late_reserved = Reserve 1 31 9 ∷ Reserve 1 29 2 ∷ Enter 2 ∷ Enter 1 ∷ rebuild_started
+
+-- the rows of the put of (20, 9) in the target of the rebuild: the change at 31, and the leaf at 29
+abbrev pub late_rows : List Row
+late_rows =
+    record { base = 31; words = 0 ∷ 1 ∷ 4 ∷ 1 ∷ 105 ∷ 233 ∷ 1 ∷ 20 ∷ 9 ∷ [] }
+    ∷ record { base = 29; words = 20 ∷ 9 ∷ [] }
+    ∷ []
+
+-- the put is installed, caller 2 sees the target open, and only then caller 0 marks it
+abbrev pub late_marked : Log
+late_marked = Mark 0 4 ∷ Okay 2 31 ∷ Install 1 31 late_rows ∷ late_reserved
+
+-- caller 2 decides yes all the same, and caller 0 takes the change out of the slot
+abbrev pub late_resolved : Log
+late_resolved = Resolve 0 31 ∷ Decide 2 31 true ∷ late_marked
+
+-- caller 0 passes both slots, the second with the new leaf, and finishes the target
+abbrev pub late_finished : Log
+late_finished = Finish 0 4 2 ∷ Pass 0 4 1 233 ∷ Pass 0 4 0 89 ∷ late_resolved
+
+-- the same put, installed only behind the mark and decided yes
+abbrev pub too_late : Log
+too_late = Decide 2 31 true ∷ Install 1 31 late_rows ∷ Mark 0 4 ∷ late_reserved

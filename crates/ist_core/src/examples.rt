@@ -1,8 +1,11 @@
 //! What the definitions mean on small examples. The functions take no steps: contracts are facts.
-ghost use Rattle.std.specs.Prelude.{◌≡◌, [], Some};
+ghost use Rattle.std.specs.Prelude.{◌≡◌, [], ◌∷◌, Some};
+ghost use Rattle.ist_core.specs.declared.commands.Command.TheVariants.{Put};
 ghost use Rattle.ist_core.specs.ExampleLogs.{two_pairs, two_pairs_words};
 ghost use Rattle.ist_core.specs.ExampleLogs.{put_installed, put_decided, put_resolved, put_unseen};
 ghost use Rattle.ist_core.specs.ExampleLogs.{start_pairs, start_installed, rebuild_replaced};
+ghost use Rattle.ist_core.specs.ExampleLogs.{late_finished, too_late};
+ghost use Rattle.ist_core.specs.Changes.{changes_of};
 ghost use Rattle.ist_core.specs.References.{Empty, LeafAt, InnerAt, ChangeAt, RebuildAt, word_of};
 ghost use Rattle.ist_core.specs.StartLayout.{start};
 ghost use Rattle.ist_core.specs.Images.{IsImage};
@@ -49,4 +52,18 @@ pub fn a_rebuild_is_lawful()
     ensures next { (state_of start_pairs 100 rebuild_replaced).next ≡ 45 }
     ensures anchor { (state_of start_pairs 100 rebuild_replaced).anchor ≡ word_of (InnerAt 29) }
     ensures contents { HasContents (state_of start_pairs 100 rebuild_replaced) start_pairs }
+{}
+
+/// A put of (20, 9) in the target of a rebuild, whose node was seen open before the mark and which is
+/// decided yes behind it: it takes effect, and its leaf is what is passed.
+///
+/// Where it is installed only behind the mark, nobody can have seen the node open, and yes isn't
+/// lawful.
+pub fn an_overtaken_put_is_lawful()
+    ensures lawful { Lawful start_pairs 100 late_finished }
+    ensures changes { changes_of start_pairs 100 late_finished
+        ≡ record { owner = 1; command = Put 20 9; reply = Some 2 } ∷ [] }
+    ensures contents { HasContents (state_of start_pairs 100 late_finished)
+        (record { key = 10; value = 1 } ∷ record { key = 20; value = 9 } ∷ []) }
+    ensures too_late { ¬ (Lawful start_pairs 100 too_late) }
 {}
