@@ -1,11 +1,10 @@
 -- The end of the log of a whole rebuild is lawful, and it leaves the contents. Serves `examples.a_rebuild_is_lawful`.
-use Rattle.std.proofs.Common.{◌≡◌, ℕ, zero, suc, ◌==◌, ◌≢◌, true, false, if◌then◌else◌, [], ◌∷◌, slice_get, Option, Some, None, option_map, refl, inl, inr, ap, sym, subst, ◌∙◌, arith}
+use Rattle.std.proofs.Common.{◌≡◌, ℕ, zero, suc, ◌≢◌, true, [], ◌∷◌, slice_get, Some, refl, inl, inr, ap, sym, subst, ◌∙◌, arith}
 use Rattle.ist_core.specs.declared.events.Event.TheVariants.{Reserve, Okay, Decide}
 use Rattle.ist_core.specs.Arithmetic.{degree, square_root, root_up_to, part_len, part_lens}
 use Rattle.ist_core.specs.Shapes.{ideal_words, ideal_words_within}
 use Rattle.ist_core.specs.References.{InnerAt, ref_of}
-use Rattle.ist_core.specs.Statuses.{decided_no}
-use Rattle.ist_core.specs.Pieces.{Pieces, Piece, Leaf, Inner, Change, Rebuild, with_row, changed_at, with_slot, with_status, with_decision, with_root}
+use Rattle.ist_core.specs.Pieces.{Inner, Change, Rebuild, with_slot, with_status, with_decision, with_root}
 use Rattle.ist_core.specs.StartLayout.{rows_within, rows_from}
 use Rattle.ist_core.specs.RowLayout.{first_row}
 use Rattle.ist_core.specs.Lists.{Among}

@@ -1,11 +1,9 @@
 -- The log of a put that a rebuild overtakes is lawful. Serves `examples.an_overtaken_put_is_lawful`.
-use Rattle.std.proofs.Common.{◌≡◌, ℕ, ◌⊎◌, true, List, [], ◌∷◌, Some, refl, inl, inr, arith}
+use Rattle.std.proofs.Common.{◌≡◌, ℕ, ◌⊎◌, true, [], ◌∷◌, Some, refl, inl, inr, arith}
 use Rattle.ist_core.specs.declared.commands.Command.TheVariants.{Put}
-use Rattle.ist_core.specs.declared.pairs.Pair.{Pair}
-use Rattle.ist_core.specs.declared.states.LeafRow.{LeafRow}
 use Rattle.ist_core.specs.declared.states.InnerRow.{InnerRow}
 use Rattle.ist_core.specs.declared.states.ChangeRow.{ChangeRow}
-use Rattle.ist_core.specs.declared.events.Event.TheVariants.{Enter, Reserve, Install, Okay, Decide, Mark, Pass}
+use Rattle.ist_core.specs.declared.events.Event.TheVariants.{Enter, Reserve, Install, Okay, Decide, Pass}
 use Rattle.ist_core.specs.Arithmetic.{degree, square_root, root_up_to, part_len, part_lens}
 use Rattle.ist_core.specs.Shapes.{ideal_words, ideal_words_within}
 use Rattle.ist_core.specs.References.{ref_of}
@@ -15,7 +13,7 @@ use Rattle.ist_core.specs.StartLayout.{rows_within}
 use Rattle.ist_core.specs.Logs.{state, Log}
 use Rattle.ist_core.specs.Slots.{in_anchor, in_row, row_is, of_anchor, of_row}
 use Rattle.ist_core.specs.Links.{IsChild, at_anchor, below, from_anchor, down}
-use Rattle.ist_core.specs.Leaves.{PlacedLeaf, leaf_here, row_here, no_slot, one_slot, HasContents}
+use Rattle.ist_core.specs.Leaves.{leaf_here, row_here, no_slot, one_slot, HasContents}
 use Rattle.ist_core.specs.Rebuilding.{IsStarted}
 use Rattle.ist_core.specs.Fairness.{at_end, from_right, no_build}
 use Rattle.ist_core.specs.Installing.{CanInstall, same_key, a_put}
@@ -27,7 +25,7 @@ use Rattle.ist_core.specs.Lawful.{Lawful, EachEnabled}
 use Rattle.ist_core.specs.Changes.{changes_of}
 use Rattle.ist_core.specs.ExampleLogs.{start_pairs, rebuild_started, late_reserved, late_rows, late_marked, late_resolved, late_finished}
 use Rattle.ist_core.proofs.StartExampleLemmas.{two, start_is_lawful}
-use Rattle.ist_core.proofs.RebuildExampleLemmas.{the_start, the_rebuild, the_row, low, high, started}
+use Rattle.ist_core.proofs.RebuildExampleLemmas.{the_start, the_rebuild, low, high, started}
 use Rattle.ist_core.proofs.RefusalLemmas.{NotRefused, NoneRefused}
 use Rattle.ist_core.proofs.FinishExampleLemmas.{none_refused_started}
 

@@ -1,5 +1,5 @@
 -- Rows among which no change was decided no. Serves `examples`, where a change is installed.
-use Rattle.std.proofs.Common.{◌≡◌, ℕ, ◌==◌, ◌≢◌, Bool, true, false, if◌then◌else◌, Option, Some, None, option_map, refl, inl, inr, sym, subst, arith}
+use Rattle.std.proofs.Common.{◌≡◌, ℕ, ◌==◌, ◌≢◌, true, false, if◌then◌else◌, Option, Some, None, option_map, refl, subst, arith}
 use Rattle.ist_core.specs.Statuses.{decided_no}
 use Rattle.ist_core.specs.Pieces.{Pieces, Piece, Leaf, Inner, Change, Rebuild, with_row, changed_at, with_slot, with_status, with_decision, with_root}
 

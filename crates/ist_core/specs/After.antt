@@ -23,7 +23,8 @@ side_of change = if change.decision == decided_yes then change.to else change.fr
 
 -- the rows with those published that stand behind the change's row: a pair row and a leaf, or a rebuild, or a leaf
 abbrev pub with_fresh : Pieces → ChangeRow → List Row → Pieces
-with_fresh ps change (pair ∷ leaf ∷ []) = with_row (with_row ps leaf.base (leaf_of leaf.words)) pair.base (inner_of pair.words)
+with_fresh ps change (pair ∷ leaf ∷ []) =
+    with_row (with_row ps leaf.base (leaf_of leaf.words)) pair.base (inner_of pair.words)
 with_fresh ps change (fresh ∷ []) =
     with_row ps fresh.base (if change.kind == start_kind then rebuild_of fresh.words else leaf_of fresh.words)
 with_fresh ps change _ = ps

@@ -42,7 +42,8 @@ pub record CanRoot (t : Snapshot) (caller rebuild word : ℕ) (rows : List Row) 
   pub once : Distinct (bases_of rows)
   pub held : HoldsRows t caller rows
 
--- a part of a shared root may be drawn: it is the rebuild's draw word, and no part that the caller drew before lay past the last
+-- a part of a shared root may be drawn: it is the rebuild's draw word, and no part that the caller drew before lay past
+-- the last
 pub record CanDraw (t : Snapshot) (log : Log) (caller rebuild part : ℕ) : Type 0 where
   pub known : caller < t.callers
   pub row : RebuildRow
@@ -86,7 +87,8 @@ HoldsSizes t caller _ _ = ⊥
 -- behind the caller's last Root, Place or Lose another caller's Root or Place with these sizes stands in the log
 abbrev pub IsBeaten : ℕ → List ℕ → Log → Type 0
 IsBeaten caller sizes [] = ⊥
-IsBeaten caller sizes (Root c rebuild word rows ∷ log) = (c ≢ caller) × ((sizes_of rows ≡ sizes) ⊎ IsBeaten caller sizes log)
+IsBeaten caller sizes (Root c rebuild word rows ∷ log) =
+    (c ≢ caller) × ((sizes_of rows ≡ sizes) ⊎ IsBeaten caller sizes log)
 IsBeaten caller sizes (Place c rebuild i word rows ∷ log) =
     (c ≢ caller) × ((sizes_of rows ≡ sizes) ⊎ IsBeaten caller sizes log)
 IsBeaten caller sizes (Lose c bases ∷ log) = (c ≢ caller) × IsBeaten caller sizes log

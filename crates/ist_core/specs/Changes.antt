@@ -53,7 +53,9 @@ entry_of ps _ = []
 -- the changes of a log, the oldest first: one entry for each Decide with yes of a put or remove
 abbrev pub changes : Snapshot → Log → List Entry
 changes first [] = []
-changes first (Decide caller base true ∷ log) = changes first log ++ entry_of (state first log).pieces ((state first log).pieces base)
+changes first (Decide caller base true ∷ log) =
+    let ps = (state first log).pieces in
+    changes first log ++ entry_of ps (ps base)
 changes first (_ ∷ log) = changes first log
 
 -- the changes of a log that begins at the start layout

@@ -7,7 +7,7 @@ use Rattle.ist_core.specs.References.{ChangeAt, word_of}
 use Rattle.ist_core.specs.Statuses.{undecided}
 use Rattle.ist_core.specs.Pieces.{Change}
 use Rattle.ist_core.specs.Snapshots.{Snapshot}
-use Rattle.ist_core.specs.Logs.{Log, state, Happened, Okays, Counts}
+use Rattle.ist_core.specs.Logs.{Log, state, Happened, Okays, Resolves, Counts}
 use Rattle.ist_core.specs.Slots.{SlotHolds, IsOpen}
 use Rattle.ist_core.specs.Links.{WasOnChain}
 use Rattle.ist_core.specs.Rebuilding.{IsUpdate}
@@ -16,6 +16,16 @@ use Rattle.ist_core.specs.Rebuilding.{IsUpdate}
 pub record IsPending (t : Snapshot) (base : ℕ) (change : ChangeRow) : Type 0 where
   pub published : t.pieces base ≡ Some (Change change)
   pub unset : change.decision ≡ undecided
+
+-- each change that was installed by the caller has left its slot
+abbrev pub AllResolvedOf : Snapshot → Log → ℕ → Type 0
+AllResolvedOf t log caller =
+    (base : ℕ) (change : ChangeRow) → t.pieces base ≡ Some (Change change) → change.owner ≡ caller
+    → Happened (Resolves base) log
+
+-- each change that was installed has left its slot
+abbrev pub AllResolved : Snapshot → Log → Type 0
+AllResolved t log = (caller : ℕ) → AllResolvedOf t log caller
 
 -- an Okay may come: the change is pending, and its node is open
 pub record CanOkay (t : Snapshot) (caller base : ℕ) : Type 0 where

@@ -41,8 +41,10 @@ pub data AreBuilds (t : Snapshot) : List ℕ → Type 0 where
 -- the sizes are those of the second list and those of the third, each in its order
 pub data IsMerge : List ℕ → List ℕ → List ℕ → Type 0 where
   at_end : IsMerge [] [] []
-  from_left : {sizes left right : List ℕ} (size : ℕ) → IsMerge sizes left right → IsMerge (size ∷ sizes) (size ∷ left) right
-  from_right : {sizes left right : List ℕ} (size : ℕ) → IsMerge sizes left right → IsMerge (size ∷ sizes) left (size ∷ right)
+  from_left : {sizes left right : List ℕ} (size : ℕ) → IsMerge sizes left right
+      → IsMerge (size ∷ sizes) (size ∷ left) right
+  from_right : {sizes left right : List ℕ} (size : ℕ) → IsMerge sizes left right
+      → IsMerge (size ∷ sizes) left (size ∷ right)
 
 -- the sizes of the rows that a caller may hold beside a build, one of each
 abbrev pub spare_sizes : List ℕ

@@ -2,15 +2,23 @@
 use Rattle.std.specs.Prelude.{◌≡◌, ℕ, ◌+◌, ◌==◌, nat_lt, Bool, not, if◌then◌else◌, List, [], ◌∷◌, ◌++◌, map, filter}
 use Rattle.std.specs.List.{flat_map}
 use Rattle.ist_core.specs.declared.calls.Call.{Call}
+use Rattle.ist_core.specs.declared.pairs.Pair.{Pair}
 use Rattle.ist_core.specs.Map.{Map, replies}
 use Rattle.ist_core.specs.Replies.{Answered}
+use Rattle.ist_core.specs.Lists.{Each}
+use Rattle.ist_core.specs.Logs.{Log, GoesOn}
 use Rattle.ist_core.specs.Changes.{Entry}
-use Rattle.ist_core.specs.Standing.{is_change}
+use Rattle.ist_core.specs.Standing.{is_change, StandsIn}
 
 -- a pass: its number and its calls, in order
 pub record PassCalls : Type 0 where
   pub number : ℕ
   pub calls : List Call
+
+-- each pass stands in a prefix of the log
+abbrev pub StandInPrefixes : List Pair → ℕ → Log → List PassCalls → Type 0
+StandInPrefixes pairs words log passes =
+    Each (λ pass. (prefix : Log) × GoesOn prefix log × StandsIn pairs words prefix pass.number pass.calls) passes
 
 -- a call that makes no entry, with the number of its pass
 pub record Reading : Type 0 where
@@ -19,7 +27,9 @@ pub record Reading : Type 0 where
 
 -- the readings of a pass
 abbrev pub readings_of : PassCalls → List Reading
-readings_of pass = map (λ call. record { number = pass.number; call = call }) (filter (λ call. not (is_change call)) pass.calls)
+readings_of pass =
+    let reads = filter (λ call. not (is_change call)) pass.calls in
+    map (λ call. record { number = pass.number; call = call }) reads
 
 -- the readings of some passes
 abbrev pub readings : List PassCalls → List Reading

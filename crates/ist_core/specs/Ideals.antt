@@ -33,6 +33,7 @@ mutual
   -- each word is the ideal subtree over its part
   pub data AreIdeal (ps : Pieces) : List ℕ → List (List PlacedLeaf) → ℕ → List ℕ → Type 0 where
     no_part : {above : ℕ} → AreIdeal ps [] [] above []
-    one_part : {word above : ℕ} {words here rest : List ℕ} {part : List PlacedLeaf} {behind : List (List PlacedLeaf)} (ref : Ref)
+    one_part : {word above : ℕ} {words here rest : List ℕ} {part : List PlacedLeaf}
+        {behind : List (List PlacedLeaf)} (ref : Ref)
         → ref_of word ≡ Some ref → IsIdeal ps ref part above here → AreIdeal ps words behind above rest
         → AreIdeal ps (word ∷ words) (part ∷ behind) above (here ++ rest)

@@ -21,14 +21,18 @@ use Rattle.ist_core.specs.Rebuilding.{IsDue, IsStarted, IsBuilt}
 abbrev pub new_leaf : ChangeRow → Piece
 new_leaf change = Leaf record { key = change.key; value = change.value }
 
+-- how many leaves a pair row has
+abbrev pub pair_leaves : ℕ
+pair_leaves = 2
+
 -- an inner row over two leaves: the key of the right one leads to it
 abbrev pub pair_over : ℕ → ℕ → ℕ → Piece
 pair_over right_key left right =
     Inner record {
       status = open_word;
       count = 0;
-      degree = 2;
-      size = 2;
+      degree = pair_leaves;
+      size = pair_leaves;
       keys = right_key ∷ [];
       slots = word_of (LeafAt left) ∷ word_of (LeafAt right) ∷ [];
     }

@@ -19,8 +19,10 @@ pub record HasTarget (t : Snapshot) (rebuild target : ℕ) : Type 0 where
 -- row, or the target of a rebuild that was passed so
 pub data IsCalled (t : Snapshot) (log : Log) (node : ℕ) : Type 0 where
   as_target : (rebuild : ℕ) → HasTarget t rebuild node → IsStarted t rebuild → IsCalled t log node
-  as_child : (above i word : ℕ) → Happened (Passes above i word) log → ref_of word ≡ Some (InnerAt node) → IsCalled t log node
-  behind_rebuild : (above i word rebuild : ℕ) → Happened (Passes above i word) log → ref_of word ≡ Some (RebuildAt rebuild)
+  as_child : (above i word : ℕ) → Happened (Passes above i word) log → ref_of word ≡ Some (InnerAt node)
+      → IsCalled t log node
+  behind_rebuild : (above i word rebuild : ℕ) → Happened (Passes above i word) log
+      → ref_of word ≡ Some (RebuildAt rebuild)
       → HasTarget t rebuild node → IsCalled t log node
 
 -- an open row may be marked where there is a cause

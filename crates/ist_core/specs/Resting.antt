@@ -3,26 +3,23 @@ use Rattle.std.specs.Prelude.{◌≡◌, ℕ, ◌+◌, ◌<◌, List, [], ◌∷
 use Rattle.ist_core.specs.declared.calls.Call.{Call}
 use Rattle.ist_core.specs.declared.pairs.Pair.{Pair}
 use Rattle.ist_core.specs.declared.states.InnerRow.{InnerRow}
-use Rattle.ist_core.specs.declared.states.ChangeRow.{ChangeRow}
 use Rattle.ist_core.specs.Arithmetic.{limit}
 use Rattle.ist_core.specs.Statuses.{open_word}
 use Rattle.ist_core.specs.Replies.{Answered}
-use Rattle.ist_core.specs.Pieces.{Inner, Change}
+use Rattle.ist_core.specs.Pieces.{Inner}
 use Rattle.ist_core.specs.Snapshots.{Snapshot}
 use Rattle.ist_core.specs.Images.{IsImage}
-use Rattle.ist_core.specs.Logs.{Log, Happened, Resolves}
+use Rattle.ist_core.specs.Logs.{Log}
 use Rattle.ist_core.specs.Links.{Linked}
+use Rattle.ist_core.specs.Deciding.{AllResolved}
 use Rattle.ist_core.specs.Lawful.{Lawful, state_of}
 use Rattle.ist_core.specs.Standing.{StandsIn}
 
 -- each linked inner row is open, and has a count below its limit
 pub record IsSettled (t : Snapshot) : Type 0 where
   pub all_open : (node : ℕ) (row : InnerRow) → Linked t node → t.pieces node ≡ Some (Inner row) → row.status ≡ open_word
-  pub none_due : (node : ℕ) (row : InnerRow) → Linked t node → t.pieces node ≡ Some (Inner row) → row.count < limit row.size
-
--- each change that was installed has left its slot
-abbrev pub AllResolved : Snapshot → Log → Type 0
-AllResolved t log = (base : ℕ) (change : ChangeRow) → t.pieces base ≡ Some (Change change) → Happened (Resolves base) log
+  pub none_due : (node : ℕ) (row : InnerRow) → Linked t node → t.pieces node ≡ Some (Inner row)
+      → row.count < limit row.size
 
 -- the table is at rest: it has as many callers as passes were taken back, and these are their calls, by number
 abbrev pub AtRest : Snapshot → List (List Call) → Type 0

@@ -48,7 +48,8 @@ AllFollow (call ∷ calls) = Each (Follows call) calls × AllFollow calls
 
 -- the calls of the pass with this number stand among the changes of a map
 pub record StandAmong (m : Map) (entries : List Entry) (number : ℕ) (calls : List Call) : Type 0 where
-  pub made : (call : Call) → Among call calls → is_change call ≡ true → slice_get entries call.position ≡ Some (entry_by number call)
+  pub made : (call : Call) → Among call calls → is_change call ≡ true
+      → slice_get entries call.position ≡ Some (entry_by number call)
   pub exactly : entries_by number entries ≡ map (entry_by number) (filter is_change calls)
   pub read : (call : Call) → Among call calls → is_change call ≡ false → IsRead m entries call
   pub in_order : AllFollow calls
