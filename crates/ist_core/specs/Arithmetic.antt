@@ -1,6 +1,7 @@
--- Arithmetic of the tree: how many children a node has, which keys each child has, when a node is due for a rebuild,
--- and which child a key belongs to.
-use Rattle.std.specs.Prelude.{ℕ, zero, suc, ◌+◌, ◌*◌, ◌/◌, ◌%◌, max, nat_le, nat_lt, if◌then◌else◌, List, map}
+-- Arithmetic of the tree: how many children a node has, which keys each child has, when a node is
+-- due for a rebuild, and in which child a key lies.
+use Rattle.std.specs.Prelude.{ℕ, zero, suc, ◌+◌, ◌*◌, ◌/◌, ◌%◌, max, nat_le, nat_lt, if◌then◌else◌,
+    List, map}
 use Rattle.std.specs.List.{sum, count_by, range_with_len}
 
 -- the largest number, up to `top`, whose square is at most n
@@ -20,7 +21,7 @@ least_degree = 2
 unfoldable pub degree : ℕ → ℕ
 degree n = max least_degree (square_root n)
 
--- how many of n keys child j has: all children have equally many, but the first ones one more each of what is left over
+-- how many of n keys child j has: an equal share, and the first children one more of what is left
 unfoldable pub part_len : ℕ → ℕ → ℕ
 part_len n j = n / degree n + (if nat_lt j (n % degree n) then 1 else 0)
 
@@ -40,6 +41,6 @@ least_limit = 8
 abbrev pub limit : ℕ → ℕ
 limit size = max least_limit (size / 4)
 
--- the child of a node with these keys in whose range x lies, counted from 0: the number of keys that are at most x
+-- the child in whose range x lies, counted from 0: the number of keys that are at most x
 abbrev pub child_count : List ℕ → ℕ → ℕ
 child_count keys x = count_by (λ key. nat_le key x) keys

@@ -1,5 +1,6 @@
 -- What stands in a slot of a node, as a reference and as the word for it.
-use Rattle.std.specs.Prelude.{ℕ, ◌+◌, ◌*◌, ◌/◌, ◌%◌, ◌<◌, ◌≤◌, ◌==◌, ◌&&◌, nat_le, nat_lt, if◌then◌else◌, ⊤, Option, Some, None}
+use Rattle.std.specs.Prelude.{ℕ, ◌+◌, ◌*◌, ◌/◌, ◌%◌, ◌<◌, ◌≤◌, ◌==◌, ◌&&◌, nat_le, nat_lt,
+    if◌then◌else◌, ⊤, Option, Some, None}
 use Rattle.ist_core.specs.RowLayout.{place_limit, first_row}
 
 -- what a slot names: nothing, a part of a shared root that isn't built yet, or a row by its base
@@ -73,7 +74,8 @@ row_tagged tag base =
 
 -- the same, of good bases alone
 abbrev pub good_row_tagged : ℕ → ℕ → Option Ref
-good_row_tagged tag base = if nat_le first_row base && nat_lt base place_limit then row_tagged tag base else None
+good_row_tagged tag base =
+    if nat_le first_row base && nat_lt base place_limit then row_tagged tag base else None
 
 -- the good reference whose word this is, or none where there is none
 unfoldable pub ref_of : ℕ → Option Ref

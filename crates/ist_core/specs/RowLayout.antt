@@ -1,4 +1,4 @@
--- Where the words of a table lie: the fixed words at its start, the rows behind them, and the fields of each row.
+-- Where the words of a table lie: the fixed words at its start, the rows, and the fields of a row.
 -- A row is named by its base, the place of its first word. An offset counts from the base.
 use Rattle.std.specs.Prelude.{ℕ, ◌+◌, ◌*◌, ◌^◌}
 

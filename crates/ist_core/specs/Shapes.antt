@@ -1,35 +1,36 @@
--- Ideal trees by their size alone: how many words one takes, which inner rows it has, and how deep it is.
--- Each definition goes down from a node to its parts, whose sizes are `part_lens`. A part has fewer keys than the whole,
--- so n steps down are enough for n keys; `fuel` counts them.
+-- Ideal trees by their size: how many words one takes, which inner rows it has, and how deep it is.
+-- Each definition goes down from a node to its parts, as many levels as `fuel` allows. A part has
+-- fewer keys than the whole, so as much fuel as keys is enough, and more changes nothing.
 use Rattle.std.specs.Prelude.{◌≡◌, ◌≤◌, ℕ, zero, suc, ◌+◌, max, List, [], ◌∷◌, map, refl}
 use Rattle.std.specs.List.{sum_by, flat_map, fold}
 use Rattle.std.proofs.Common.{lit≤}
 use Rattle.ist_core.specs.Arithmetic.{degree, part_lens}
 use Rattle.ist_core.specs.RowLayout.{leaf_words, inner_words}
 
--- the words of an ideal tree of n keys, of which fuel levels are counted
+-- the words of an ideal tree of n keys, as far as the fuel goes
 unfoldable pub ideal_words_within : ℕ → ℕ → ℕ
 ideal_words_within fuel zero = 0
 ideal_words_within fuel (suc zero) = leaf_words
 ideal_words_within zero n = 0
-ideal_words_within (suc fuel) n = inner_words (degree n) + sum_by (ideal_words_within fuel) (part_lens n)
+ideal_words_within (suc fuel) n =
+    inner_words (degree n) + sum_by (ideal_words_within fuel) (part_lens n)
 
--- how many words an ideal tree of n keys takes: none, a leaf, or an inner row and what its parts take
+-- how many words an ideal tree of n keys takes: none, a leaf's, or its inner row's and its parts'
 unfoldable pub ideal_words : ℕ → ℕ
 ideal_words n = ideal_words_within n n
 
--- the shape of an ideal tree of n keys, of which fuel levels are listed
+-- the shape of an ideal tree of n keys, as far as the fuel goes
 unfoldable pub shape_within : ℕ → ℕ → List ℕ
 shape_within fuel zero = []
 shape_within fuel (suc zero) = []
 shape_within zero n = []
 shape_within (suc fuel) n = inner_words (degree n) ∷ flat_map (shape_within fuel) (part_lens n)
 
--- the lengths in words of the inner rows of an ideal tree of n keys: a node first, then its parts from the first to the last
+-- the lengths in words of the inner rows of an ideal tree: a node's own, then those of each part
 unfoldable pub shape : ℕ → List ℕ
 shape n = shape_within n n
 
--- the depth of an ideal tree of n keys, of which fuel levels are counted
+-- the depth of an ideal tree of n keys, as far as the fuel goes
 unfoldable pub depth_within : ℕ → ℕ → ℕ
 depth_within fuel zero = 0
 depth_within fuel (suc zero) = 0
@@ -42,11 +43,11 @@ depth n = depth_within n n
 
 -- ---- shared rebuilding
 
--- a rebuild of fewer keys is built by each helper alone; from this many on, helpers build one part each
+-- from this many keys on, the helpers of a rebuild share its root and build one part each
 pub share_from : ℕ
 share_from = 256
 
--- a shared node has at least two keys, which is all that the laws use of the number
+-- a shared root has two keys or more: all that the laws use of the number
 pub share_from_fits : 2 ≤ share_from
 unfolding share_from
 share_from_fits = lit≤ tt

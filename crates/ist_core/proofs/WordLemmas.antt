@@ -1,0 +1,180 @@
+-- How many words an ideal tree takes: against its shape, at most, and from two sizes of parts.
+use Rattle.std.proofs.Common.{◌≡◌, ◌∙◌, ℕ, zero, suc, ◌+◌, ◌-◌, ◌*◌, ◌/◌, ◌%◌, ◌<◌, ◌≤◌, List, [],
+    ◌∷◌, map, ⊎_elim, refl, sym, ap, arith, lit≤, mul-le-mul_left}
+use Rattle.std.proofs.lemmas.Bool.{cases_lt}
+use Rattle.std.proofs.lemmas.List.Sums.{sum_by-cons, sum_by-append}
+use Rattle.std.specs.List.{sum, sum_by, flat_map, range_with_len}
+use Rattle.ist_core.specs.Arithmetic.{root_up_to, square_root, degree, part_len, part_lens}
+use Rattle.ist_core.specs.RowLayout.{inner_words}
+use Rattle.ist_core.specs.Shapes.{ideal_words_within, ideal_words, shape_within, shape}
+use Rattle.ist_core.proofs.RootLemmas.{least_degree-le}
+use Rattle.ist_core.proofs.PartLemmas.{part_len-pos, part_len-lt, sum-part_lens, sum_by-part_lens,
+    sum_of_more}
+use Rattle.ist_core.proofs.ShapeLemmas.{sum_parts_same, ideal_words_many, shape_many}
+
+-- ---- against the shape
+
+-- the sum of joined lists
+sum-flat_map : (h : ℕ → List ℕ) (xs : List ℕ)
+    → sum (flat_map h xs) ≡ sum_by (λ x. sum (h x)) xs
+sum-flat_map h [] = refl
+sum-flat_map h (x ∷ xs) =
+    sum_by-append (λ y. y) (h x) (flat_map h xs)
+    ∙ ap (λ k. sum (h x) + k) (sum-flat_map h xs)
+    ∙ sym (sum_by-cons (λ y. sum (h y)) x xs)
+
+-- twice the numbers, and what else is counted of each
+sum_by_twice_and : (g : ℕ → ℕ) (xs : List ℕ)
+    → sum_by (λ x. 2 * x + g x) xs ≡ 2 * sum xs + sum_by g xs
+sum_by_twice_and g [] = refl
+sum_by_twice_and g (x ∷ xs) =
+    let whole = sum_by-cons (λ y. 2 * y + g y) x xs in
+    let numbers = sum_by-cons (λ y. y) x xs in
+    let others = sum_by-cons g x xs in
+    omega (arith, sum_by_twice_and g xs)
+
+-- the same as `ideal_words_is`, of at most `top` keys
+words_up_to : (top n : ℕ) → n ≤ top → ideal_words n ≡ 2 * n + sum (shape n)
+unfolding ideal_words ideal_words_within shape shape_within
+words_up_to top zero h = refl
+words_up_to top (suc zero) h = refl
+words_up_to zero (suc (suc m)) h = absurd (omega arith)
+words_up_to (suc top) (suc (suc m)) h =
+    many (suc (suc m)) (omega arith)
+    (λ j. let l = part_len-lt (suc (suc m)) j (omega arith) in
+        words_up_to top (part_len (suc (suc m)) j) (omega arith))
+  where
+    many : (n : ℕ) → 2 ≤ n
+        → ((j : ℕ) → ideal_words (part_len n j) ≡ 2 * part_len n j + sum (shape (part_len n j)))
+        → ideal_words n ≡ 2 * n + sum (shape n)
+    many n k parts =
+        let below = sum_parts_same ideal_words (λ x. 2 * x + sum (shape x)) n parts in
+        let leaves = sum_by_twice_and (λ x. sum (shape x)) (part_lens n) in
+        let lower_rows = sum-flat_map shape (part_lens n) in
+        let rows =
+            ap sum (shape_many n k)
+            ∙ sum_by-cons (λ x. x) (inner_words (degree n)) (flat_map shape (part_lens n)) in
+        omega (arith, ideal_words_many n k, sum-part_lens n)
+
+-- an ideal tree takes two words for each leaf, and its inner rows
+pub ideal_words_is : (n : ℕ) → ideal_words n ≡ 2 * n + sum (shape n)
+ideal_words_is n = words_up_to n n (omega arith)
+
+-- ---- at most
+
+-- where each part takes 7 words less than nine a key, all do
+sum_parts-le : (g : ℕ → ℕ) (n : ℕ) → ((j : ℕ) → g (part_len n j) + 7 ≤ 9 * part_len n j)
+    → sum_by g (part_lens n) + 7 * degree n ≤ 9 * n
+unfolding part_lens
+sum_parts-le g n each = let all = over (degree n) in omega (arith, sum-part_lens n)
+  where
+    over : (k : ℕ)
+        → sum_by g (map (part_len n) (range_with_len 0 k)) + 7 * k
+          ≤ 9 * sum (map (part_len n) (range_with_len 0 k))
+    over zero = omega arith
+    over (suc k) =
+        let words = sum_of_more g n k in
+        let keys = sum_of_more (λ x. x) n k in
+        omega (arith, over k, each k)
+
+-- the same as `ideal_words-le`, of at most `top` keys
+words_bound_up_to : (top n : ℕ) → n ≤ top → 1 ≤ n → ideal_words n + 7 ≤ 9 * n
+unfolding ideal_words ideal_words_within
+words_bound_up_to top zero h k = absurd (omega arith)
+words_bound_up_to top (suc zero) h k = lit≤ tt
+words_bound_up_to zero (suc (suc m)) h k = absurd (omega arith)
+words_bound_up_to (suc top) (suc (suc m)) h k =
+    many (suc (suc m)) (omega arith)
+    (λ j. let l = part_len-lt (suc (suc m)) j (omega arith) in
+        let p = part_len-pos (suc (suc m)) j (omega arith) in
+        words_bound_up_to top (part_len (suc (suc m)) j) (omega arith) p)
+  where
+    many : (n : ℕ) → 2 ≤ n → ((j : ℕ) → ideal_words (part_len n j) + 7 ≤ 9 * part_len n j)
+        → ideal_words n + 7 ≤ 9 * n
+    many n l parts =
+        let below = sum_parts-le ideal_words n parts in
+        omega (arith, ideal_words_many n l, least_degree-le n)
+
+-- an ideal tree takes at least 7 words less than nine a key
+pub ideal_words-le : (n : ℕ) → 1 ≤ n → ideal_words n + 7 ≤ 9 * n
+ideal_words-le n h = words_bound_up_to n n (omega arith) h
+
+-- ---- the smallest trees
+
+-- no key
+pub ideal_words_none : ideal_words 0 ≡ 0
+unfolding ideal_words ideal_words_within
+ideal_words_none = refl
+
+-- a leaf
+pub ideal_words_one : ideal_words 1 ≡ 2
+unfolding ideal_words ideal_words_within
+ideal_words_one = refl
+
+-- two leaves below a pair row
+pub ideal_words_two : ideal_words 2 ≡ 11
+unfolding ideal_words ideal_words_within part_lens part_len degree square_root root_up_to
+ideal_words_two = refl
+
+-- at most nine words a key, also where there is none
+pub ideal_words_nine : (n : ℕ) → ideal_words n ≤ 9 * n
+ideal_words_nine zero = omega (arith, ideal_words_none)
+ideal_words_nine (suc n) = omega (arith, ideal_words-le (suc n))
+
+-- ---- from two sizes of parts
+
+-- the words of d parts, of which `longer` have p + 1 keys and the others p
+unfoldable pub mixed_words : ℕ → ℕ → ℕ → ℕ
+mixed_words d longer p = longer * ideal_words (p + 1) + (d - longer) * ideal_words p
+
+-- only longer parts of p keys are only shorter parts of p + 1 keys
+mixed_words_turned : (d p : ℕ) → mixed_words d 0 (p + 1) ≡ mixed_words d d p
+unfolding mixed_words
+mixed_words_turned d p =
+    let all = ap (λ k. k * ideal_words (p + 1)) (let e : d - 0 ≡ d = omega arith in e) in
+    let none = ap (λ k. k * ideal_words p) (let e : d - d ≡ 0 = omega arith in e) in
+    omega arith
+
+-- d parts of q keys, of which r have one more, are parts of p and p + 1 keys if that fits
+mixed_words_same : (n d q r p : ℕ) → d * q + r ≡ n → r < d → d * p ≤ n → n ≤ d * (p + 1)
+    → mixed_words d r q ≡ mixed_words d (n - d * p) p
+mixed_words_same n d q r p e f a b = ⊎_elim below above (cases_lt q (p + 1))
+  where
+    below : q < p + 1 → mixed_words d r q ≡ mixed_words d (n - d * p) p
+    below y =
+        let lower : p ≤ q = ⊎_elim
+            (λ (z : q < p).
+                let k = mul-le-mul_left d (let x : q + 1 ≤ p = omega arith in x) in
+                absurd (omega arith))
+            (λ (z : p ≤ q). z) (cases_lt q p) in
+        let same : q ≡ p = omega arith in
+        let k = ap (λ x. d * x) same in
+        let longer : r ≡ n - d * p = omega arith in
+        ap (λ x. mixed_words d r x) same ∙ ap (λ x. mixed_words d x p) longer
+
+    above : p + 1 ≤ q → mixed_words d r q ≡ mixed_words d (n - d * p) p
+    above y =
+        let k = mul-le-mul_left d y in
+        let none : r ≡ 0 = omega arith in
+        let all : d ≡ n - d * p = omega arith in
+        let same : q ≡ p + 1 = ⊎_elim
+            (λ (z : p + 1 < q).
+                let l = mul-le-mul_left d (let x : p + 2 ≤ q = omega arith in x) in
+                absurd (omega arith))
+            (λ (z : q ≤ p + 1). omega arith) (cases_lt (p + 1) q) in
+        ap (λ x. mixed_words d x q) none
+        ∙ ap (λ x. mixed_words d 0 x) same
+        ∙ mixed_words_turned d p
+        ∙ ap (λ x. mixed_words d x p) all
+
+-- the words of a node whose parts have p or p + 1 keys
+pub ideal_words_by_two : (n p : ℕ) → 2 ≤ n → degree n * p ≤ n → n ≤ degree n * (p + 1)
+    → ideal_words n ≡ inner_words (degree n) + mixed_words (degree n) (n - degree n * p) p
+unfolding mixed_words
+ideal_words_by_two n p h k l =
+    let rest : n % degree n < degree n = omega (arith, least_degree-le n) in
+    let whole : degree n * (n / degree n) + n % degree n ≡ n = omega (arith, least_degree-le n) in
+    ideal_words_many n h
+    ∙ ap (λ x. inner_words (degree n) + x) (sum_by-part_lens ideal_words n)
+    ∙ ap (λ x. inner_words (degree n) + x)
+        (mixed_words_same n (degree n) (n / degree n) (n % degree n) p whole rest k l)

@@ -1,0 +1,28 @@
+//! The words of a table: what stands in a slot or in a status, and where the fields of each row lie. Nothing here
+//! takes memory, and no call refuses, except that reading a word answers `None` where it is no word of its kind.
+//!
+//! Read `specs/Meanings.antt`, then `references.rt`, `statuses.rt` and `places.rt`. Stands on `ist_core`, for the
+//! definitions alone.
+#![tactic(auto)]
+
+pub mod laws;
+mod places;
+mod references;
+mod statuses;
+
+pub use places::{
+    ANCHOR, ANCHOR_SLOT_PLACE, ANCHOR_STATUS_PLACE, CALLERS_PLACE, CHANGE_DECISION_OFFSET,
+    CHANGE_FROM_OFFSET, CHANGE_INDEX_OFFSET, CHANGE_KEY_OFFSET, CHANGE_KIND_OFFSET,
+    CHANGE_NODE_OFFSET, CHANGE_OWNER_OFFSET, CHANGE_TO_OFFSET, CHANGE_VALUE_OFFSET, CHANGE_WORDS,
+    FIRST_ROW, INNER_COUNT_OFFSET, INNER_DEGREE_OFFSET, INNER_SIZE_OFFSET, INNER_STATUS_OFFSET,
+    LEAF_KEY_OFFSET, LEAF_VALUE_OFFSET, LEAF_WORDS, NEXT_PLACE, PAIR_WORDS, PLACE_LIMIT,
+    REBUILD_DRAW_OFFSET, REBUILD_INDEX_OFFSET, REBUILD_PARENT_OFFSET, REBUILD_ROOT_OFFSET,
+    REBUILD_TARGET_OFFSET, REBUILD_WORDS, inner_words, key_place, slot_place,
+};
+pub use references::Ref;
+pub use statuses::{
+    DECIDED_NO, DECIDED_YES, FINISH_KIND, PUT_KIND, REMOVE_KIND, START_KIND, Status, UNDECIDED,
+};
+
+#[cfg(test)]
+mod tests;

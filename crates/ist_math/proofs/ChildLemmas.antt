@@ -1,0 +1,73 @@
+-- The child of a key, found at the place where the keys turn from at most x to above x.
+use Rattle.std.proofs.Common.{◌≡◌, ℕ, zero, suc, ◌+◌, ◌-◌, ◌<◌, ◌≤◌, ◌∙◌, min, nat_le, true, false, List, length,
+    get_or, take, ⊎_elim, sym, ap, arith, add-one}
+use Rattle.std.proofs.lemmas.Bool.{cases_lt}
+use Rattle.std.proofs.lemmas.Bool.Decides.{nat_tests}
+use Rattle.std.proofs.lemmas.List.{take_all}
+use Rattle.std.proofs.lemmas.List.Sums.{count_by_more_yes, count_by_more_no}
+use Rattle.std.specs.List.Sorted.{IsStrictlyIncreasing}
+use Rattle.ist_core.specs.Arithmetic.{child_count}
+
+-- a key m places further on is at least as large
+rises_over : (keys : List ℕ) (k m : ℕ) → IsStrictlyIncreasing keys → k + m < length keys
+    → get_or keys k 0 ≤ get_or keys (k + m) 0
+rises_over keys k zero rises h =
+    let e = ap (λ i. get_or keys i 0) (let z : k + 0 ≡ k = omega arith in z) in
+    omega arith
+rises_over keys k (suc m) rises h =
+    let step : get_or keys (k + m) 0 < get_or keys (k + m + 1) 0 = rises (k + m) (omega arith) in
+    let e = ap (λ i. get_or keys i 0) (let z : k + suc m ≡ k + m + 1 = omega arith in z) in
+    let rest = rises_over keys k m rises (omega arith) in
+    omega arith
+
+-- a later key is at least as large
+pub keys_rise : (keys : List ℕ) (i k : ℕ) → IsStrictlyIncreasing keys → i ≤ k → k < length keys
+    → get_or keys i 0 ≤ get_or keys k 0
+keys_rise keys i k rises h l =
+    let e : i + (k - i) ≡ k = omega arith in
+    let same = ap (λ j. get_or keys j 0) e in
+    let over = rises_over keys i (k - i) rises (omega arith) in
+    omega arith
+
+-- of two keys or more the last is above the first
+pub first-lt-last : (keys : List ℕ) → IsStrictlyIncreasing keys → 2 ≤ length keys
+    → get_or keys 0 0 < get_or keys (length keys - 1) 0
+first-lt-last keys rises h =
+    let step : get_or keys 0 0 < get_or keys (0 + 1) 0 = rises 0 (omega arith) in
+    let rest = keys_rise keys (0 + 1) (length keys - 1) rises (omega arith) (omega arith) in
+    omega arith
+
+-- where the keys before `at` are at most x and those from it on are above x, the child is `at`
+pub child_count_is : (keys : List ℕ) (x at : ℕ) → IsStrictlyIncreasing keys → at ≤ length keys
+    → (at < length keys → x < get_or keys at 0) → (0 < at → get_or keys (at - 1) 0 ≤ x)
+    → child_count keys x ≡ at
+child_count_is keys x at rises within above below =
+    let all = sym (take_all (length keys) keys (omega arith)) in
+    ap (λ (ks : List ℕ). child_count ks x) all ∙ up_to (length keys) (omega arith) ∙ omega arith
+  where
+    up_to : (j : ℕ) → j ≤ length keys → child_count (take j keys) x ≡ min j at
+    up_to zero h = omega arith
+    up_to (suc j) h =
+        ap (λ k. child_count (take k keys) x) (sym (add-one j))
+        ∙ (let so_far = up_to j (omega arith) in
+            ⊎_elim (before so_far) (behind so_far) (cases_lt j at))
+      where
+        before : child_count (take j keys) x ≡ min j at → j < at
+            → child_count (take (j + 1) keys) x ≡ min (suc j) at
+        before so_far y =
+            let rest = keys_rise keys j (at - 1) rises (omega arith) (omega arith) in
+            let last = below (omega arith) in
+            let low : get_or keys j 0 ≤ x = omega arith in
+            let test : nat_le (get_or keys j 0) x ≡ true = grind (arith, nat_tests) in
+            let yes = count_by_more_yes (λ key. nat_le key x) keys j 0 (omega arith) test in
+            omega arith
+
+        behind : child_count (take j keys) x ≡ min j at → at ≤ j
+            → child_count (take (j + 1) keys) x ≡ min (suc j) at
+        behind so_far y =
+            let rest = keys_rise keys at j rises y (omega arith) in
+            let first = above (omega arith) in
+            let high : x < get_or keys j 0 = omega arith in
+            let test : nat_le (get_or keys j 0) x ≡ false = grind (arith, nat_tests) in
+            let no = count_by_more_no (λ key. nat_le key x) keys j 0 (omega arith) test in
+            omega arith

@@ -1,0 +1,5 @@
+use Rattle.ist_core.proofs.WordLemmas.{ideal_words_is}
+use Rattle.ist_math.proofs.laws.words_are_leaves_and_rows.Goals as goal
+
+pub returns : goal.returns
+returns c = record { sum = ideal_words_is }
