@@ -1,6 +1,26 @@
 -- How deep an ideal tree is: by how few keys the parts of the parts have.
-use Rattle.std.proofs.Common.{◌≡◌, ℕ, zero, suc, ◌+◌, ◌*◌, ◌/◌, ◌%◌, ◌<◌, ◌≤◌, ◌^◌, max, List, [],
-    ◌∷◌, map, ⊎_elim, ap, arith, lit≤}
+use Rattle.std.proofs.Common.{
+  ◌≡◌,
+  ℕ,
+  zero,
+  suc,
+  ◌+◌,
+  ◌*◌,
+  ◌/◌,
+  ◌%◌,
+  ◌<◌,
+  ◌≤◌,
+  ◌^◌,
+  max,
+  List,
+  [],
+  ◌∷◌,
+  map,
+  ⊎_elim,
+  ap,
+  arith,
+  lit≤,
+}
 use Rattle.std.proofs.lemmas.Bool.{cases_lt}
 use Rattle.std.specs.List.{fold, range_with_len}
 use Rattle.ist_core.specs.Arithmetic.{root_up_to, square_root, degree, part_len, part_lens}
@@ -62,8 +82,8 @@ shallow_4 n h = depth_step n 2 1 shallow_2 small
     small j k =
         ⊎_elim (λ (y : n < 4). omega (arith, part_len-lt n j k))
         (λ (y : 4 ≤ n).
-            let same = ap (λ m. part_len m j) (let e : n ≡ 4 = omega arith in e) in
-            omega (arith, part_of_four j))
+        let same = ap (λ m. part_len m j) (let e : n ≡ 4 = omega arith in e) in
+        omega (arith, part_of_four j))
         (cases_lt n 4)
 
 shallow_8 : IsShallow 8 3

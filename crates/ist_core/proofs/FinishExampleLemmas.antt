@@ -7,7 +7,7 @@ use Rattle.ist_core.specs.References.{InnerAt, ref_of}
 use Rattle.ist_core.specs.Pieces.{Inner, Change, Rebuild, with_slot, with_status, with_decision, with_root}
 use Rattle.ist_core.specs.StartLayout.{rows_within, rows_from}
 use Rattle.ist_core.specs.RowLayout.{first_row}
-use Rattle.ist_core.specs.Lists.{Among}
+use Rattle.ist_core.specs.Elements.{Among}
 use Rattle.ist_core.specs.Logs.{state, Log}
 use Rattle.ist_core.specs.Slots.{SlotHolds, in_anchor, in_row, anchor_is}
 use Rattle.ist_core.specs.Links.{at_anchor}

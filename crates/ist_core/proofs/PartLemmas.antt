@@ -1,13 +1,48 @@
 -- Parts: how many keys each has, where it begins, and what all of them have together.
-use Rattle.std.proofs.Common.{◌≡◌, ◌∙◌, ℕ, zero, suc, ◌+◌, ◌-◌, ◌*◌, ◌/◌, ◌%◌, ◌<◌, ◌≤◌, max, min,
-    nat_lt, Bool, true, false, cond, map, ⊎_elim, refl, sym, ap, subst, arith, mul-le-mul_left, add-one}
+use Rattle.std.proofs.Common.{
+  ◌≡◌,
+  ◌∙◌,
+  ℕ,
+  zero,
+  suc,
+  ◌+◌,
+  ◌-◌,
+  ◌*◌,
+  ◌/◌,
+  ◌%◌,
+  ◌<◌,
+  ◌≤◌,
+  max,
+  min,
+  nat_lt,
+  Bool,
+  true,
+  false,
+  cond,
+  map,
+  ⊎_elim,
+  refl,
+  sym,
+  ap,
+  subst,
+  arith,
+  mul-le-mul_left,
+  add-one,
+}
 use Rattle.std.proofs.lemmas.Bool.{cases_lt}
 use Rattle.std.proofs.lemmas.Bool.Decides.{nat_tests}
 use Rattle.std.proofs.lemmas.List.FromFn.{sum_by-map-range_with_len_more}
 use Rattle.std.specs.List.{sum, sum_by, range_with_len}
 use Rattle.ist_core.specs.Arithmetic.{square_root, degree, part_len, part_lens, part_start}
-use Rattle.ist_core.proofs.RootLemmas.{square_grows, root_below, square_root-le, square_root-lt,
-    degree_is, least_degree-le, degree-le}
+use Rattle.ist_core.proofs.RootLemmas.{
+  square_grows,
+  root_below,
+  square_root-le,
+  square_root-lt,
+  degree_is,
+  least_degree-le,
+  degree-le,
+}
 
 -- ---- one part
 
@@ -45,9 +80,9 @@ quotient-pos : (n d : ℕ) → d ≤ n → 2 ≤ d → 1 ≤ n / d
 quotient-pos n d h k =
     ⊎_elim
     (λ (y : n / d < 1).
-        let none : n / d ≡ 0 = omega arith in
-        let product = ap (λ q. d * q) none in
-        absurd (omega arith))
+    let none : n / d ≡ 0 = omega arith in
+    let product = ap (λ q. d * q) none in
+    absurd (omega arith))
     (λ (y : 1 ≤ n / d). y) (cases_lt (n / d) 1)
 
 -- no part is empty
@@ -75,11 +110,11 @@ part_len-lt n j h =
     let most = degree-le n h in
     ⊎_elim
     (λ (y : j < n % degree n).
-        let q = quotient_more-lt n (degree n) least most (omega arith) in
-        omega (arith, part_len-long n j y))
+    let q = quotient_more-lt n (degree n) least most (omega arith) in
+    omega (arith, part_len-long n j y))
     (λ (y : n % degree n ≤ j).
-        let q = quotient-lt n (degree n) least most in
-        omega (arith, part_len-short n j y))
+    let q = quotient-lt n (degree n) least most in
+    omega (arith, part_len-short n j y))
     (cases_lt j (n % degree n))
 
 -- the quotient by the root of a number is at most the root and 2, and less where something is left over
@@ -87,7 +122,7 @@ quotient_root : (n s q e : ℕ) → 1 ≤ s → s * q + e ≡ n → n < (s + 1) 
 quotient_root n s q e h k l =
     ⊎_elim
     (λ (y : s + 2 < q).
-        let p = mul-le-mul_left s (let x : s + 3 ≤ q = omega arith in x) in absurd (omega arith))
+    let p = mul-le-mul_left s (let x : s + 3 ≤ q = omega arith in x) in absurd (omega arith))
     (λ (y : q ≤ s + 2). y) (cases_lt (s + 2) q)
 
 quotient_root_more : (n s q e : ℕ) → 1 ≤ s → s * q + e ≡ n → n < (s + 1) * (s + 1) → 0 < e
@@ -95,7 +130,7 @@ quotient_root_more : (n s q e : ℕ) → 1 ≤ s → s * q + e ≡ n → n < (s 
 quotient_root_more n s q e h k l m =
     ⊎_elim
     (λ (y : s + 1 < q).
-        let p = mul-le-mul_left s (let x : s + 2 ≤ q = omega arith in x) in absurd (omega arith))
+    let p = mul-le-mul_left s (let x : s + 2 ≤ q = omega arith in x) in absurd (omega arith))
     (λ (y : q ≤ s + 1). y) (cases_lt (s + 1) q)
 
 -- in terms of a number r whose next square is above n, a part has at most two keys more than r
@@ -129,11 +164,11 @@ part_len-le n j r h k l =
         cases q o long short w =
             ⊎_elim
             (λ (z : j < o).
-                let less = quotient_root_more n s q o (omega arith) w b (omega arith) in
-                omega (arith, long z))
+            let less = quotient_root_more n s q o (omega arith) w b (omega arith) in
+            omega (arith, long z))
             (λ (z : o ≤ j).
-                let most = quotient_root n s q o (omega arith) w b in
-                omega (arith, short z))
+            let most = quotient_root n s q o (omega arith) w b in
+            omega (arith, short z))
             (cases_lt j o)
 
 -- ---- parts together
@@ -141,7 +176,7 @@ part_len-le n j r h k l =
 -- the sum of a function over one part more
 pub sum_of_more : (g : ℕ → ℕ) (n k : ℕ)
     → sum_by g (map (part_len n) (range_with_len 0 (suc k)))
-      ≡ sum_by g (map (part_len n) (range_with_len 0 k)) + g (part_len n k)
+    ≡ sum_by g (map (part_len n) (range_with_len 0 k)) + g (part_len n k)
 sum_of_more g n k =
     ap (λ m. sum_by g (map (part_len n) (range_with_len 0 m))) (sym (add-one k))
     ∙ sum_by-map-range_with_len_more g (part_len n) 0 k k (omega arith)
@@ -158,7 +193,7 @@ sum_of_long_parts g n (suc k) h =
 -- the sum of a function over all longer parts and m others
 sum_of_parts : (g : ℕ → ℕ) (n m : ℕ)
     → sum_by g (map (part_len n) (range_with_len 0 (n % degree n + m)))
-      ≡ n % degree n * g (n / degree n + 1) + m * g (n / degree n)
+    ≡ n % degree n * g (n / degree n + 1) + m * g (n / degree n)
 sum_of_parts g n zero =
     let none : n % degree n + 0 ≡ n % degree n = omega arith in
     let longer = sum_of_long_parts g n (n % degree n) (omega arith) in
@@ -172,7 +207,7 @@ sum_of_parts g n (suc m) =
 -- the sum of a function over all parts
 pub sum_by-part_lens : (g : ℕ → ℕ) (n : ℕ)
     → sum_by g (part_lens n)
-      ≡ n % degree n * g (n / degree n + 1) + (degree n - n % degree n) * g (n / degree n)
+    ≡ n % degree n * g (n / degree n + 1) + (degree n - n % degree n) * g (n / degree n)
 unfolding part_lens
 sum_by-part_lens g n =
     let few : n % degree n < degree n = omega (arith, least_degree-le n) in
@@ -186,7 +221,7 @@ sum-part_lens n =
     let few : n % degree n < degree n = omega (arith, least_degree-le n) in
     sum_by-part_lens (λ x. x) n
     ∙ shares (degree n) (n / degree n) (n % degree n) (degree n - n % degree n)
-        (omega (arith, least_degree-le n)) (omega arith)
+    (omega (arith, least_degree-le n)) (omega arith)
   where
     -- r shares of q + 1 and m shares of q are r + m shares of q, and r
     shares : (d q r m : ℕ) → d * q + r ≡ n → d ≡ r + m → r * (q + 1) + m * q ≡ n

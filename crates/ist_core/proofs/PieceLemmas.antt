@@ -1,7 +1,7 @@
 -- Rows of a list by their bases, and rows among the words of a table. Serves the start layout and its image.
 use Rattle.std.proofs.Common.{◌≡◌, ℕ, zero, suc, ◌+◌, ◌<◌, ◌==◌, true, false, if◌then◌else◌, List, [], ◌∷◌, length, take, drop, slice_get, Some, refl, sym, ap, ◌∙◌, inl, inr, arith}
 use Rattle.std.proofs.lemmas.Bool.Decides.{nat_tests}
-use Rattle.ist_core.specs.Lists.{Among}
+use Rattle.ist_core.specs.Elements.{Among}
 use Rattle.ist_core.specs.Pieces.{Piece, words_of}
 use Rattle.ist_core.specs.Images.{StandsAt}
 use Rattle.ist_core.specs.StartLayout.{pieces_of}

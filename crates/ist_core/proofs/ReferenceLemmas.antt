@@ -1,11 +1,50 @@
 -- A good reference and its word: each gives the other.
-use Rattle.std.proofs.Common.{◌≡◌, ◌∙◌, ℕ, ◌+◌, ◌*◌, ◌/◌, ◌%◌, ◌<◌, ◌≤◌, ◌≢◌, ◌⊎◌, inl, inr, ⊎_elim,
-    Bool, true, false, cond, ◌&&◌, nat_le, nat_lt, refl, sym, ap, subst, arith}
+use Rattle.std.proofs.Common.{
+  ◌≡◌,
+  ◌∙◌,
+  ℕ,
+  ◌+◌,
+  ◌*◌,
+  ◌/◌,
+  ◌%◌,
+  ◌<◌,
+  ◌≤◌,
+  ◌≢◌,
+  ◌⊎◌,
+  inl,
+  inr,
+  ⊎_elim,
+  Bool,
+  true,
+  false,
+  cond,
+  ◌&&◌,
+  nat_le,
+  nat_lt,
+  refl,
+  sym,
+  ap,
+  subst,
+  arith,
+}
 use Rattle.std.specs.Prelude.{◌==◌, Option, Some, None}
 use Rattle.std.proofs.lemmas.Bool.Decides.{nat_tests}
 use Rattle.ist_core.specs.RowLayout.{first_row, place_limit}
-use Rattle.ist_core.specs.References.{Ref, Empty, Unset, LeafAt, InnerAt, ChangeAt, RebuildAt,
-    word_of, IsGoodBase, IsGoodRef, row_tagged, good_row_tagged, ref_of}
+use Rattle.ist_core.specs.References.{
+  Ref,
+  Empty,
+  Unset,
+  LeafAt,
+  InnerAt,
+  ChangeAt,
+  RebuildAt,
+  word_of,
+  IsGoodBase,
+  IsGoodRef,
+  row_tagged,
+  good_row_tagged,
+  ref_of,
+}
 
 -- ---- from a word
 
@@ -27,7 +66,7 @@ ref_of-row word h k = at (word == 0) (word == 7) refl refl
   where
     at : (a b : Bool) → (word == 0) ≡ a → (word == 7) ≡ b
         → cond a (Some Empty) (cond b (Some Unset) (good_row_tagged (word % 8) (word / 8)))
-          ≡ good_row_tagged (word % 8) (word / 8)
+        ≡ good_row_tagged (word % 8) (word / 8)
     at true b e f = absurd (h (grind (arith, nat_tests)))
     at false true e f = absurd (k (grind (arith, nat_tests)))
     at false false e f = refl
@@ -81,7 +120,7 @@ tagged_read : (tag known base : ℕ) (found ref : Ref) → (tag == known) ≡ tr
 tagged_read tag known base found ref test good word same =
     let number : known ≡ tag = grind (arith, nat_tests) in
     let read : IsReadFrom (base * 8 + tag) found =
-        record { good = good; same_word = word ∙ ap (λ k. base * 8 + k) number } in
+    record { good = good; same_word = word ∙ ap (λ k. base * 8 + k) number } in
     subst (λ (r : Ref). IsReadFrom (base * 8 + tag) r) same read
 
 -- so is whatever row the tag gives
@@ -91,7 +130,7 @@ row_read tag base ref good e = at (tag == 1) (tag == 2) (tag == 3) (tag == 4) re
   where
     at : (a b c d : Bool) → (tag == 1) ≡ a → (tag == 2) ≡ b → (tag == 3) ≡ c → (tag == 4) ≡ d
         → cond a (Some (LeafAt base)) (cond b (Some (InnerAt base))
-            (cond c (Some (ChangeAt base)) (cond d (Some (RebuildAt base)) None))) ≡ Some ref
+        (cond c (Some (ChangeAt base)) (cond d (Some (RebuildAt base)) None))) ≡ Some ref
         → IsReadFrom (base * 8 + tag) ref
     at true b c d f g i j e = tagged_read tag 1 base (LeafAt base) ref f good refl (cc)
     at false true c d f g i j e = tagged_read tag 2 base (InnerAt base) ref g good refl (cc)
@@ -111,7 +150,9 @@ good_row_read word ref e =
     at true true f g e =
         let whole : word / 8 * 8 + word % 8 ≡ word = omega arith in
         let good : IsGoodBase (word / 8) = record {
-            behind_fixed = grind (arith, nat_tests); below_limit = grind (arith, nat_tests) } in
+          behind_fixed = grind (arith, nat_tests);
+          below_limit = grind (arith, nat_tests);
+        } in
         subst (λ w. IsReadFrom w ref) whole (row_read (word % 8) (word / 8) ref good e)
     at true false f g e = cc
     at false b f g e = cc
@@ -123,16 +164,16 @@ word_of-ref_of word ref e = at (word == 0) (word == 7) refl refl e
   where
     at : (a b : Bool) → (word == 0) ≡ a → (word == 7) ≡ b
         → cond a (Some Empty) (cond b (Some Unset) (good_row_tagged (word % 8) (word / 8)))
-          ≡ Some ref
+        ≡ Some ref
         → IsReadFrom word ref
     at true b f g e =
         let same : Empty ≡ ref = cc in
         let read : IsReadFrom word Empty =
-            record { good = tt; same_word = grind (arith, nat_tests) } in
+        record { good = tt; same_word = grind (arith, nat_tests) } in
         subst (λ (r : Ref). IsReadFrom word r) same read
     at false true f g e =
         let same : Unset ≡ ref = cc in
         let read : IsReadFrom word Unset =
-            record { good = tt; same_word = grind (arith, nat_tests) } in
+        record { good = tt; same_word = grind (arith, nat_tests) } in
         subst (λ (r : Ref). IsReadFrom word r) same read
     at false false f g e = good_row_read word ref e

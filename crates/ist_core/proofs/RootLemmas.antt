@@ -1,6 +1,30 @@
 -- Roots and degrees: `square_root` is the whole root, and what `degree` comes to.
-use Rattle.std.proofs.Common.{◌≡◌, ◌∙◌, ℕ, zero, suc, ◌+◌, ◌*◌, ◌<◌, ◌≤◌, max, nat_le, Bool, true,
-    false, cond, ◌⊎◌, inl, inr, ⊎_elim, refl, sym, ap, arith, mul-le-mul_left}
+use Rattle.std.proofs.Common.{
+  ◌≡◌,
+  ◌∙◌,
+  ℕ,
+  zero,
+  suc,
+  ◌+◌,
+  ◌*◌,
+  ◌<◌,
+  ◌≤◌,
+  max,
+  nat_le,
+  Bool,
+  true,
+  false,
+  cond,
+  ◌⊎◌,
+  inl,
+  inr,
+  ⊎_elim,
+  refl,
+  sym,
+  ap,
+  arith,
+  mul-le-mul_left,
+}
 use Rattle.std.proofs.lemmas.Bool.{cases_lt}
 use Rattle.std.proofs.lemmas.Bool.Decides.{nat_tests}
 use Rattle.ist_core.specs.Arithmetic.{root_up_to, square_root, degree}
@@ -79,17 +103,17 @@ degree-le n h =
 -- from n to n + 1 keys the degree stays, or n + 1 is the square of the next degree
 pub degree_next : (n : ℕ) → 2 ≤ n
     → (degree (n + 1) ≡ degree n)
-      ⊎ ((degree (n + 1) ≡ degree n + 1) × (n + 1 ≡ (degree n + 1) * (degree n + 1)))
+    ⊎ ((degree (n + 1) ≡ degree n + 1) × (n + 1 ≡ (degree n + 1) * (degree n + 1)))
 degree_next n h = at (square_root n) (square_root-le n) (square_root-lt n)
   where
     at : (s : ℕ) → s * s ≤ n → n < (s + 1) * (s + 1)
         → (degree (n + 1) ≡ degree n)
-          ⊎ ((degree (n + 1) ≡ degree n + 1) × (n + 1 ≡ (degree n + 1) * (degree n + 1)))
+        ⊎ ((degree (n + 1) ≡ degree n + 1) × (n + 1 ≡ (degree n + 1) * (degree n + 1)))
     at s a b = ⊎_elim same next (cases_lt (n + 1) ((s + 1) * (s + 1)))
       where
         same : n + 1 < (s + 1) * (s + 1)
             → (degree (n + 1) ≡ degree n)
-              ⊎ ((degree (n + 1) ≡ degree n + 1) × (n + 1 ≡ (degree n + 1) * (degree n + 1)))
+            ⊎ ((degree (n + 1) ≡ degree n + 1) × (n + 1 ≡ (degree n + 1) * (degree n + 1)))
         same y = inl (degree_is (n + 1) s (omega arith) y ∙ sym (degree_is n s a b))
 
         positive : 1 ≤ s
@@ -100,7 +124,7 @@ degree_next n h = at (square_root n) (square_root-le n) (square_root-lt n)
 
         next : (s + 1) * (s + 1) ≤ n + 1
             → (degree (n + 1) ≡ degree n)
-              ⊎ ((degree (n + 1) ≡ degree n + 1) × (n + 1 ≡ (degree n + 1) * (degree n + 1)))
+            ⊎ ((degree (n + 1) ≡ degree n + 1) × (n + 1 ≡ (degree n + 1) * (degree n + 1)))
         next y =
             let old = degree_is n s a b in
             let new = degree_is (n + 1) (s + 1) y (omega arith) in
@@ -108,6 +132,6 @@ degree_next n h = at (square_root n) (square_root-le n) (square_root-lt n)
             ⊎_elim
             (λ (z : s < 2). inl (omega (arith, positive)))
             (λ (z : 2 ≤ s).
-                let root : s ≡ degree n = omega arith in
-                inr (omega arith, square ∙ ap (λ k. (k + 1) * (k + 1)) root))
+            let root : s ≡ degree n = omega arith in
+            inr (omega arith, square ∙ ap (λ k. (k + 1) * (k + 1)) root))
             (cases_lt s 2)

@@ -1,12 +1,35 @@
 -- `ideal_words`, `shape` and `depth` of a node from those of its parts.
-use Rattle.std.proofs.Common.{◌≡◌, ◌∙◌, ℕ, zero, suc, ◌+◌, ◌≤◌, max, List, [], ◌∷◌, ◌++◌, map,
-    refl, sym, ap, arith}
+use Rattle.std.proofs.Common.{
+  ◌≡◌,
+  ◌∙◌,
+  ℕ,
+  zero,
+  suc,
+  ◌+◌,
+  ◌≤◌,
+  max,
+  List,
+  [],
+  ◌∷◌,
+  ◌++◌,
+  map,
+  refl,
+  sym,
+  ap,
+  arith,
+}
 use Rattle.std.proofs.lemmas.List.Sums.{sum-map}
 use Rattle.std.specs.List.{sum, sum_by, flat_map, fold, range_with_len}
 use Rattle.ist_core.specs.Arithmetic.{degree, part_len, part_lens}
 use Rattle.ist_core.specs.RowLayout.{inner_words}
-use Rattle.ist_core.specs.Shapes.{ideal_words_within, ideal_words, shape_within, shape,
-    depth_within, depth}
+use Rattle.ist_core.specs.Shapes.{
+  ideal_words_within,
+  ideal_words,
+  shape_within,
+  shape,
+  depth_within,
+  depth,
+}
 use Rattle.ist_core.proofs.PartLemmas.{part_len-lt}
 
 -- two functions give the same for each part of n keys
@@ -57,7 +80,7 @@ ideal_words_enough (suc f) (suc g) (suc (suc m)) h k =
     ap (λ x. inner_words (degree (suc (suc m))) + x)
     (sum_parts_same (ideal_words_within f) (ideal_words_within g) (suc (suc m))
     (λ j. let l = part_len-lt (suc (suc m)) j (omega arith) in
-        ideal_words_enough f g (part_len (suc (suc m)) j) (omega arith) (omega arith)))
+    ideal_words_enough f g (part_len (suc (suc m)) j) (omega arith) (omega arith)))
 
 -- a shape
 pub shape_enough : (f g n : ℕ) → n ≤ f → n ≤ g → shape_within f n ≡ shape_within g n
@@ -70,7 +93,7 @@ shape_enough (suc f) (suc g) (suc (suc m)) h k =
     ap (λ xs. inner_words (degree (suc (suc m))) ∷ xs)
     (join_parts_same (shape_within f) (shape_within g) (suc (suc m))
     (λ j. let l = part_len-lt (suc (suc m)) j (omega arith) in
-        shape_enough f g (part_len (suc (suc m)) j) (omega arith) (omega arith)))
+    shape_enough f g (part_len (suc (suc m)) j) (omega arith) (omega arith)))
 
 -- a depth
 pub depth_enough : (f g n : ℕ) → n ≤ f → n ≤ g → depth_within f n ≡ depth_within g n
@@ -83,7 +106,7 @@ depth_enough (suc f) (suc g) (suc (suc m)) h k =
     ap (λ xs. suc (fold max 0 xs))
     (map_parts_same (depth_within f) (depth_within g) (suc (suc m))
     (λ j. let l = part_len-lt (suc (suc m)) j (omega arith) in
-        depth_enough f g (part_len (suc (suc m)) j) (omega arith) (omega arith)))
+    depth_enough f g (part_len (suc (suc m)) j) (omega arith) (omega arith)))
 
 -- ---- a node from its parts
 
@@ -97,8 +120,8 @@ ideal_words_many (suc (suc m)) h =
     ap (λ x. inner_words (degree (suc (suc m))) + x)
     (sum_parts_same (ideal_words_within (suc m)) ideal_words (suc (suc m))
     (λ j. let k = part_len (suc (suc m)) j in
-        let l = part_len-lt (suc (suc m)) j h in
-        ideal_words_enough (suc m) k k (omega arith) (omega arith)))
+    let l = part_len-lt (suc (suc m)) j h in
+    ideal_words_enough (suc m) k k (omega arith) (omega arith)))
 
 -- no key has no row
 pub shape_none : shape 0 ≡ []
@@ -120,8 +143,8 @@ shape_many (suc (suc m)) h =
     ap (λ xs. inner_words (degree (suc (suc m))) ∷ xs)
     (join_parts_same (shape_within (suc m)) shape (suc (suc m))
     (λ j. let k = part_len (suc (suc m)) j in
-        let l = part_len-lt (suc (suc m)) j h in
-        shape_enough (suc m) k k (omega arith) (omega arith)))
+    let l = part_len-lt (suc (suc m)) j h in
+    shape_enough (suc m) k k (omega arith) (omega arith)))
 
 -- the depth of a node is one more than the depth of its deepest part
 pub depth_many : (n : ℕ) → 2 ≤ n → depth n ≡ suc (fold max 0 (map depth (part_lens n)))
@@ -132,5 +155,5 @@ depth_many (suc (suc m)) h =
     ap (λ xs. suc (fold max 0 xs))
     (map_parts_same (depth_within (suc m)) depth (suc (suc m))
     (λ j. let k = part_len (suc (suc m)) j in
-        let l = part_len-lt (suc (suc m)) j h in
-        depth_enough (suc m) k k (omega arith) (omega arith)))
+    let l = part_len-lt (suc (suc m)) j h in
+    depth_enough (suc m) k k (omega arith) (omega arith)))

@@ -19,8 +19,9 @@ use Rattle.ist_core.specs.Fairness.{at_end, from_right, no_build}
 use Rattle.ist_core.specs.Installing.{CanInstall, a_start}
 use Rattle.ist_core.specs.Enabled.{CanEnter, CanReserve}
 use Rattle.ist_core.specs.Lawful.{Lawful, CanOpen}
-use Rattle.ist_core.specs.ExampleLogs.{two_pairs, two_pairs_words, start_pairs, start_rows, start_installed}
-use Rattle.ist_core.specs.Lists.{Among}
+use Rattle.ist_core.specs.ExampleLogs.{start_pairs, start_rows, start_installed}
+use Rattle.ist_core.specs.ExampleTables.{two_pairs, two_pairs_words, ten_pairs, ten_rows}
+use Rattle.ist_core.specs.Elements.{Among}
 use Rattle.ist_core.specs.RowLayout.{first_row}
 use Rattle.ist_core.proofs.PieceLemmas.{among-pieces_of, slice_get-drop, stands_by}
 
@@ -58,6 +59,11 @@ two_pairs_open =
       rows = λ base p e. rows_stand base p (among-pieces_of (rows_from first_row two_pairs) base p e);
       free = λ place low high. behind_rows place low high;
     }
+
+-- the rows of a larger one
+pub ten_laid : rows_from first_row ten_pairs ≡ ten_rows
+unfolding ideal_words ideal_words_within rows_within degree square_root root_up_to part_len part_lens
+ten_laid = refl
 
 abbrev pub two : Snapshot
 two = start start_pairs 100

@@ -1,10 +1,37 @@
 -- A status and its word: each gives the other.
-use Rattle.std.proofs.Common.{◌≡◌, ◌∙◌, ℕ, ◌+◌, ◌*◌, ◌/◌, ◌%◌, ◌<◌, ◌≤◌, ◌≢◌, Bool, true, false,
-    cond, ◌&&◌, nat_lt, refl, sym, ap, arith}
+use Rattle.std.proofs.Common.{
+  ◌≡◌,
+  ◌∙◌,
+  ℕ,
+  ◌+◌,
+  ◌*◌,
+  ◌/◌,
+  ◌%◌,
+  ◌<◌,
+  ◌≤◌,
+  ◌≢◌,
+  Bool,
+  true,
+  false,
+  cond,
+  ◌&&◌,
+  nat_lt,
+  refl,
+  sym,
+  ap,
+  arith,
+}
 use Rattle.std.specs.Prelude.{◌==◌, Option, Some, None}
 use Rattle.std.proofs.lemmas.Bool.Decides.{nat_tests}
-use Rattle.ist_core.specs.Statuses.{Status, Open, Marked, Finished, status_word, status_of,
-    keys_limit}
+use Rattle.ist_core.specs.Statuses.{
+  Status,
+  Open,
+  Marked,
+  Finished,
+  status_word,
+  status_of,
+  keys_limit,
+}
 
 -- the status that four tests of a word choose
 abbrev chosen : Bool → Bool → Bool → Bool → ℕ → Option Status
@@ -22,7 +49,11 @@ record Tests (word : ℕ) (a b c d : Bool) : Type 0 where
 tests : (word : ℕ)
     → Tests word (word == 0) (word == 1) (word % 4 == 3) (nat_lt (word / 4) keys_limit)
 tests word = record {
-    open_test = refl; marked_test = refl; finished_test = refl; keys_test = refl }
+  open_test = refl;
+  marked_test = refl;
+  finished_test = refl;
+  keys_test = refl;
+}
 
 -- ---- from a word
 

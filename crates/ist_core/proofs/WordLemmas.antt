@@ -1,6 +1,29 @@
 -- How many words an ideal tree takes: against its shape, at most, and from two sizes of parts.
-use Rattle.std.proofs.Common.{◌≡◌, ◌∙◌, ℕ, zero, suc, ◌+◌, ◌-◌, ◌*◌, ◌/◌, ◌%◌, ◌<◌, ◌≤◌, List, [],
-    ◌∷◌, map, ⊎_elim, refl, sym, ap, arith, lit≤, mul-le-mul_left}
+use Rattle.std.proofs.Common.{
+  ◌≡◌,
+  ◌∙◌,
+  ℕ,
+  zero,
+  suc,
+  ◌+◌,
+  ◌-◌,
+  ◌*◌,
+  ◌/◌,
+  ◌%◌,
+  ◌<◌,
+  ◌≤◌,
+  List,
+  [],
+  ◌∷◌,
+  map,
+  ⊎_elim,
+  refl,
+  sym,
+  ap,
+  arith,
+  lit≤,
+  mul-le-mul_left,
+}
 use Rattle.std.proofs.lemmas.Bool.{cases_lt}
 use Rattle.std.proofs.lemmas.List.Sums.{sum_by-cons, sum_by-append}
 use Rattle.std.specs.List.{sum, sum_by, flat_map, range_with_len}
@@ -8,8 +31,13 @@ use Rattle.ist_core.specs.Arithmetic.{root_up_to, square_root, degree, part_len,
 use Rattle.ist_core.specs.RowLayout.{inner_words}
 use Rattle.ist_core.specs.Shapes.{ideal_words_within, ideal_words, shape_within, shape}
 use Rattle.ist_core.proofs.RootLemmas.{least_degree-le}
-use Rattle.ist_core.proofs.PartLemmas.{part_len-pos, part_len-lt, sum-part_lens, sum_by-part_lens,
-    sum_of_more}
+use Rattle.ist_core.proofs.PartLemmas.{
+  part_len-pos,
+  part_len-lt,
+  sum-part_lens,
+  sum_by-part_lens,
+  sum_of_more,
+}
 use Rattle.ist_core.proofs.ShapeLemmas.{sum_parts_same, ideal_words_many, shape_many}
 
 -- ---- against the shape
@@ -42,7 +70,7 @@ words_up_to zero (suc (suc m)) h = absurd (omega arith)
 words_up_to (suc top) (suc (suc m)) h =
     many (suc (suc m)) (omega arith)
     (λ j. let l = part_len-lt (suc (suc m)) j (omega arith) in
-        words_up_to top (part_len (suc (suc m)) j) (omega arith))
+    words_up_to top (part_len (suc (suc m)) j) (omega arith))
   where
     many : (n : ℕ) → 2 ≤ n
         → ((j : ℕ) → ideal_words (part_len n j) ≡ 2 * part_len n j + sum (shape (part_len n j)))
@@ -52,8 +80,8 @@ words_up_to (suc top) (suc (suc m)) h =
         let leaves = sum_by_twice_and (λ x. sum (shape x)) (part_lens n) in
         let lower_rows = sum-flat_map shape (part_lens n) in
         let rows =
-            ap sum (shape_many n k)
-            ∙ sum_by-cons (λ x. x) (inner_words (degree n)) (flat_map shape (part_lens n)) in
+        ap sum (shape_many n k)
+        ∙ sum_by-cons (λ x. x) (inner_words (degree n)) (flat_map shape (part_lens n)) in
         omega (arith, ideal_words_many n k, sum-part_lens n)
 
 -- an ideal tree takes two words for each leaf, and its inner rows
@@ -70,7 +98,7 @@ sum_parts-le g n each = let all = over (degree n) in omega (arith, sum-part_lens
   where
     over : (k : ℕ)
         → sum_by g (map (part_len n) (range_with_len 0 k)) + 7 * k
-          ≤ 9 * sum (map (part_len n) (range_with_len 0 k))
+        ≤ 9 * sum (map (part_len n) (range_with_len 0 k))
     over zero = omega arith
     over (suc k) =
         let words = sum_of_more g n k in
@@ -86,8 +114,8 @@ words_bound_up_to zero (suc (suc m)) h k = absurd (omega arith)
 words_bound_up_to (suc top) (suc (suc m)) h k =
     many (suc (suc m)) (omega arith)
     (λ j. let l = part_len-lt (suc (suc m)) j (omega arith) in
-        let p = part_len-pos (suc (suc m)) j (omega arith) in
-        words_bound_up_to top (part_len (suc (suc m)) j) (omega arith) p)
+    let p = part_len-pos (suc (suc m)) j (omega arith) in
+    words_bound_up_to top (part_len (suc (suc m)) j) (omega arith) p)
   where
     many : (n : ℕ) → 2 ≤ n → ((j : ℕ) → ideal_words (part_len n j) + 7 ≤ 9 * part_len n j)
         → ideal_words n + 7 ≤ 9 * n
@@ -143,10 +171,10 @@ mixed_words_same n d q r p e f a b = ⊎_elim below above (cases_lt q (p + 1))
     below : q < p + 1 → mixed_words d r q ≡ mixed_words d (n - d * p) p
     below y =
         let lower : p ≤ q = ⊎_elim
-            (λ (z : q < p).
-                let k = mul-le-mul_left d (let x : q + 1 ≤ p = omega arith in x) in
-                absurd (omega arith))
-            (λ (z : p ≤ q). z) (cases_lt q p) in
+        (λ (z : q < p).
+        let k = mul-le-mul_left d (let x : q + 1 ≤ p = omega arith in x) in
+        absurd (omega arith))
+        (λ (z : p ≤ q). z) (cases_lt q p) in
         let same : q ≡ p = omega arith in
         let k = ap (λ x. d * x) same in
         let longer : r ≡ n - d * p = omega arith in
@@ -158,10 +186,10 @@ mixed_words_same n d q r p e f a b = ⊎_elim below above (cases_lt q (p + 1))
         let none : r ≡ 0 = omega arith in
         let all : d ≡ n - d * p = omega arith in
         let same : q ≡ p + 1 = ⊎_elim
-            (λ (z : p + 1 < q).
-                let l = mul-le-mul_left d (let x : p + 2 ≤ q = omega arith in x) in
-                absurd (omega arith))
-            (λ (z : q ≤ p + 1). omega arith) (cases_lt (p + 1) q) in
+        (λ (z : p + 1 < q).
+        let l = mul-le-mul_left d (let x : p + 2 ≤ q = omega arith in x) in
+        absurd (omega arith))
+        (λ (z : q ≤ p + 1). omega arith) (cases_lt (p + 1) q) in
         ap (λ x. mixed_words d x q) none
         ∙ ap (λ x. mixed_words d 0 x) same
         ∙ mixed_words_turned d p
@@ -177,4 +205,4 @@ ideal_words_by_two n p h k l =
     ideal_words_many n h
     ∙ ap (λ x. inner_words (degree n) + x) (sum_by-part_lens ideal_words n)
     ∙ ap (λ x. inner_words (degree n) + x)
-        (mixed_words_same n (degree n) (n / degree n) (n % degree n) p whole rest k l)
+    (mixed_words_same n (degree n) (n / degree n) (n % degree n) p whole rest k l)

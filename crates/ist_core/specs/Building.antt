@@ -8,7 +8,8 @@ use Rattle.ist_core.specs.Arithmetic.{degree}
 use Rattle.ist_core.specs.RowLayout.{pair_words}
 use Rattle.ist_core.specs.Shapes.{share_from}
 use Rattle.ist_core.specs.References.{Ref, InnerAt, ref_of, unset_word}
-use Rattle.ist_core.specs.Lists.{Distinct, parts}
+use Rattle.ist_core.specs.Elements.{Distinct}
+use Rattle.ist_core.specs.Parts.{parts}
 use Rattle.ist_core.specs.Pieces.{Inner, Rebuild, Pieces, with_inners}
 use Rattle.ist_core.specs.Snapshots.{Snapshot, bases_of, sizes_of, HoldsRow, HoldsRows}
 use Rattle.ist_core.specs.Logs.{Log, Happened, Draws}

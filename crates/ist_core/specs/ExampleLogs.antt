@@ -1,24 +1,9 @@
--- Small logs and tables that show what the definitions mean. Of a log the newest event stands first.
-use Rattle.std.specs.Prelude.{ℕ, true, List, [], ◌∷◌}
+-- Small logs that show what the definitions mean. Of a log the newest event stands first.
+use Rattle.std.specs.Prelude.{true, List, [], ◌∷◌}
 use Rattle.ist_core.specs.declared.pairs.Pair.{Pair}
 use Rattle.ist_core.specs.declared.lists.Row.{Row}
 use Rattle.ist_core.specs.declared.events.Event.TheVariants.{Enter, Reserve, Install, Okay, Decide, Resolve, Mark, Pass, Finish, Root}
 use Rattle.ist_core.specs.Logs.{Log}
-
--- ---- a table of two pairs
-
--- the pairs (5, 7) and (9, 1)
-abbrev pub two_pairs : List Pair
-two_pairs = record { key = 5; value = 7 } ∷ record { key = 9; value = 1 } ∷ []
-
--- the words of a new table of 20 words with these pairs: the fixed words, an inner row, and two leaves
-abbrev pub two_pairs_words : List ℕ
-two_pairs_words =
-    15 ∷ 0 ∷ 0 ∷ 34
-    ∷ 0 ∷ 0 ∷ 2 ∷ 2 ∷ 9 ∷ 89 ∷ 105
-    ∷ 5 ∷ 7
-    ∷ 9 ∷ 1
-    ∷ 0 ∷ 0 ∷ 0 ∷ 0 ∷ 0 ∷ []
 
 -- ---- a put of (1, 1) into an empty table
 

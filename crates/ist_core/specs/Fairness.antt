@@ -4,7 +4,7 @@ use Rattle.ist_core.specs.declared.states.RebuildRow.{RebuildRow}
 use Rattle.ist_core.specs.Arithmetic.{degree, part_len}
 use Rattle.ist_core.specs.RowLayout.{leaf_words, rebuild_words, pair_words, change_words, inner_words}
 use Rattle.ist_core.specs.Shapes.{shape, share_from}
-use Rattle.ist_core.specs.Lists.{Among, Each, Distinct}
+use Rattle.ist_core.specs.Elements.{Among, Each, Distinct}
 use Rattle.ist_core.specs.Pieces.{Rebuild}
 use Rattle.ist_core.specs.Snapshots.{Snapshot}
 use Rattle.ist_core.specs.Rebuilding.{IsStarted, IsFinishedWith}

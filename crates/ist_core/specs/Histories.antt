@@ -5,7 +5,7 @@ use Rattle.ist_core.specs.declared.calls.Call.{Call}
 use Rattle.ist_core.specs.declared.pairs.Pair.{Pair}
 use Rattle.ist_core.specs.Map.{Map, replies}
 use Rattle.ist_core.specs.Replies.{Answered}
-use Rattle.ist_core.specs.Lists.{Each}
+use Rattle.ist_core.specs.Elements.{Each}
 use Rattle.ist_core.specs.Logs.{Log, GoesOn}
 use Rattle.ist_core.specs.Changes.{Entry}
 use Rattle.ist_core.specs.Standing.{is_change, StandsIn}

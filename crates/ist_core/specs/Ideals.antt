@@ -4,7 +4,7 @@ use Rattle.ist_core.specs.declared.states.InnerRow.{InnerRow}
 use Rattle.ist_core.specs.Arithmetic.{degree}
 use Rattle.ist_core.specs.References.{Ref, Empty, LeafAt, InnerAt, ref_of}
 use Rattle.ist_core.specs.Statuses.{open_word}
-use Rattle.ist_core.specs.Lists.{parts, first_keys}
+use Rattle.ist_core.specs.Parts.{parts, first_keys}
 use Rattle.ist_core.specs.Pieces.{Leaf, Inner, Pieces}
 use Rattle.ist_core.specs.Leaves.{PlacedLeaf}
 

@@ -6,7 +6,8 @@ pub mod RowLayout
 pub mod Shapes
 pub mod References
 pub mod Statuses
-pub mod Lists
+pub mod Elements
+pub mod Parts
 pub mod Pieces
 pub mod Snapshots
 pub mod StartLayout
@@ -30,4 +31,5 @@ pub mod Changes
 pub mod Standing
 pub mod Histories
 pub mod Resting
+pub mod ExampleTables
 pub mod ExampleLogs

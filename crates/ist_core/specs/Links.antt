@@ -2,7 +2,7 @@
 use Rattle.std.specs.Prelude.{◌≡◌, ℕ, List, [], ◌∷◌, ◌++◌, Some}
 use Rattle.ist_core.specs.RowLayout.{anchor}
 use Rattle.ist_core.specs.References.{InnerAt}
-use Rattle.ist_core.specs.Lists.{Among}
+use Rattle.ist_core.specs.Elements.{Among}
 use Rattle.ist_core.specs.Snapshots.{Snapshot}
 use Rattle.ist_core.specs.Logs.{Log, Ever}
 use Rattle.ist_core.specs.Slots.{SlotHolds, IsChildFor, logical}

@@ -2,7 +2,7 @@
 use Rattle.std.specs.Prelude.{◌≡◌, ℕ, ◌⊎◌, Bool, List, [], ◌∷◌}
 use Rattle.ist_core.specs.declared.events.Event.{Event}
 use Rattle.ist_core.specs.declared.events.Event.TheVariants.{Reserve, Okay, Decide, Resolve, Count, Pass, Draw, Lose}
-use Rattle.ist_core.specs.Lists.{Among}
+use Rattle.ist_core.specs.Elements.{Among}
 use Rattle.ist_core.specs.Snapshots.{Snapshot}
 use Rattle.ist_core.specs.After.{after}
 

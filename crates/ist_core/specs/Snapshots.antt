@@ -6,7 +6,7 @@ use Rattle.ist_core.specs.declared.lists.HeldRow.{HeldRow}
 use Rattle.ist_core.specs.declared.lists.Row.{Row}
 use Rattle.ist_core.specs.declared.states.State.{State}
 use Rattle.ist_core.specs.RowLayout.{anchor}
-use Rattle.ist_core.specs.Lists.{Among, Each}
+use Rattle.ist_core.specs.Elements.{Among, Each}
 use Rattle.ist_core.specs.Pieces.{Pieces, as_leaf, as_inner, as_change, as_rebuild, changed_at, with_slot}
 
 -- a table of `words` words, of which those from `next` on are free: how many callers it has, the word in the anchor's slot,

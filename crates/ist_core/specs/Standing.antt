@@ -5,7 +5,7 @@ use Rattle.ist_core.specs.declared.commands.Command.TheVariants.{Put, Remove, Ge
 use Rattle.ist_core.specs.declared.calls.Call.{Call}
 use Rattle.ist_core.specs.declared.pairs.Pair.{Pair}
 use Rattle.ist_core.specs.Map.{Map, map_of, reply_to}
-use Rattle.ist_core.specs.Lists.{Among, Each}
+use Rattle.ist_core.specs.Elements.{Among, Each}
 use Rattle.ist_core.specs.Logs.{Log}
 use Rattle.ist_core.specs.Changes.{Entry, changes_of, map_at}
 

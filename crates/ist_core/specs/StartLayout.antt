@@ -7,7 +7,7 @@ use Rattle.ist_core.specs.RowLayout.{first_row, inner_words}
 use Rattle.ist_core.specs.Shapes.{ideal_words}
 use Rattle.ist_core.specs.References.{Ref, Empty, LeafAt, InnerAt, word_of}
 use Rattle.ist_core.specs.Statuses.{open_word}
-use Rattle.ist_core.specs.Lists.{parts, first_keys}
+use Rattle.ist_core.specs.Parts.{parts, first_keys}
 use Rattle.ist_core.specs.Pieces.{Piece, Leaf, Inner, Pieces, with_row}
 use Rattle.ist_core.specs.Snapshots.{Snapshot}
 

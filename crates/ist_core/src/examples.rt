@@ -1,21 +1,24 @@
 //! What the definitions mean on small examples. The functions take no steps: contracts are facts.
 ghost use Rattle.std.specs.Prelude.{◌≡◌, [], ◌∷◌, Some};
 ghost use Rattle.ist_core.specs.declared.commands.Command.TheVariants.{Put};
-ghost use Rattle.ist_core.specs.ExampleLogs.{two_pairs, two_pairs_words};
+ghost use Rattle.ist_core.specs.ExampleTables.{two_pairs, two_pairs_words, ten_pairs, ten_rows};
+ghost use Rattle.ist_core.specs.RowLayout.{first_row};
 ghost use Rattle.ist_core.specs.ExampleLogs.{put_installed, put_decided, put_resolved, put_unseen};
 ghost use Rattle.ist_core.specs.ExampleLogs.{start_pairs, start_installed, rebuild_replaced};
 ghost use Rattle.ist_core.specs.ExampleLogs.{late_finished, too_late};
 ghost use Rattle.ist_core.specs.Changes.{changes_of};
 ghost use Rattle.ist_core.specs.References.{Empty, LeafAt, InnerAt, ChangeAt, RebuildAt, word_of};
-ghost use Rattle.ist_core.specs.StartLayout.{start};
+ghost use Rattle.ist_core.specs.StartLayout.{start, rows_from};
 ghost use Rattle.ist_core.specs.Images.{IsImage};
 ghost use Rattle.ist_core.specs.Slots.{logical};
 ghost use Rattle.ist_core.specs.Leaves.{HasContents};
 ghost use Rattle.ist_core.specs.Lawful.{Lawful, state_of};
 
-/// The words of a new table of 20 words with the pairs (5, 7) and (9, 1).
+/// The words of a new table of 20 words with the pairs (5, 7) and (9, 1), and the rows of one with
+/// ten pairs.
 pub fn a_table_opens()
     ensures image { IsImage (start two_pairs 20) two_pairs_words }
+    ensures ten { rows_from first_row ten_pairs ≡ ten_rows }
 {}
 
 /// A put of (1, 1) into an empty table of 15 words: it uses them all, and its leaf stands in the
