@@ -1,26 +1,5 @@
 -- How deep an ideal tree is: by how few keys the parts of the parts have.
-use Rattle.std.proofs.Common.{
-  ◌≡◌,
-  ℕ,
-  zero,
-  suc,
-  ◌+◌,
-  ◌*◌,
-  ◌/◌,
-  ◌%◌,
-  ◌<◌,
-  ◌≤◌,
-  ◌^◌,
-  max,
-  List,
-  [],
-  ◌∷◌,
-  map,
-  ⊎_elim,
-  ap,
-  arith,
-  lit≤,
-}
+use Rattle.std.proofs.Common.{◌≡◌, ℕ, zero, suc, ◌+◌, ◌*◌, ◌<◌, ◌≤◌, ◌^◌, max, List, [], ◌∷◌, map, ⊎_elim, ap, arith, lit≤}
 use Rattle.std.proofs.lemmas.Bool.{cases_lt}
 use Rattle.std.specs.List.{fold, range_with_len}
 use Rattle.ist_core.specs.Arithmetic.{root_up_to, square_root, degree, part_len, part_lens}

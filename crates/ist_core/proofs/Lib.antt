@@ -9,6 +9,7 @@ pub mod EntryLemmas
 pub mod PieceLemmas
 pub mod SnapshotLemmas
 pub mod LeafLemmas
+pub mod SpendingLemmas
 pub mod RefusalLemmas
 pub mod PutExampleLemmas
 pub mod StartExampleLemmas

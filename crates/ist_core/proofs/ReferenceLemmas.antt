@@ -1,33 +1,6 @@
 -- A good reference and its word: each gives the other.
-use Rattle.std.proofs.Common.{
-  ◌≡◌,
-  ◌∙◌,
-  ℕ,
-  ◌+◌,
-  ◌*◌,
-  ◌/◌,
-  ◌%◌,
-  ◌<◌,
-  ◌≤◌,
-  ◌≢◌,
-  ◌⊎◌,
-  inl,
-  inr,
-  ⊎_elim,
-  Bool,
-  true,
-  false,
-  cond,
-  ◌&&◌,
-  nat_le,
-  nat_lt,
-  refl,
-  sym,
-  ap,
-  subst,
-  arith,
-}
-use Rattle.std.specs.Prelude.{◌==◌, Option, Some, None}
+use Rattle.std.proofs.Common.{◌≡◌, ◌∙◌, ℕ, ◌+◌, ◌*◌, ◌/◌, ◌%◌, ◌<◌, ◌≤◌, ◌≢◌, Bool, true, false, cond, ◌&&◌, nat_le, nat_lt, refl, ap, subst, arith}
+use Rattle.std.specs.Prelude.{◌==◌, Some, None}
 use Rattle.std.proofs.lemmas.Bool.Decides.{nat_tests}
 use Rattle.ist_core.specs.RowLayout.{first_row, place_limit}
 use Rattle.ist_core.specs.References.{

@@ -2,7 +2,7 @@
 use Rattle.std.specs.Prelude.{true, List, [], ◌∷◌}
 use Rattle.ist_core.specs.declared.pairs.Pair.{Pair}
 use Rattle.ist_core.specs.declared.lists.Row.{Row}
-use Rattle.ist_core.specs.declared.events.Event.TheVariants.{Enter, Reserve, Install, Okay, Decide, Resolve, Mark, Pass, Finish, Root}
+use Rattle.ist_core.specs.declared.events.Event.TheVariants.{Enter, Reserve, Install, Okay, Decide, Resolve, Count, Mark, Pass, Finish, Root}
 use Rattle.ist_core.specs.Logs.{Log}
 
 -- ---- a put of (1, 1) into an empty table
@@ -102,9 +102,13 @@ late_marked = Mark 0 4 ∷ Okay 2 31 ∷ Install 1 31 late_rows ∷ late_reserve
 abbrev pub late_resolved : Log
 late_resolved = Resolve 0 31 ∷ Decide 2 31 true ∷ late_marked
 
+-- caller 1 counts its put at the target, the one row of the chain
+abbrev pub late_counted : Log
+late_counted = Count 1 4 ∷ late_resolved
+
 -- caller 0 passes both slots, the second with the new leaf, and finishes the target
 abbrev pub late_finished : Log
-late_finished = Finish 0 4 2 ∷ Pass 0 4 1 233 ∷ Pass 0 4 0 89 ∷ late_resolved
+late_finished = Finish 0 4 2 ∷ Pass 0 4 1 233 ∷ Pass 0 4 0 89 ∷ late_counted
 
 -- the same put, installed only behind the mark and decided yes
 abbrev pub too_late : Log

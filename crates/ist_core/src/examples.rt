@@ -58,7 +58,7 @@ pub fn a_rebuild_is_lawful()
 {}
 
 /// A put of (20, 9) in the target of a rebuild, whose node was seen open before the mark and which is
-/// decided yes behind it: it takes effect, and its leaf is what is passed.
+/// decided yes behind it: it takes effect, is counted, and its leaf is what is passed.
 ///
 /// Where it is installed only behind the mark, nobody can have seen the node open, and yes isn't
 /// lawful.
