@@ -12,14 +12,13 @@ use Rattle.ist_core.specs.Pieces.{Change}
 use Rattle.ist_core.specs.StartLayout.{rows_within}
 use Rattle.ist_core.specs.Logs.{state, Log}
 use Rattle.ist_core.specs.Slots.{in_anchor, in_row, row_is, of_anchor, of_row}
-use Rattle.ist_core.specs.Links.{IsChild, at_anchor, below, Chain, no_row, one_more, from_anchor, down}
+use Rattle.ist_core.specs.Links.{IsChild, at_anchor, below, Chain, no_row, one_row, from_anchor, down}
 use Rattle.ist_core.specs.Leaves.{leaf_here, row_here, no_slot, one_slot, HasContents}
 use Rattle.ist_core.specs.Rebuilding.{IsStarted}
 use Rattle.ist_core.specs.Fairness.{at_end, from_right, no_build}
 use Rattle.ist_core.specs.Installing.{CanInstall, same_key, a_put}
 use Rattle.ist_core.specs.Deciding.{CanOkay, CanDecide, CanResolve, CanCount}
-use Rattle.ist_core.specs.Marking.{CanMark, as_target, CanPass, CanFinish, one_key, past_end}
-use Rattle.ist_core.specs.Marking as marking
+use Rattle.ist_core.specs.Marking.{CanMark, as_target, CanPass, CanFinish, one_key, past_end, one_passed}
 use Rattle.ist_core.specs.Enabled.{CanEnter, CanReserve}
 use Rattle.ist_core.specs.Lawful.{Lawful, EachEnabled}
 use Rattle.ist_core.specs.Changes.{changes_of}
@@ -138,7 +137,7 @@ resolved = record { known = omega arith; change = the_put 1; published = refl; d
 -- the chain of the target has the target alone
 target_chain : Chain (state two late_resolved) 4 (4 ∷ [])
 unfolding ref_of
-target_chain = one_more 0 no_row record { word = 124; holds = in_anchor refl refl refl; reads = refl }
+target_chain = one_row 0 no_row record { word = 124; holds = in_anchor refl refl refl; reads = refl }
 
 counted : CanCount two late_resolved 1 4
 unfolding rows_within degree square_root root_up_to part_len part_lens ideal_words ideal_words_within
@@ -179,7 +178,7 @@ finished =
       row = target 1 1 233;
       published = refl;
       marked = refl;
-      passed = marking.one_slot 89 (inr (inl (refl, refl, refl))) one_key (marking.one_slot 233 (inl (refl, refl, refl)) one_key past_end);
+      passed = one_passed 89 (inr (inl (refl, refl, refl))) one_key (one_passed 233 (inl (refl, refl, refl)) one_key past_end);
     }
 
 put_installed : EachEnabled two late_installed

@@ -18,9 +18,8 @@ use Rattle.ist_core.specs.Ideals.{IsTop, IsIdeal, of_one, of_more, no_part, one_
 use Rattle.ist_core.specs.Rebuilding.{IsStarted}
 use Rattle.ist_core.specs.Fairness.{at_end, from_right, no_build}
 use Rattle.ist_core.specs.Deciding.{CanOkay, CanDecide, CanResolve}
-use Rattle.ist_core.specs.Marking.{CanMark, as_target, CanPass, CanFinish, one_key, past_end}
-use Rattle.ist_core.specs.Marking as marking
-use Rattle.ist_core.specs.Building.{CanRoot, whole}
+use Rattle.ist_core.specs.Marking.{CanMark, as_target, CanPass, CanFinish, one_key, past_end, one_passed}
+use Rattle.ist_core.specs.Building.{CanRoot, root_whole}
 use Rattle.ist_core.specs.Enabled.{CanReserve}
 use Rattle.ist_core.specs.Lawful.{EachEnabled}
 use Rattle.ist_core.specs.ExampleLogs.{start_installed, rebuild_started, rebuild_finished, root_rows, rebuild_rooted}
@@ -99,7 +98,7 @@ finished =
       row = the_row 1;
       published = refl;
       marked = refl;
-      passed = marking.one_slot 89 (inr (inl (refl, refl, refl))) one_key (marking.one_slot 105 (inl (refl, refl, refl)) one_key past_end);
+      passed = one_passed 89 (inr (inl (refl, refl, refl))) one_key (one_passed 105 (inl (refl, refl, refl)) one_key past_end);
     }
 
 finished_log : EachEnabled two rebuild_finished
@@ -162,7 +161,7 @@ rooted =
       finished = record { row = the_row 11; published = refl; status = refl };
       leaves = both;
       reached = target_leaves;
-      root = whole (InnerAt 29) two_is_few refl root_ideal;
+      root = root_whole (InnerAt 29) two_is_few refl root_ideal;
       once = ((λ k. k), tt);
       held = (inl refl, tt);
     }

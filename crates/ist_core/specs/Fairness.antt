@@ -11,9 +11,9 @@ use Rattle.ist_core.specs.Rebuilding.{IsStarted, IsFinishedWith}
 
 -- the sizes of the rows of one build over k keys: the whole subtree, or where helpers share it the top row alone, or one part
 pub data IsBuild (k : ℕ) : List ℕ → Type 0 where
-  whole : 2 ≤ k → k < share_from → IsBuild k (shape k)
-  top_alone : share_from ≤ k → IsBuild k (inner_words (degree k) ∷ [])
-  one_part : (j : ℕ) → share_from ≤ k → j < degree k → IsBuild k (shape (part_len k j))
+  build_whole : 2 ≤ k → k < share_from → IsBuild k (shape k)
+  build_top : share_from ≤ k → IsBuild k (inner_words (degree k) ∷ [])
+  build_part : (j : ℕ) → share_from ≤ k → j < degree k → IsBuild k (shape (part_len k j))
 
 -- a building list: the sizes of a build for a started rebuild whose target is finished
 pub record IsBuilding (t : Snapshot) (sizes : List ℕ) : Type 0 where

@@ -135,7 +135,7 @@ pub record Finishes (t : Snapshot) (change : ChangeRow) (fresh : List Row) : Typ
 -- the condition of the change's kind
 pub data FitsKind (first : Snapshot) (log : Log) (change : ChangeRow) (fresh : List Row) : Type 0 where
   a_put : PutsLeaf first log change fresh → FitsKind first log change fresh
-  a_split : PutsPair first log change fresh → FitsKind first log change fresh
+  a_pair : PutsPair first log change fresh → FitsKind first log change fresh
   a_remove : Removes first log change fresh → FitsKind first log change fresh
   a_start : Starts (state first log) change fresh → FitsKind first log change fresh
   a_finish : Finishes (state first log) change fresh → FitsKind first log change fresh

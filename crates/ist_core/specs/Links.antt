@@ -21,7 +21,7 @@ pub data Linked (t : Snapshot) : ℕ → Type 0 where
 -- these are the inner rows from the anchor down to the node: the anchor is left out, the node is the last
 pub data Chain (t : Snapshot) : ℕ → List ℕ → Type 0 where
   no_row : Chain t anchor []
-  one_more : {node child : ℕ} {rows : List ℕ} (i : ℕ) → Chain t node rows → IsChild t node i child
+  one_row : {node child : ℕ} {rows : List ℕ} (i : ℕ) → Chain t node rows → IsChild t node i child
       → Chain t child (rows ++ child ∷ [])
 
 -- the node is reached from the anchor by the children for the key

@@ -17,8 +17,8 @@ state first (event ∷ log) = after (state first log) event
 
 -- the log goes on from an earlier one, by more events: the earlier one is a prefix of it
 pub data GoesOn (earlier : Log) : Log → Type 0 where
-  same : GoesOn earlier earlier
-  one_more : {log : Log} (event : Event) → GoesOn earlier log → GoesOn earlier (event ∷ log)
+  same_log : GoesOn earlier earlier
+  one_event : {log : Log} (event : Event) → GoesOn earlier log → GoesOn earlier (event ∷ log)
 
 -- P was true of the state at some moment of the log, the first and the last included
 abbrev pub Ever : Snapshot → (Snapshot → Type 0) → Log → Type 0

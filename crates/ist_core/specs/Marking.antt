@@ -62,7 +62,7 @@ pub data CountsFor (t : Snapshot) : Option Ref → ℕ → Type 0 where
 -- name one word, so that one of each slot is asked for
 pub data ArePassed (t : Snapshot) (log : Log) (node : ℕ) : ℕ → List ℕ → ℕ → Type 0 where
   past_end : {i : ℕ} → ArePassed t log node i [] 0
-  one_slot : {i here rest slot : ℕ} {slots : List ℕ} (word : ℕ) → Happened (Passes node i word) log
+  one_passed : {i here rest slot : ℕ} {slots : List ℕ} (word : ℕ) → Happened (Passes node i word) log
       → CountsFor t (ref_of word) here → ArePassed t log node (i + 1) slots rest
       → ArePassed t log node i (slot ∷ slots) (here + rest)
 
