@@ -6,9 +6,12 @@ pub mod DepthLemmas
 pub mod ReferenceLemmas
 pub mod StatusLemmas
 pub mod EntryLemmas
+pub mod ElementLemmas
+pub mod RowLemmas
 pub mod PieceLemmas
 pub mod SnapshotLemmas
 pub mod LeafLemmas
+pub mod SizeLemmas
 pub mod SpendingLemmas
 pub mod RefusalLemmas
 pub mod PutExampleLemmas
