@@ -12,6 +12,8 @@ pub mod PieceLemmas
 pub mod SnapshotLemmas
 pub mod LeafLemmas
 pub mod SizeLemmas
+pub mod PublishingLemmas
+pub mod InstallLemmas
 pub mod SpendingLemmas
 pub mod RefusalLemmas
 pub mod PutExampleLemmas
