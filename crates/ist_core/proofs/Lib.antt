@@ -14,6 +14,8 @@ pub mod LeafLemmas
 pub mod SizeLemmas
 pub mod PublishingLemmas
 pub mod InstallLemmas
+pub mod MoveLemmas
+pub mod PublishMoveLemmas
 pub mod SpendingLemmas
 pub mod RefusalLemmas
 pub mod PutExampleLemmas
