@@ -1,10 +1,27 @@
-//! Commands on an ordered map of numbers, and what they mean for one thread.
+//! The event model of the tree: what a reader must believe, and nothing that runs.
 //!
-//! Read `specs/Map.antt`, then `commands.rt`. Stands on nothing.
+//! `specs/Lib.antt` gives the definitions in reading order. Stands on nothing.
 #![tactic(auto)]
 
+mod calls;
 mod commands;
+mod events;
+pub mod examples;
+pub mod laws;
+mod lists;
+mod maps;
 mod pairs;
+mod ports;
+mod states;
 
+pub use calls::Call;
 pub use commands::{Command, Reply};
+pub use events::Event;
+pub use lists::{Bases, HeldRow, HeldRows, Row, Rows, Words};
+pub use maps::{Changes, Inners, Leaves, Rebuilds};
 pub use pairs::Pair;
+pub use ports::{Full, Port};
+pub use states::{ChangeRow, InnerRow, LeafRow, RebuildRow, State};
+
+#[cfg(test)]
+mod tests;

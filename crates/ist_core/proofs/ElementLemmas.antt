@@ -1,0 +1,64 @@
+-- Elements of lists. Serves each law that speaks of held rows, of logs or of leaves.
+use Rattle.std.proofs.Common.{◌≡◌, ℕ, ◌⊎◌, ◌==◌, Bool, true, false, not, if◌then◌else◌, List, [], ◌∷◌, ◌++◌, map, filter, refl, sym, subst, inl, inr, ⊎_elim}
+use Rattle.std.specs.List.{list_any}
+use Rattle.std.proofs.lemmas.Bool.Decides.{nat_tests}
+use Rattle.std.proofs.Common.{arith}
+use Rattle.ist_core.specs.Elements.{Among, Each}
+
+module _ {A : Type 0} where
+  -- an element of two lists in a row is one of the first or of the second
+  pub among-append : (x : A) (xs ys : List A) → Among x (xs ++ ys) → Among x xs ⊎ Among x ys
+  among-append x [] ys h = inr h
+  among-append x (y ∷ xs) ys (inl h) = inl (inl h)
+  among-append x (y ∷ xs) ys (inr h) = ⊎_elim (λ a. inl (inr a)) (λ b. inr b) (among-append x xs ys h)
+
+  -- an element of the first list is one of both
+  pub among_left : (x : A) (xs ys : List A) → Among x xs → Among x (xs ++ ys)
+  among_left x [] ys h = absurd h
+  among_left x (y ∷ xs) ys (inl h) = inl h
+  among_left x (y ∷ xs) ys (inr h) = inr (among_left x xs ys h)
+
+  -- an element of the second list is one of both
+  pub among_right : (x : A) (xs ys : List A) → Among x ys → Among x (xs ++ ys)
+  among_right x [] ys h = h
+  among_right x (y ∷ xs) ys h = inr (among_right x xs ys h)
+
+  -- what is true of each element is true of an element
+  pub each-among : (P : A → Type 0) (x : A) (xs : List A) → Each P xs → Among x xs → P x
+  each-among P x [] h i = absurd i
+  each-among P x (y ∷ ys) h (inl e) = subst P (sym e) h.0
+  each-among P x (y ∷ ys) h (inr i) = each-among P x ys h.1 i
+
+  -- what is true of each element of two lists is true of each of both
+  pub each_append : (P : A → Type 0) (xs ys : List A) → Each P xs → Each P ys → Each P (xs ++ ys)
+  each_append P [] ys h k = k
+  each_append P (x ∷ xs) ys h k = (h.0, each_append P xs ys h.1 k)
+
+  -- and the other way round
+  pub each-append : (P : A → Type 0) (xs ys : List A) → Each P (xs ++ ys) → Each P xs × Each P ys
+  each-append P [] ys h = (tt, h)
+  each-append P (x ∷ xs) ys h = let rest = each-append P xs ys h.1 in ((h.0, rest.0), rest.1)
+
+  -- an element that the test keeps was an element, and passes the test
+  pub among-filter : (test : A → Bool) (x : A) (xs : List A) → Among x (filter test xs) → Among x xs × (test x ≡ true)
+  among-filter test x [] h = absurd h
+  among-filter test x (y ∷ ys) h = at (among-filter test x ys) (test y) refl h
+    where
+      at : (Among x (filter test ys) → Among x ys × (test x ≡ true)) → (b : Bool) → test y ≡ b → Among x (if b then y ∷ filter test ys else filter test ys) → Among x (y ∷ ys) × (test x ≡ true)
+      at again true e (inl i) = (inl i, subst (λ z. test z ≡ true) (sym i) e)
+      at again true e (inr i) = let rest = again i in (inr rest.0, rest.1)
+      at again false e i = let rest = again i in (inr rest.0, rest.1)
+
+  -- an element that passes the test is kept
+  pub among_filter : (test : A → Bool) (x : A) (xs : List A) → Among x xs → test x ≡ true → Among x (filter test xs)
+  among_filter test x [] h e = h
+  among_filter test x (y ∷ ys) h e = at (among_filter test x ys) (test y) refl h
+    where
+      at : (Among x ys → test x ≡ true → Among x (filter test ys)) → (b : Bool) → test y ≡ b → Among x (y ∷ ys) → Among x (if b then y ∷ filter test ys else filter test ys)
+      at again true f (inl i) = inl i
+      at again true f (inr i) = inr (again i e)
+      at again false f (inl i) = absurd (clash (subst (λ z. test z ≡ true) i e) f)
+        where
+          clash : test y ≡ true → test y ≡ false → ⊥
+          clash p q = cc
+      at again false f (inr i) = again i e

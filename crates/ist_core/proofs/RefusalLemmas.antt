@@ -1,0 +1,59 @@
+-- Rows among which no change was decided no. Serves `examples`, where a change is installed.
+use Rattle.std.proofs.Common.{◌≡◌, ℕ, ◌==◌, ◌≢◌, true, false, if◌then◌else◌, Option, Some, None, option_map, refl, subst, arith}
+use Rattle.ist_core.specs.Statuses.{decided_no}
+use Rattle.ist_core.specs.Pieces.{Pieces, Piece, Leaf, Inner, Change, Rebuild, with_row, changed_at, with_slot, with_status, with_decision, with_root}
+
+-- the row is no change that was decided no
+unfoldable pub NotRefused : Piece → Type 0
+NotRefused (Change r) = r.decision ≢ decided_no
+NotRefused _ = Unit {0}
+
+-- no row is a change that was decided no
+abbrev pub NoneRefused : Pieces → Type 0
+NoneRefused ps = (base : ℕ) (p : Piece) → ps base ≡ Some p → NotRefused p
+
+pub none_refused-with_row : (ps : Pieces) (at : ℕ) (p : Piece) → NotRefused p → NoneRefused ps → NoneRefused (with_row ps at (Some p))
+none_refused-with_row ps at p h all base q e =
+    elim (base == at) as (λ b. (if b then Some p else ps base) ≡ Some q → NotRefused q) [
+      | true ↦ λ found. let same : p ≡ q = cc in subst NotRefused same h
+      | false ↦ λ found. all base q found
+    ] e
+
+mapped : (f : Piece → Piece) (o : Option Piece) (q : Piece) → option_map f o ≡ Some q → (p : Piece) × (o ≡ Some p) × (f p ≡ q)
+mapped f None q e = absurd (cc)
+mapped f (Some p) q e = (p, refl, (cc))
+
+pub none_refused-changed_at : (ps : Pieces) (at : ℕ) (f : Piece → Piece) → ((p : Piece) → NotRefused p → NotRefused (f p)) → NoneRefused ps → NoneRefused (changed_at ps at f)
+none_refused-changed_at ps at f keeps all base q e =
+    elim (base == at) as (λ b. (if b then option_map f (ps base) else ps base) ≡ Some q → NotRefused q) [
+      | true ↦ λ found. let it = mapped f (ps base) q found in subst NotRefused it.2 (keeps it.0 (all base it.0 it.1))
+      | false ↦ λ found. all base q found
+    ] e
+
+pub slot_keeps : (i word : ℕ) (p : Piece) → NotRefused p → NotRefused (with_slot i word p)
+unfolding NotRefused
+slot_keeps i word (Leaf r) h = h
+slot_keeps i word (Inner r) h = h
+slot_keeps i word (Change r) h = h
+slot_keeps i word (Rebuild r) h = h
+
+pub status_keeps : (status : ℕ) (p : Piece) → NotRefused p → NotRefused (with_status status p)
+unfolding NotRefused
+status_keeps status (Leaf r) h = h
+status_keeps status (Inner r) h = h
+status_keeps status (Change r) h = h
+status_keeps status (Rebuild r) h = h
+
+pub yes_keeps : (p : Piece) → NotRefused p → NotRefused (with_decision 1 p)
+unfolding NotRefused
+yes_keeps (Leaf r) h = h
+yes_keeps (Inner r) h = h
+yes_keeps (Change r) h = λ e. omega arith
+yes_keeps (Rebuild r) h = h
+
+pub root_keeps : (word : ℕ) (p : Piece) → NotRefused p → NotRefused (with_root word p)
+unfolding NotRefused
+root_keeps word (Leaf r) h = h
+root_keeps word (Inner r) h = h
+root_keeps word (Change r) h = h
+root_keeps word (Rebuild r) h = h

@@ -1,0 +1,5 @@
+use Rattle.ist_core.proofs.SpendingLemmas as spending
+use Rattle.ist_core.proofs.laws.words_are_spent.Goals as goal
+
+pub returns : goal.returns
+returns c = record { next = spending.words_are_spent }
