@@ -1,7 +1,7 @@
 -- What the first line of the unread bytes is. Serves the reader.
-use Rattle.std.proofs.Common.{◌≡◌, ℕ, ◌+◌, ◌<◌, Bool, true, false, List, [], ◌∷◌, ◌++◌, length, take, drop, refl, sym, ◌∙◌, ap, subst, arith, inl, inr, length-append}
+use Rattle.std.proofs.Common.{◌≡◌, ℕ, ◌+◌, ◌<◌, Bool, true, false, List, [], ◌∷◌, ◌++◌, length, take, drop, refl, sym, ◌∙◌, ap, subst, arith, inl, inr, length-append, append_assoc}
 use Rattle.std.specs.Prelude.{Option, Some, None, IfSome, if◌then◌else◌, is_some, ◌⊎◌, Ok, Err, option_map}
-use Rattle.std.proofs.lemmas.List.{take_all, append-nil, nil_from_length}
+use Rattle.std.proofs.lemmas.List.{take_all, append-nil, nil_from_length, take-append-drop}
 use Rattle.std.proofs.Math.ListN.{drop_of_length-le}
 use Rattle.std.proofs.lemmas.Grind.{common_steps}
 use Rattle.memchr.specs.Find.{IsFirstByte}
@@ -13,7 +13,7 @@ use Rattle.tele_io.specs.Bytes.{Keeps}
 use Rattle.tele_lines.specs.Buffers.{is_newline, IsUnbroken, BreaksAt, IsOpenEnded, EndsAt, Fills, unread_of}
 use Rattle.tele_lines.specs.Progress.{TakesLine, MeetsBad}
 use Rattle.tele_lines.proofs.FirstLemmas.{first_place}
-use Rattle.tele_lines.proofs.CutLemmas.{cut_first, cut_last, cut_long}
+use Rattle.tele_lines.proofs.CutLemmas.{cut_first, cut_last, cut_long, whole_first}
 
 -- a search for a newline tells where the first line ends, once that shows
 pub ends_at : (buffer : List ℕ) (ended : Bool) (found : Option ℕ) → IsFirstByte is_newline buffer found
@@ -23,6 +23,11 @@ ends_at buffer ended None h why = record {
   unbroken = first_place is_newline buffer None h;
   why = elim why [ inl never ↦ absurd (cc) | inr w ↦ w ];
 }
+
+-- where it finds none, there is none
+pub unbroken : (buffer : List ℕ) (found : Option ℕ) → IsFirstByte is_newline buffer found → is_some found ≡ false → IsUnbroken buffer
+unbroken buffer (Some place) h none = absurd (cc)
+unbroken buffer None h none = first_place is_newline buffer None h
 
 -- bytes that go from the source to the buffer are unread still
 pub unread-fills : (before : Option (List ℕ)) (old new : List ℕ) (n : ℕ) (left now : Option (List ℕ)) → Keeps before (unread_of old false left)
@@ -44,13 +49,16 @@ unread-ends (Some bytes) old new n (Some given) now none h f =
 unread-ends (Some bytes) old new n None now none h f = absurd (cc)
 
 -- a line that ends at a newline
-pub takes_line : (limit number : ℕ) (item : Item) (buffer : List ℕ) (left : Option (List ℕ)) (place : ℕ) → BreaksAt buffer place
+pub takes_line : (limit number : ℕ) (item : Item) (buffer : List ℕ) (ended : Bool) (left : Option (List ℕ)) (place : ℕ) → BreaksAt buffer place
     → reading limit number (take place buffer) ≡ Ok item
-    → IfSome (option_map (λ bytes. buffer ++ bytes) left) (λ bytes. TakesLine limit number item bytes (option_map (λ bytes. drop (place + 1) buffer ++ bytes) left))
-takes_line limit number item buffer None place b says = tt
-takes_line limit number item buffer (Some others) place b says = record {
+    → IfSome (option_map (λ bytes. buffer ++ bytes) left) (λ bytes. TakesLine limit number item bytes ended (option_map (λ bytes. drop (place + 1) buffer ++ bytes) left))
+takes_line limit number item buffer ended None place b says = tt
+takes_line limit number item buffer ended (Some others) place b says = record {
   line = take place buffer;
+  taken = take (place + 1) buffer;
   rest = drop (place + 1) buffer ++ others;
+  same = ap (λ bytes. bytes ++ others) (sym (take-append-drop (place + 1) buffer)) ∙ append_assoc {A = ℕ} (take (place + 1) buffer) (drop (place + 1) buffer) others;
+  whole = λ _ more. whole_first buffer more place b.first b.within;
   cut = cut_first buffer others place b.first b.within;
   says = says;
   left = refl;
@@ -90,13 +98,16 @@ bad_of_long limit number cause buffer (Some others) is some long bad =
 -- the last line, which no newline ends
 pub takes_last : (limit number : ℕ) (item : Item) (buffer : List ℕ) (ended : Bool) (left : Option (List ℕ)) → IsOpenEnded buffer ended → 0 < length buffer
     → reading limit number (take (length buffer) buffer) ≡ Ok item
-    → IfSome (unread_of buffer ended left) (λ bytes. TakesLine limit number item bytes (unread_of (drop (length buffer) buffer) ended left))
+    → IfSome (unread_of buffer ended left) (λ bytes. TakesLine limit number item bytes ended (unread_of (drop (length buffer) buffer) ended left))
 takes_last limit number item buffer ended left unended some says =
     let whole : take (length buffer) buffer ≡ buffer = take_all (length buffer) buffer (omega arith) in
     elim unended.why [
-      | inl at_end ↦ subst (λ e. IfSome (unread_of buffer e left) (λ bytes. TakesLine limit number item bytes (unread_of (drop (length buffer) buffer) e left))) (sym at_end) (record {
+      | inl at_end ↦ subst (λ e. IfSome (unread_of buffer e left) (λ bytes. TakesLine limit number item bytes e (unread_of (drop (length buffer) buffer) e left))) (sym at_end) (record {
         line = buffer;
+        taken = buffer;
         rest = drop (length buffer) buffer ++ [];
+        same = ap (λ xs. buffer ++ (xs ++ [])) (sym (drop_of_length-le buffer (omega arith)));
+        whole = λ never. absurd (cc);
         cut = ap lines_of (append-nil buffer) ∙ cut_last buffer unended.unbroken some ∙ ap (λ xs. buffer ∷ lines_of (xs ++ [])) (sym (drop_of_length-le buffer (omega arith)));
         says = ap (reading limit number) (sym whole) ∙ says;
         left = refl;

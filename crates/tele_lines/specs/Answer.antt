@@ -5,7 +5,7 @@ use Rattle.tele_lines.specs.declared.items.Item.{Item}
 use Rattle.tele_lines.specs.declared.items.Item.TheVariants.{Point}
 use Rattle.tele_lines.specs.declared.items.Cause.{Cause}
 use Rattle.tele_lines.specs.declared.items.Cause.TheVariants.{Letter}
-use Rattle.tele_lines.specs.Lines.{line_limit, lines_of, reading}
+use Rattle.tele_lines.specs.Lines.{line_limit, lines_of, whole_lines, reading}
 
 -- a line that was read, with its number: what it asks for, or why it is bad
 pub data Read : Type 0 where
@@ -61,3 +61,13 @@ abbrev pub answer : List ℕ → Answer
 answer bytes =
     let lines = read_from line_limit 1 (lines_of bytes) in
     record { text = text_of no_pairs lines; status = status_of lines }
+
+-- the answer to those lines of some bytes that a newline ends
+abbrev pub whole_answer : List ℕ → Answer
+whole_answer bytes =
+    let lines = read_from line_limit 1 (whole_lines bytes) in
+    record { text = text_of no_pairs lines; status = status_of lines }
+
+-- the line that is printed where the words of the command line are refused
+abbrev pub usage_text : List ℕ
+usage_text = codes "! usage\n"

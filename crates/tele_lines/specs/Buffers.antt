@@ -1,5 +1,5 @@
 -- Bytes that were taken from a source and are not yet read as lines, and where the first line ends in them.
-use Rattle.std.specs.Prelude.{◌≡◌, ℕ, ◌+◌, ◌<◌, ◌==◌, ◌⊎◌, Bool, true, List, [], ◌++◌, length, Option, Some, None, IfSome, option_map, if◌then◌else◌}
+use Rattle.std.specs.Prelude.{◌≡◌, ℕ, ◌+◌, ◌<◌, ◌==◌, ◌⊎◌, Bool, true, List, [], ◌++◌, length, Option, Some, None, IfSome, IsSome, option_map, if◌then◌else◌}
 use Rattle.std.specs.List.{position_or_len}
 use Rattle.tele_lines.specs.Lines.{newline, longest}
 
@@ -41,3 +41,8 @@ EndsAt bytes ended None = IsOpenEnded bytes ended
 -- what is still to be read: the bytes in the buffer, and then those that the source has left, where it tells them; behind the end it has none
 abbrev pub unread_of : List ℕ → Bool → Option (List ℕ) → Option (List ℕ)
 unread_of buffer ended left = option_map (λ bytes. buffer ++ bytes) (if ended then Some [] else left)
+
+-- the source tells its bytes, and has none left once its end was seen
+pub record TellsEndOf (ended : Bool) (left : Option (List ℕ)) : Type 0 where
+  pub told : IsSome left
+  pub none : ended ≡ true → left ≡ Some []

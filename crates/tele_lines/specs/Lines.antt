@@ -30,6 +30,16 @@ abbrev pub lines_of : List ℕ → List (List ℕ)
 lines_of [] = []
 lines_of (byte ∷ bytes) = if byte == newline then [] ∷ lines_of bytes else onto_first byte (lines_of bytes)
 
+-- a byte onto the first of some lines that a newline ends; without one there is no such line
+abbrev pub onto_whole : ℕ → List (List ℕ) → List (List ℕ)
+onto_whole byte [] = []
+onto_whole byte (line ∷ lines) = (byte ∷ line) ∷ lines
+
+-- the lines that a newline ends
+abbrev pub whole_lines : List ℕ → List (List ℕ)
+whole_lines [] = []
+whole_lines (byte ∷ bytes) = if byte == newline then [] ∷ whole_lines bytes else onto_whole byte (whole_lines bytes)
+
 -- what digits say in base ten
 abbrev pub value_of : List ℕ → ℕ
 value_of digits = fold (λ value digit. value * 10 + (digit - 48)) 0 digits

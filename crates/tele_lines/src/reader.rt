@@ -1,7 +1,7 @@
 //! Lines, one after another, from a source that gives its bytes in any pieces.
-ghost use Rattle.std.specs.Prelude.{◌≡◌, ◌≤◌, ◌^◌, IfOk, IsOk, OnErr, true};
+ghost use Rattle.std.specs.Prelude.{◌≡◌, ◌≤◌, ◌^◌, IfOk, IsOk, OnErr, true, false};
 ghost use Rattle.tele_io.specs.Bytes.{HaveRisen, Keeps};
-ghost use Rattle.tele_lines.specs.Buffers.{EndsAt, unread_of};
+ghost use Rattle.tele_lines.specs.Buffers.{EndsAt, IsUnbroken, TellsEndOf, unread_of};
 
 use crate::buffers::Buffer;
 use crate::items::{Cause, Line, LineFault};
@@ -22,10 +22,10 @@ pub struct Lines {
 }
 
 impl Lines {
-    ghost use Rattle.std.specs.Prelude.{◌≡◌, ◌≢◌, ◌+◌, ◌<◌, ◌≤◌, ◌^◌, [], Some, None, IfOk, IfSome, IfNone, IsSome, OnOk, OnErr, Ok, Err, length, take, drop};
+    ghost use Rattle.std.specs.Prelude.{◌≡◌, ◌≢◌, ◌+◌, ◌<◌, ◌≤◌, ◌^◌, [], Some, None, IfOk, IfSome, IfNone, IsSome, OnOk, OnErr, Ok, Err, true, false, length, take, drop};
     ghost use Rattle.tele_io.specs.Bytes.{HaveRisen, Keeps};
     ghost use Rattle.tele_lines.specs.Lines.{reading};
-    ghost use Rattle.tele_lines.specs.Progress.{limit_of, count_of, stop_of, unread, IsDone, TakesLine, MeetsBad};
+    ghost use Rattle.tele_lines.specs.Progress.{limit_of, count_of, stop_of, has_ended, kept_of, unread, TellsEnd, Waits, IsDone, TakesLine, MeetsBad};
     ghost use Rattle.tele_lines.specs.Buffers.{EndsAt};
 
     /// A reader that has read nothing, and allows so many lines.
@@ -36,7 +36,8 @@ impl Lines {
         ensures limit { limit_of result ≡ limit }
         ensures count { count_of result ≡ 0 }
         ensures going { stop_of result ≡ None }
-        ensures fresh { (left : _) → unread result (Some left) ≡ Some left }
+        ensures fresh { kept_of result ≡ [] }
+        ensures unended { has_ended result ≡ false }
     {
         Lines {
             limit,
@@ -56,7 +57,8 @@ impl Lines {
         // The line says what the first of the unread lines says, and the others are left.
         ensures line { IfOk result (λ next. IfSome next (λ line.
             IfSome (unread self.old (S.left source.old)) (λ bytes.
-            TakesLine (limit_of self.old) line.number line.item bytes (unread self.new (S.left source.new))))) }
+            TakesLine (limit_of self.old) line.number line.item bytes (has_ended self.new)
+            (unread self.new (S.left source.new))))) }
         ensures number { IfOk result (λ next. IfSome next (λ line. line.number ≡ count_of self.old + 1)) }
         ensures count { IfOk result (λ next. IfSome next (λ line. count_of self.new ≡ line.number)) }
         ensures allowed { count_of self.new ≤ limit_of self.new }
@@ -80,7 +82,9 @@ impl Lines {
             Keeps (unread self.old (S.left source.old)) (unread self.new (S.left source.new))) }
         ensures still { OnErr result (count_of self.new ≡ count_of self.old) }
         ensures going { OnOk result (stop_of self.new ≡ None) }
-        ensures waiting { result ≡ Err LineFault.Read → stop_of self.new ≡ None }
+        ensures waiting { result ≡ Err LineFault.Read → Waits self.new }
+        ensures end { TellsEnd self.old (S.left source.old) → TellsEnd self.new (S.left source.new) }
+        ensures ended { has_ended self.old ≡ true → has_ended self.new ≡ true }
 
         ensures limit { limit_of self.new ≡ limit_of self.old }
         ensures counted { S.faults source.old ≤ S.faults source.new }
@@ -103,7 +107,7 @@ impl Lines {
         requires going { self.old.stop ≡ None }
 
         ensures line { IfOk result (λ next. IfSome next (λ line. (left : _) → IfSome (unread self.old left)
-            (λ bytes. TakesLine self.old.limit line.number line.item bytes (unread self.new left)))) }
+            (λ bytes. TakesLine self.old.limit line.number line.item bytes self.new.ended (unread self.new left)))) }
         ensures number { IfOk result (λ next. IfSome next (λ line. line.number ≡ self.old.count + 1)) }
         ensures count { IfOk result (λ next. IfSome next (λ line. self.new.count ≡ line.number)) }
 
@@ -190,6 +194,8 @@ fn gather<S: Source>(
 
     ensures failed { OnErr result (HaveRisen (S.faults source.old) (S.faults source.new)) }
     ensures counted { S.faults source.old ≤ S.faults source.new }
+    ensures waiting { OnErr result (IsUnbroken buffer.new × (ended.new ≡ false)) }
+    ensures end { TellsEndOf ended.old (S.left source.old) → TellsEndOf ended.new (S.left source.new) }
     ensures again { ended.old ≡ true →
         IsOk result × (source.new ≡ source.old) × (buffer.new ≡ buffer.old) × (ended.new ≡ true) }
 {

@@ -1,2 +1,4 @@
 pub mod TableLemmas
+pub mod AppendLemmas
 pub mod DueLemmas
+pub mod ToldLemmas

@@ -1,11 +1,36 @@
--- Which statuses come, and why.
-use Rattle.std.specs.Prelude.{◌≡◌, ℕ, ◌⊎◌}
-use Rattle.tele_run.specs.declared.outcomes.TheConstants.{ANSWERED, BAD_LINE, READ_FAILED, WRITE_FAILED, NO_MEMORY}
+-- Which statuses a run ends with, and what was written then.
+use Rattle.std.specs.Prelude.{◌≡◌, ℕ, ◌⊎◌, nat_lt, Bool, true, false, List, ◌++◌, Option, Some}
+use Rattle.tele_io.specs.Bytes.{Appends}
+use Rattle.tele_lines.specs.Answer.{whole_answer}
+use Rattle.tele_run.specs.declared.outcomes.TheConstants.{ANSWERED, USAGE, BAD_LINE, READ_FAILED, WRITE_FAILED, NO_MEMORY}
 
--- the whole answer was written
+-- whether a command line with so many words, the program's name among them, is refused
+abbrev pub are_refused : ℕ → Bool
+are_refused count = nat_lt 1 count
+
+-- the input was answered as far as it has meaning
 abbrev pub IsAnswer : ℕ → Type 0
 IsAnswer status = (status ≡ ANSWERED) ⊎ (status ≡ BAD_LINE)
 
--- the statuses that a run may end with
-abbrev pub IsStatus : ℕ → Type 0
-IsStatus status = (status ≡ ANSWERED) ⊎ ((status ≡ BAD_LINE) ⊎ ((status ≡ READ_FAILED) ⊎ ((status ≡ WRITE_FAILED) ⊎ (status ≡ NO_MEMORY))))
+-- the text was not written whole, since the sink refused a piece or memory was wanting
+abbrev pub IsCutShort : ℕ → Type 0
+IsCutShort status = (status ≡ WRITE_FAILED) ⊎ (status ≡ NO_MEMORY)
+
+-- the statuses of a run: of one whose words are refused, and of any other
+abbrev pub IsStatus : Bool → ℕ → Type 0
+IsStatus true status = (status ≡ USAGE) ⊎ IsCutShort status
+IsStatus false status = IsAnswer status ⊎ ((status ≡ READ_FAILED) ⊎ IsCutShort status)
+
+-- the text was written whole
+abbrev pub IsWhole : Bool → ℕ → Type 0
+IsWhole true status = status ≡ USAGE
+IsWhole false status = IsAnswer status
+
+-- some of the bytes were taken, the lines among them that a newline ends are good, and their replies were written
+pub record Stops (bytes : List ℕ) (left before written : Option (List ℕ)) : Type 0 where
+  pub taken : List ℕ
+  pub rest : List ℕ
+  pub same : bytes ≡ taken ++ rest
+  pub leaves : left ≡ Some rest
+  pub writes : Appends before written (whole_answer taken).text
+  pub good : (whole_answer taken).status ≡ ANSWERED

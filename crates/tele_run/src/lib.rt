@@ -8,7 +8,7 @@ mod runs;
 mod steps;
 mod tables;
 
-pub use outcomes::{ANSWERED, BAD_LINE, NO_MEMORY, Outcome, READ_FAILED, WRITE_FAILED};
+pub use outcomes::{ANSWERED, BAD_LINE, NO_MEMORY, Outcome, READ_FAILED, USAGE, WRITE_FAILED};
 pub use runs::run;
 
 #[cfg(test)]

@@ -3,6 +3,9 @@
 /// The input was read to its end, and every line was answered.
 pub const ANSWERED: u8 = 0;
 
+/// The words of the command line were refused, and the line that says so was written.
+pub const USAGE: u8 = 2;
+
 /// A bad line was reached. The lines before it were answered, and the bad line was named.
 pub const BAD_LINE: u8 = 3;
 

@@ -1,32 +1,36 @@
 //! The top call.
-ghost use Rattle.std.specs.Prelude.{◌≡◌, ◌≤◌, IfSome};
-ghost use Rattle.tele_io.specs.Bytes.{HaveRisen, Appends};
-ghost use Rattle.tele_lines.specs.Answer.{answer};
-ghost use Rattle.tele_run.specs.Causes.{IsAnswer, IsStatus};
+ghost use Rattle.std.specs.Prelude.{◌≡◌, ◌≤◌, ◌⊎◌, [], Some, true, false, length, IfSome};
+ghost use Rattle.tele_io.specs.Bytes.{HaveRisen, Appends, AppendsPart};
+ghost use Rattle.tele_lines.specs.Answer.{answer, usage_text};
+ghost use Rattle.tele_run.specs.Causes.{are_refused, IsAnswer, IsCutShort, IsStatus, IsWhole, Stops};
 
-use crate::outcomes::{Outcome, READ_FAILED, WRITE_FAILED};
-use crate::steps::step;
+use crate::outcomes::{ANSWERED, NO_MEMORY, Outcome, READ_FAILED, USAGE, WRITE_FAILED};
+use crate::steps::{refused, step};
 use crate::tables::Table;
 use std::alloc::Global;
-use tele_io::{Sink, Source};
+use tele_io::{Sink, Source, write_whole};
 use tele_lines::Lines;
 
 /// The most lines that an input has.
 const LINE_LIMIT: u64 = 16_777_216;
 
 /// Reads lines from the source, carries each out on one map, and writes the replies to the sink, each line before the
-/// next is read.
+/// next is read. It always returns.
 ///
-/// It always returns. Status 0 says that the input was read to its end and 3 that a bad line was reached; what was
-/// written is then exactly the answer to the bytes of the source. Status 4 comes only where the source failed in this
-/// call, 5 only where the sink did, and 7 is want of memory; a part of the answer may have been written then.
+/// `words` are those of the command line, the program's name first; the name alone is accepted, and no word is too.
+/// Other words are refused with status 2: the source isn't read, and a line that says so is written. Else the
+/// statuses are these:
 ///
-/// `rt` stands for the runtime that will run the workers, and `words` are those of the command line, the program's
-/// name first. Neither is looked at.
+/// - 0, the input was read to its end, or 3, a bad line was reached: the answer to the bytes of the source was written;
+/// - 4, the source failed in this call: the replies to the lines that a newline ends within the bytes taken were written,
+///   and none of these lines is bad;
+/// - 5, the sink failed in this call, or 7, no memory was left: a prefix of the text was written.
+///
+/// `rt` stands for the runtime that will run the workers. Nothing here uses it.
 pub fn run<R, S: Source, O: Sink>(
     _rt: &R,
     alloc: Global,
-    _words: &[String],
+    words: &[String],
     source: &mut S,
     out: &mut O,
 ) -> Outcome
@@ -35,10 +39,75 @@ pub fn run<R, S: Source, O: Sink>(
         Appends (O.written out.old) (O.written out.new) (answer bytes).text) }
     ensures status { IsAnswer result.status → IfSome (S.left source.old) (λ bytes.
         result.status ≡ (answer bytes).status) }
+    ensures whole { result.status ≡ ANSWERED → IfSome (S.left source.old) (λ _. S.left source.new ≡ Some []) }
 
-    ensures statuses { IsStatus result.status }
+    // Refused words are named, and nothing is read.
+    ensures usage { result.status ≡ USAGE → Appends (O.written out.old) (O.written out.new) usage_text }
+    ensures unread { are_refused (length words.now) ≡ true → source.new ≡ source.old }
+
+    // After a failed read the replies to the lines that had come whole stand written.
+    ensures stops { result.status ≡ READ_FAILED → IfSome (S.left source.old) (λ bytes.
+        Stops bytes (S.left source.new) (O.written out.old) (O.written out.new)) }
+
+    // Cut short, a prefix of the text stands written.
+    ensures part { IsCutShort result.status → are_refused (length words.now) ≡ false →
+        IfSome (S.left source.old) (λ bytes.
+        AppendsPart (O.written out.old) (O.written out.new) (answer bytes).text) }
+    ensures usage_part { IsCutShort result.status → are_refused (length words.now) ≡ true →
+        AppendsPart (O.written out.old) (O.written out.new) usage_text }
+
+    // Each status has its cause.
+    ensures statuses { IsStatus (are_refused (length words.now)) result.status }
     ensures read_failed { result.status ≡ READ_FAILED → HaveRisen (S.faults source.old) (S.faults source.new) }
     ensures write_failed { result.status ≡ WRITE_FAILED → HaveRisen (O.faults out.old) (O.faults out.new) }
+
+    // Without a fault the text is written whole, while memory lasts.
+    ensures complete { ¬ HaveRisen (S.faults source.old) (S.faults source.new) →
+        ¬ HaveRisen (O.faults out.old) (O.faults out.new) →
+        IsWhole (are_refused (length words.now)) result.status ⊎ (result.status ≡ NO_MEMORY) }
+
+    ensures source_counted { S.faults source.old ≤ S.faults source.new }
+    ensures sink_counted { O.faults out.old ≤ O.faults out.new }
+{
+    let status = if words.len() > 1 {
+        refuse(out)
+    } else {
+        answer_all(alloc, source, out)
+    };
+    Outcome { status }
+}
+
+/// Writes that the words are refused, and gives the status.
+fn refuse<O: Sink>(out: &mut O) -> u8
+    ensures usage { result ≡ USAGE → Appends (O.written out.old) (O.written out.new) usage_text }
+    ensures part { IsCutShort result → AppendsPart (O.written out.old) (O.written out.new) usage_text }
+
+    ensures statuses { IsStatus true result }
+    ensures failed { result ≡ WRITE_FAILED → HaveRisen (O.faults out.old) (O.faults out.new) }
+
+    ensures counted { O.faults out.old ≤ O.faults out.new }
+{
+    match write_whole(out, b"! usage\n") {
+        Ok(()) => USAGE,
+        Err(fault) => refused(fault),
+    }
+}
+
+/// Answers all lines, and gives the status.
+fn answer_all<S: Source, O: Sink>(alloc: Global, source: &mut S, out: &mut O) -> u8
+    ensures text { IsAnswer result → IfSome (S.left source.old) (λ bytes.
+        Appends (O.written out.old) (O.written out.new) (answer bytes).text) }
+    ensures status { IsAnswer result → IfSome (S.left source.old) (λ bytes. result ≡ (answer bytes).status) }
+    ensures whole { result ≡ ANSWERED → IfSome (S.left source.old) (λ _. S.left source.new ≡ Some []) }
+
+    ensures stops { result ≡ READ_FAILED → IfSome (S.left source.old) (λ bytes.
+        Stops bytes (S.left source.new) (O.written out.old) (O.written out.new)) }
+    ensures part { IsCutShort result → IfSome (S.left source.old) (λ bytes.
+        AppendsPart (O.written out.old) (O.written out.new) (answer bytes).text) }
+
+    ensures statuses { IsStatus false result }
+    ensures read_failed { result ≡ READ_FAILED → HaveRisen (S.faults source.old) (S.faults source.new) }
+    ensures write_failed { result ≡ WRITE_FAILED → HaveRisen (O.faults out.old) (O.faults out.new) }
 
     ensures source_counted { S.faults source.old ≤ S.faults source.new }
     ensures sink_counted { O.faults out.old ≤ O.faults out.new }
@@ -47,7 +116,7 @@ pub fn run<R, S: Source, O: Sink>(
     let mut table = Table::new(alloc);
     loop {
         if let Some(status) = step(&mut lines, &mut table, source, out) {
-            return Outcome { status };
+            return status;
         }
     }
 }

@@ -5,10 +5,23 @@ use std::alloc::{AllocError, Global};
 use std::test::Fail;
 use tele_io::{MemorySink, MemorySource, QuietSink, QuietSource, Sink, Source};
 
-/// Runs over a source and a sink, with a command line that has no options.
+/// Runs over a source and a sink, with no words of a command line.
 fn run_over<S: Source, O: Sink>(alloc: Global, source: &mut S, out: &mut O) -> Outcome {
     let words: Vec<String> = Vec::new(alloc);
     run(&(), alloc, words.as_slice(), source, out)
+}
+
+/// Runs over some bytes in pieces of seven, with these reads and writes failing.
+fn faulty(
+    alloc: Global,
+    input: &[u8],
+    reads: &[u64],
+    writes: &[u64],
+) -> Result<(Vec<u8>, u8), AllocError> {
+    let mut source = MemorySource::new(input.to_vec(alloc)?, 7, reads.to_vec(alloc)?);
+    let mut out = MemorySink::new(alloc, writes.to_vec(alloc)?);
+    let outcome = run_over(alloc, &mut source, &mut out);
+    Ok((out.bytes().to_vec(alloc)?, outcome.status))
 }
 
 /// Runs over some bytes in one piece, and gives what was written and the status.
@@ -66,25 +79,72 @@ fn a_line_has_at_most_80_bytes(rt: HostRuntime) -> Result<(), Fail> {
 }
 
 #[test]
-fn pieces_and_faults_change_no_line(rt: HostRuntime) -> Result<(), Fail> {
-    let input = b"P 1 1\nP 1 2\nP 2 3\n";
-    // bytes to a read, the read that fails, the write that fails, the output, the status
-    let rows: [(usize, u64, u64, &[u8], u8); 4] = [
-        (1, 99, 99, b"1 -\n2 1\n3 -\n", 0),
-        (7, 99, 99, b"1 -\n2 1\n3 -\n", 0),
-        (7, 1, 99, b"1 -\n", 4),
-        (99, 99, 1, b"1 -\n", 5),
+fn refused_words_are_named_and_nothing_is_read(rt: HostRuntime) -> Result<(), Fail> {
+    // the words behind the program's name, the output, the status
+    let rows: [(&[&str], &[u8], u8); 6] = [
+        (&[], b"1 -\n", 0),
+        (&["--workers", "0"], b"! usage\n", 2),
+        (&["--workers", "65"], b"! usage\n", 2),
+        (&["--words", "63"], b"! usage\n", 2),
+        (&["--help"], b"! usage\n", 2),
+        (&["x"], b"! usage\n", 2),
     ];
-    for (piece, read, write, output, status) in rows {
-        assert!(rt; 0 < piece);
-        let bytes = input.to_vec(rt.alloc())?;
-        let reads = vec![in rt.alloc(); read]?;
-        let writes = vec![in rt.alloc(); write]?;
-        let mut source = MemorySource::new(bytes, piece, reads);
-        let mut out = MemorySink::new(rt.alloc(), writes);
-        let outcome = run_over(rt.alloc(), &mut source, &mut out);
-        assert_eq!(rt; out.bytes(), output, "the text in pieces of {piece}");
-        assert_eq!(rt; outcome.status, status, "the status in pieces of {piece}");
+    for (more, output, status) in rows {
+        let mut words = Vec::new(rt.alloc());
+        words.push("tele".to_string(rt.alloc())?)?;
+        for word in more {
+            words.push(word.to_string(rt.alloc())?)?;
+        }
+        let mut source = QuietSource::new(b"P 5 7\n".to_vec(rt.alloc())?);
+        let mut out = QuietSink::new(rt.alloc());
+        let outcome = run(&(), rt.alloc(), words.as_slice(), &mut source, &mut out);
+        assert_eq!(rt; out.bytes(), output, "the text for {more:?}");
+        assert_eq!(rt; outcome.status, status, "the status for {more:?}");
     }
+    Ok(())
+}
+
+#[test]
+fn a_fault_leaves_the_replies_before_it(rt: HostRuntime) -> Result<(), Fail> {
+    // nine lines of six bytes each and a last one without its newline, in nine reads of seven bytes
+    let input = b"P 1 1\nP 2 2\nP 3 3\nP 4 4\nP 5 5\nP 6 6\nP 7 7\nP 8 8\nP 9 9\nP 1 5";
+    let output = b"1 -\n2 -\n3 -\n4 -\n5 -\n6 -\n7 -\n8 -\n9 -\n10 1\n";
+    // the read that fails, how many bytes of the output are written then
+    let reads = [
+        (0, 0),
+        (1, 4),
+        (2, 8),
+        (3, 12),
+        (4, 16),
+        (5, 20),
+        (6, 28),
+        (7, 32),
+        (8, 36),
+        (9, 36),
+    ];
+    for (read, len) in reads {
+        let (written, status) = faulty(rt.alloc(), input, &[read], &[])?;
+        assert!(rt; len <= output.len());
+        assert_eq!(rt;
+            written.as_slice(),
+            &output[..len],
+            "the text where read {read} fails"
+        );
+        assert_eq!(rt; status, 4, "the status where read {read} fails");
+    }
+    for write in 0..10 {
+        let len = 4 * write;
+        let (written, status) = faulty(rt.alloc(), input, &[], &[write as u64])?;
+        assert!(rt; len <= output.len());
+        assert_eq!(rt;
+            written.as_slice(),
+            &output[..len],
+            "the text where write {write} fails"
+        );
+        assert_eq!(rt; status, 5, "the status where write {write} fails");
+    }
+    let (written, status) = faulty(rt.alloc(), input, &[99], &[99])?;
+    assert_eq!(rt; written.as_slice(), output.as_slice());
+    assert_eq!(rt; status, 0);
     Ok(())
 }

@@ -1,7 +1,7 @@
 use Rattle.std.proofs.Common.{◌≡◌, ◌+◌, ◌-◌, ◌≤◌, length, true}
 use Rattle.std.specs.Prelude.{if◌then◌else◌}
 use Rattle.tele_io.specs.Bytes.{Keeps}
-use Rattle.tele_lines.specs.Buffers.{unread_of}
+use Rattle.tele_lines.specs.Buffers.{unread_of, TellsEndOf}
 use Rattle.tele_lines.proofs.reader.gather.Given as goal
 
 -- no byte is lost, and behind the end nothing is read
@@ -11,6 +11,7 @@ invariant-loop-bytes g l =
     record {
       kept : Keeps (unread_of l.fn.buffer l.fn.ended (left l.fn.source)) (unread_of l.buffer l.ended (left l.source));
       counted : g.S.Source.faults l.fn.source ≤ g.S.Source.faults l.source;
+      end : TellsEndOf l.fn.ended (left l.fn.source) → TellsEndOf l.ended (left l.source);
       again : l.fn.ended ≡ true → (l.source ≡ l.fn.source) × (l.buffer ≡ l.fn.buffer) × (l.ended ≡ true);
     }
 

@@ -1,10 +1,10 @@
 use Rattle.std.proofs.Common.{◌≡◌, ◌-◌, ◌≤◌}
-use Rattle.std.specs.Prelude.{IfSome, None}
+use Rattle.std.specs.Prelude.{IfSome, IsSome, None}
+use Rattle.ist_core.specs.Map.{no_pairs}
 use Rattle.tele_lines.specs.Lines.{line_limit}
-use Rattle.tele_lines.specs.Answer.{answer}
-use Rattle.tele_lines.specs.Progress.{limit_of, count_of, stop_of, unread}
+use Rattle.tele_lines.specs.Progress.{limit_of, count_of, stop_of, has_ended, unread, TellsEnd}
 use Rattle.tele_run.specs.Due.{GoesOn}
-use Rattle.tele_run.proofs.runs.run.Given as goal
+use Rattle.tele_run.proofs.runs.answer_all.Given as goal
 
 -- what was printed and what is still due are the answer
 abbrev pub invariant-loop-status : goal.invariant-loop-status
@@ -13,7 +13,9 @@ invariant-loop-status g l =
     let written = g.O.Sink.written in
     record {
       due : IfSome (left l.fn.source) (λ bytes.
-          GoesOn (answer bytes) (written l.fn.out) (written l.out) (unread l.lines (left l.source)) l.table (count_of l.lines));
+          GoesOn no_pairs 0 bytes (written l.fn.out) (written l.out) (has_ended l.lines)
+          (unread l.lines (left l.source)) l.table (count_of l.lines));
+      end : IsSome (left l.fn.source) → TellsEnd l.lines (left l.source);
       limit : limit_of l.lines ≡ line_limit;
       allowed : count_of l.lines ≤ line_limit;
       going : stop_of l.lines ≡ None;
