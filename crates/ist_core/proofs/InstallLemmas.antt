@@ -1,10 +1,10 @@
 -- Rows that an Install publishes. Serves `laws.rows_are_known`.
-use Rattle.std.proofs.Common.{◌≡◌, ℕ, ◌⊎◌, ◌==◌, nat_lt, true, false, if◌then◌else◌, List, [], ◌∷◌, length, Option, Some, None, refl, sym, ap, ◌∙◌, subst, inl, inr, ⊎_elim}
+use Rattle.std.proofs.Common.{◌≡◌, ℕ, ◌⊎◌, ◌==◌, nat_lt, true, false, if◌then◌else◌, List, [], ◌∷◌, length, Option, Some, refl, sym, ap, ◌∙◌, subst, inl, inr, ⊎_elim}
 use Rattle.ist_core.specs.declared.lists.Row.{Row}
 use Rattle.ist_core.specs.declared.states.ChangeRow.{ChangeRow}
-use Rattle.ist_core.specs.Statuses.{put_kind, start_kind}
+use Rattle.ist_core.specs.Statuses.{start_kind}
 use Rattle.ist_core.specs.Elements.{Among}
-use Rattle.ist_core.specs.Pieces.{Pieces, Piece, Leaf, Inner, Change, Rebuild, size_of, words_of, row_at, leaf_of, inner_of, rebuild_of, change_of, with_row}
+use Rattle.ist_core.specs.Pieces.{Pieces, Piece, Leaf, Change, Rebuild, size_of, words_of, row_at, leaf_of, inner_of, rebuild_of, with_row}
 use Rattle.ist_core.specs.Snapshots.{Snapshot, bases_of}
 use Rattle.ist_core.specs.Logs.{Log}
 use Rattle.ist_core.specs.After.{with_fresh}
@@ -52,9 +52,9 @@ fresh-some ps change (row ∷ []) base q e =
     ⊎_elim (λ h. inr (row, inl refl, sym h.0, size_of-fresh_of change row.words q h.1)) (λ h. inl h) (with_row-some ps row.base base (fresh_of change row.words) q e)
 fresh-some ps change (pair ∷ leaf ∷ []) base q e =
     ⊎_elim
-      (λ h. inr (pair, inl refl, sym h.0, size_of-inner_of pair.words q h.1))
-      (λ h. ⊎_elim (λ k. inr (leaf, inr (inl refl), sym k.0, size_of-leaf_of leaf.words q k.1)) (λ k. inl k) (with_row-some ps leaf.base base (leaf_of leaf.words) q h))
-      (with_row-some (with_row ps leaf.base (leaf_of leaf.words)) pair.base base (inner_of pair.words) q e)
+    (λ h. inr (pair, inl refl, sym h.0, size_of-inner_of pair.words q h.1))
+    (λ h. ⊎_elim (λ k. inr (leaf, inr (inl refl), sym k.0, size_of-leaf_of leaf.words q k.1)) (λ k. inl k) (with_row-some ps leaf.base base (leaf_of leaf.words) q h))
+    (with_row-some (with_row ps leaf.base (leaf_of leaf.words)) pair.base base (inner_of pair.words) q e)
 fresh-some ps change (a ∷ b ∷ c ∷ rows) base q e = inl e
 
 -- where no fresh row lies, what stood there stands there
@@ -64,7 +64,7 @@ fresh-other ps change [] base out = refl
 fresh-other ps change (row ∷ []) base out = with_row-other ps row.base base (fresh_of change row.words) (λ e. out (inl e))
 fresh-other ps change (pair ∷ leaf ∷ []) base out =
     with_row-other (with_row ps leaf.base (leaf_of leaf.words)) pair.base base (inner_of pair.words) (λ e. out (inl e))
-      ∙ with_row-other ps leaf.base base (leaf_of leaf.words) (λ e. out (inr (inl e)))
+    ∙ with_row-other ps leaf.base base (leaf_of leaf.words) (λ e. out (inr (inl e)))
 fresh-other ps change (a ∷ b ∷ c ∷ rows) base out = refl
 
 -- a pair row is read from its words
@@ -90,7 +90,7 @@ fresh_named ps first log change fresh (a_put h) =
     one leaf read row (inr i) = absurd i
 fresh_named ps first log change fresh (a_pair h) =
     subst (λ rows. (row : Row) → Among row rows → Stands (with_fresh ps change rows) row.base) (sym h.fresh_are)
-      (λ row i. two (pair_row change.key h.leaf h.other_key h.other) h.pair h.leaf (inner_of-pair_row change.key h.leaf h.other_key h.other) row i)
+    (λ row i. two (pair_row change.key h.leaf h.other_key h.other) h.pair h.leaf (inner_of-pair_row change.key h.leaf h.other_key h.other) row i)
   where
     two : (p : Piece) (pair leaf : ℕ) → inner_of (words_of p) ≡ Some p → (row : Row) → Among row (row_at pair p ∷ row_at leaf (new_leaf change) ∷ [])
         → Stands (with_row (with_row ps leaf (Some (new_leaf change))) pair (inner_of (words_of p))) row.base
@@ -98,7 +98,7 @@ fresh_named ps first log change fresh (a_pair h) =
         subst (λ b. Stands (with_row (with_row ps leaf (Some (new_leaf change))) pair (inner_of (words_of p))) b) (sym (ap (λ r. r.base) e)) (stands_here (with_row ps leaf (Some (new_leaf change))) pair (inner_of (words_of p)) p read)
     two p pair leaf read row (inr (inl e)) =
         subst (λ b. Stands (with_row (with_row ps leaf (Some (new_leaf change))) pair (inner_of (words_of p))) b) (sym (ap (λ r. r.base) e))
-          (stands-with_row (with_row ps leaf (Some (new_leaf change))) pair leaf (inner_of (words_of p)) (stands_here ps leaf (Some (new_leaf change)) (new_leaf change) refl))
+        (stands-with_row (with_row ps leaf (Some (new_leaf change))) pair leaf (inner_of (words_of p)) (stands_here ps leaf (Some (new_leaf change)) (new_leaf change) refl))
     two p pair leaf read row (inr (inr i)) = absurd i
 fresh_named ps first log change fresh (a_remove h) = λ row i. absurd (subst (λ rows. Among row rows) h.fresh_are i)
 fresh_named ps first log change fresh (a_start h) =
@@ -122,9 +122,9 @@ publishes_install ps first log base change fresh fits =
     record {
       from = λ at q e.
           ⊎_elim
-            (λ h. inr (row_at base (Change change), inl refl, sym h.0, size h.1))
-            (λ h. ⊎_elim (λ k. inl k) (λ k. inr (k.0, inr k.1, k.2, k.3)) (fresh-some ps change fresh at q h))
-            (with_row-some (with_fresh ps change fresh) base at (Some (Change change)) q e);
+          (λ h. inr (row_at base (Change change), inl refl, sym h.0, size h.1))
+          (λ h. ⊎_elim (λ k. inl k) (λ k. inr (k.0, inr k.1, k.2, k.3)) (fresh-some ps change fresh at q h))
+          (with_row-some (with_fresh ps change fresh) base at (Some (Change change)) q e);
       others = λ at out.
           with_row-other (with_fresh ps change fresh) base at (Some (Change change)) (λ e. out (inl e)) ∙ fresh-other ps change fresh at (λ i. out (inr i));
       named = λ row i. each row i;

@@ -1,17 +1,15 @@
 -- What one event does to rows: none vanishes, and what is held stays held, is published or is lost. Serves `laws.rows_are_known`.
-use Rattle.std.proofs.Common.{◌≡◌, ◌≢◌, ℕ, ◌+◌, ◌<◌, ◌⊎◌, ◌==◌, Bool, true, false, not, if◌then◌else◌, List, [], ◌∷◌, ◌++◌, length, Option, Some, None, option_map, refl, sym, ap, ◌∙◌, subst, inl, inr, ⊎_elim, arith}
+use Rattle.std.proofs.Common.{◌≡◌, ℕ, ◌<◌, ◌⊎◌, ◌==◌, Bool, true, false, not, if◌then◌else◌, List, Some, None, option_map, refl, sym, ap, subst, inl, inr, ⊎_elim}
 use Rattle.std.specs.List.{list_any}
-use Rattle.std.proofs.lemmas.Bool.Decides.{nat_tests}
-use Rattle.ist_core.specs.declared.lists.Row.{Row}
 use Rattle.ist_core.specs.declared.lists.HeldRow.{HeldRow}
 use Rattle.ist_core.specs.declared.events.Event.{Event}
-use Rattle.ist_core.specs.Elements.{Among, Each}
+use Rattle.ist_core.specs.Elements.{Among}
 use Rattle.ist_core.specs.Pieces.{Pieces, Piece, size_of, changed_at}
-use Rattle.ist_core.specs.Snapshots.{Snapshot, bases_of, without, HoldsRow, HoldsRows}
+use Rattle.ist_core.specs.Snapshots.{Snapshot, without}
 use Rattle.ist_core.specs.Logs.{Loses}
-use Rattle.ist_core.proofs.ElementLemmas.{each-among, among-filter, among_filter}
-use Rattle.ist_core.proofs.RowLemmas.{changed_at-same, changed_at-other, changed_at-none, changed_at-some}
-use Rattle.ist_core.proofs.PublishingLemmas.{among_bases, tests_base, row_among, base_among, Stands, Publishes}
+use Rattle.ist_core.proofs.ElementLemmas.{among-filter, among_filter}
+use Rattle.ist_core.proofs.RowLemmas.{changed_at-none, changed_at-some}
+use Rattle.ist_core.proofs.PublishingLemmas.{among_bases, tests_base, Stands}
 
 -- rows lie below the first free word, and what is held is not published, and is held once
 pub record IsSound (t : Snapshot) : Type 0 where

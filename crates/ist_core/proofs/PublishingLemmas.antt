@@ -1,21 +1,16 @@
 -- Rows that an event publishes. Serves `laws.rows_are_known`.
-use Rattle.std.proofs.Common.{◌≡◌, ◌≢◌, ℕ, ◌⊎◌, ◌==◌, Bool, true, false, ◌||◌, if◌then◌else◌, List, [], ◌∷◌, length, Option, Some, None, option_map, refl, sym, ap, ◌∙◌, subst, inl, inr, ⊎_elim, arith}
+use Rattle.std.proofs.Common.{◌≡◌, ℕ, ◌⊎◌, ◌==◌, Bool, true, false, ◌||◌, if◌then◌else◌, List, [], ◌∷◌, length, Option, Some, None, refl, sym, ap, subst, inl, inr, ⊎_elim, arith}
 use Rattle.std.specs.List.{list_any}
 use Rattle.std.proofs.lemmas.Bool.Decides.{nat_tests}
 use Rattle.ist_core.specs.declared.lists.Row.{Row}
-use Rattle.ist_core.specs.declared.lists.HeldRow.{HeldRow}
-use Rattle.ist_core.specs.declared.states.ChangeRow.{ChangeRow}
 use Rattle.ist_core.specs.References.{Ref}
-use Rattle.ist_core.specs.Statuses.{put_kind, start_kind}
 use Rattle.ist_core.specs.Elements.{Among, Each}
-use Rattle.ist_core.specs.Pieces.{Pieces, Piece, Leaf, Inner, Change, Rebuild, size_of, row_at, leaf_of, inner_of, change_of, rebuild_of, with_row, changed_at, with_inners}
-use Rattle.ist_core.specs.Snapshots.{Snapshot, bases_of, without, HoldsRow, HoldsRows}
-use Rattle.ist_core.specs.After.{with_fresh}
+use Rattle.ist_core.specs.Pieces.{Pieces, Piece, Inner, size_of, with_row, with_inners}
+use Rattle.ist_core.specs.Snapshots.{bases_of}
 use Rattle.ist_core.specs.Leaves.{PlacedLeaf}
 use Rattle.ist_core.specs.Ideals.{IsIdeal, AreIdeal, of_none, of_one, of_more, no_part, one_part}
-use Rattle.ist_core.specs.Installing.{pair_row, pair_over}
-use Rattle.ist_core.proofs.ElementLemmas.{each_append, each-among, among-filter, among_filter}
-use Rattle.ist_core.proofs.RowLemmas.{with_row-same, with_row-other, with_row-some, changed_at-same, changed_at-other, with_inners-some, with_inners-other}
+use Rattle.ist_core.proofs.ElementLemmas.{each_append, each-among}
+use Rattle.ist_core.proofs.RowLemmas.{with_row-same, with_inners-some, with_inners-other}
 use Rattle.ist_core.proofs.SizeLemmas.{size_of-inner_of}
 
 -- ---- bases

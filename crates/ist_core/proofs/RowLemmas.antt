@@ -1,5 +1,5 @@
 -- What the rows have at a base after a write. Serves each law that speaks of rows.
-use Rattle.std.proofs.Common.{◌≡◌, ℕ, ◌⊎◌, ◌≢◌, ◌==◌, true, false, List, [], ◌∷◌, Option, Some, None, option_map, refl, sym, ap, ◌∙◌, inl, inr, ⊎_elim, arith}
+use Rattle.std.proofs.Common.{◌≡◌, ℕ, ◌⊎◌, ◌≢◌, List, [], ◌∷◌, Option, Some, None, option_map, refl, sym, ◌∙◌, inl, inr, ⊎_elim, arith}
 use Rattle.std.proofs.lemmas.Bool.Decides.{nat_tests}
 use Rattle.ist_core.specs.declared.lists.Row.{Row}
 use Rattle.ist_core.specs.Elements.{Among}
@@ -41,9 +41,9 @@ pub with_inners-some : (ps : Pieces) (rows : List Row) (at : ℕ) (q : Piece) �
 with_inners-some ps [] at q e = inr e
 with_inners-some ps (row ∷ rows) at q e =
     ⊎_elim
-      (λ here. inl (row, inl refl, sym here.0, here.1))
-      (λ there. ⊎_elim (λ w. inl (w.0, inr w.1, w.2, w.3)) (λ w. inr w) (with_inners-some ps rows at q there))
-      (with_row-some (with_inners ps rows) row.base at (inner_of row.words) q e)
+    (λ here. inl (row, inl refl, sym here.0, here.1))
+    (λ there. ⊎_elim (λ w. inl (w.0, inr w.1, w.2, w.3)) (λ w. inr w) (with_inners-some ps rows at q there))
+    (with_row-some (with_inners ps rows) row.base at (inner_of row.words) q e)
 
 -- and where none of them lies, what stood there stands there
 pub with_inners-other : (ps : Pieces) (rows : List Row) (at : ℕ) → ¬ (Among at (bases_of rows)) → with_inners ps rows at ≡ ps at

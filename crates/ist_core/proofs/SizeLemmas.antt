@@ -1,12 +1,11 @@
 -- A row keeps its length, and each reserved row has a word. Serves `laws.rows_are_known`.
-use Rattle.std.proofs.Common.{◌≡◌, ℕ, zero, suc, ◌+◌, ◌-◌, ◌<◌, List, [], ◌∷◌, ◌++◌, length, take, drop, slice_set, Option, Some, None, refl, ap, arith, length-append}
+use Rattle.std.proofs.Common.{◌≡◌, ℕ, zero, suc, ◌-◌, ◌<◌, List, [], ◌∷◌, ◌++◌, length, slice_set, Option, Some, None, refl, ap, arith, length-append}
 use Rattle.std.proofs.lemmas.List.{length-set, take-append-drop}
 use Rattle.std.specs.List.{flat_map}
 use Rattle.ist_core.specs.Arithmetic.{degree, part_len, part_lens}
-use Rattle.ist_core.specs.RowLayout.{inner_words}
 use Rattle.ist_core.specs.Shapes.{shape, shape_within}
 use Rattle.ist_core.specs.Elements.{Among, Each}
-use Rattle.ist_core.specs.Pieces.{Piece, Leaf, Inner, Change, Rebuild, size_of, leaf_of, inner_of, rebuild_of, with_slot, with_status, with_decision, with_root, counted, drawn}
+use Rattle.ist_core.specs.Pieces.{Piece, Leaf, Inner, Change, Rebuild, size_of, inner_of, with_slot, with_status, with_decision, with_root, counted, drawn}
 use Rattle.ist_core.specs.Snapshots.{Snapshot}
 use Rattle.ist_core.specs.Fairness.{IsFair, AreBuilds, no_build, last_build, stuck_build, IsBuild, build_whole, build_top, build_part, IsMerge, at_end, from_left, from_right, spare_sizes}
 use Rattle.ist_core.proofs.ElementLemmas.{each_append, each-append, each-among}
