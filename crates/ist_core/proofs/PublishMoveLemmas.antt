@@ -34,7 +34,8 @@ module _ (t : Snapshot) (caller : ℕ) (rows : List Row) (holds : HoldsRows t ca
       clash o a b = cc
 
   -- a row that is published has the size with which it was held
-  same_size : (qs : Pieces) → Publishes t.pieces rows qs → (h : HeldRow) → Among h t.held → (p : Piece) → qs h.base ≡ Some p → Among h.base (bases_of rows) → size_of p ≡ h.size
+  same_size : (qs : Pieces) → Publishes t.pieces rows qs → (h : HeldRow) → Among h t.held
+      → (p : Piece) → qs h.base ≡ Some p → Among h.base (bases_of rows) → size_of p ≡ h.size
   unfolding held_row
   same_size qs publishes h i p e k =
       ⊎_elim
@@ -42,8 +43,10 @@ module _ (t : Snapshot) (caller : ℕ) (rows : List Row) (holds : HoldsRows t ca
       (λ it. it.3 ∙ ap (λ x. x.size) (sound.once (held_row it.0) h (is_held it.0 it.1) i it.2))
       (publishes.from h.base p e)
 
-  pub moves_published : (u : Snapshot) (event : Event) (qs : Pieces) (at : ℕ) (f : Piece → Piece) → ((p : Piece) → size_of (f p) ≡ size_of p) → Publishes t.pieces rows qs
-      → u.next ≡ t.next → u.held ≡ without (bases_of rows) t.held → u.pieces ≡ changed_at qs at f → Moves t u event
+  pub moves_published : (u : Snapshot) (event : Event) (qs : Pieces) (at : ℕ) (f : Piece → Piece)
+      → ((p : Piece) → size_of (f p) ≡ size_of p) → Publishes t.pieces rows qs
+      → u.next ≡ t.next → u.held ≡ without (bases_of rows) t.held → u.pieces ≡ changed_at qs at f
+      → Moves t u event
   unfolding held_row
   moves_published u event qs at f same publishes next held pieces =
       record {

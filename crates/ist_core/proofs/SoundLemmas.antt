@@ -34,7 +34,8 @@ module _ (t : Snapshot) (caller base size : ℕ) (h : CanReserve t caller base s
   positive = reserve_positive t caller base size h
 
   -- what is held behind it was held, or is the new row
-  held_or_new : (g : HeldRow) → Among g (after t (Reserve caller base size)).held → Among g t.held ⊎ (g ≡ new_row)
+  held_or_new : (g : HeldRow) → Among g (after t (Reserve caller base size)).held
+      → Among g t.held ⊎ (g ≡ new_row)
   unfolding new_row
   held_or_new g i = ⊎_elim (λ k. inl k) (λ k. ⊎_elim (λ e. inr e) (λ e. absurd e) k) (among-append g t.held (new_row ∷ []) i)
 
@@ -60,7 +61,8 @@ module _ (t : Snapshot) (caller base size : ℕ) (h : CanReserve t caller base s
         once = λ f g i j e. both f g e (held_or_new f i) (held_or_new g j);
       }
     where
-      both : (f g : HeldRow) → f.base ≡ g.base → Among f t.held ⊎ (f ≡ new_row) → Among g t.held ⊎ (g ≡ new_row) → f ≡ g
+      both : (f g : HeldRow) → f.base ≡ g.base → Among f t.held ⊎ (f ≡ new_row)
+          → Among g t.held ⊎ (g ≡ new_row) → f ≡ g
       both f g e (inl i) (inl j) = s.once f g i j e
       both f g e (inl i) (inr d) = let low = s.held_below f i in let is = h.base_is in let at : g.base ≡ base = ap (λ x. x.base) d in absurd (omega arith)
       both f g e (inr d) (inl j) = let low = s.held_below g j in let is = h.base_is in let at : f.base ≡ base = ap (λ x. x.base) d in absurd (omega arith)
@@ -75,7 +77,8 @@ record IsReserve (first : Snapshot) (log : Log) (event : Event) : Type 0 where
   can : CanReserve (state first log) caller base size
 
 -- each enabled event moves rows, or reserves one
-moves_or_reserves : (first : Snapshot) (log : Log) (event : Event) → Enabled first log event → IsSound (state first log)
+moves_or_reserves : (first : Snapshot) (log : Log) (event : Event) → Enabled first log event
+    → IsSound (state first log)
     → Moves (state first log) (state first (event ∷ log)) event ⊎ IsReserve first log event
 moves_or_reserves first log (Reserve caller base size) h s = inr record { caller = caller; base = base; size = size; is = refl; can = h }
 moves_or_reserves first log (Enter caller) h s = inl (moves first log (Enter caller) refl h s)
@@ -93,7 +96,8 @@ moves_or_reserves first log (Place caller rebuild i word rows) h s = inl (moves 
 moves_or_reserves first log (Lose caller bases) h s = inl (moves first log (Lose caller bases) refl h s)
 
 -- an enabled event leaves rows sound
-sound_step : (first : Snapshot) (log : Log) (event : Event) → Enabled first log event → IsSound (state first log) → IsSound (state first (event ∷ log))
+sound_step : (first : Snapshot) (log : Log) (event : Event) → Enabled first log event
+    → IsSound (state first log) → IsSound (state first (event ∷ log))
 sound_step first log event h s =
     ⊎_elim
     (λ m. sound_moves (state first log) (state first (event ∷ log)) event s m)
@@ -101,7 +105,8 @@ sound_step first log event h s =
     (moves_or_reserves first log event h s)
 
 -- rows lie soundly behind a log from a sound state
-pub sound : (first : Snapshot) (log : Log) → IsSound first → EachEnabled first log → IsSound (state first log)
+pub sound : (first : Snapshot) (log : Log) → IsSound first → EachEnabled first log
+    → IsSound (state first log)
 sound first [] s h = s
 sound first (event ∷ log) s h = sound_step first log event h.1 (sound first log s h.0)
 
@@ -112,20 +117,25 @@ abbrev pub Known : Snapshot → Log → ℕ → ℕ → ℕ → Type 0
 Known t log caller base size = (HoldsRow t caller base size ⊎ StandsWith t.pieces base size) ⊎ Happened (Loses base) log
 
 -- a known row stays known
-known_moves : (t u : Snapshot) (log : Log) (event : Event) (caller base size : ℕ) → Moves t u event → Known t log caller base size → Known u (event ∷ log) caller base size
+known_moves : (t u : Snapshot) (log : Log) (event : Event) (caller base size : ℕ) → Moves t u event
+    → Known t log caller base size → Known u (event ∷ log) caller base size
 known_moves t u log event caller base size m (inl (inl held)) =
     ⊎_elim (λ k. inl k) (λ lost. inr (inl lost)) (m.fate record { caller = caller; base = base; size = size } held)
 known_moves t u log event caller base size m (inl (inr stands)) = inl (inr (subst (λ n. StandsWith u.pieces base n) stands.2 (m.stays base stands.0 stands.1)))
 known_moves t u log event caller base size m (inr lost) = inr (inr lost)
 
-known_reserve : (t : Snapshot) (log : Log) (c b z caller base size : ℕ) → Known t log caller base size → Known (after t (Reserve c b z)) (Reserve c b z ∷ log) caller base size
+known_reserve : (t : Snapshot) (log : Log) (c b z caller base size : ℕ)
+    → Known t log caller base size
+    → Known (after t (Reserve c b z)) (Reserve c b z ∷ log) caller base size
 known_reserve t log c b z caller base size (inl (inl held)) =
     inl (inl (among_left record { caller = caller; base = base; size = size } t.held (record { caller = c; base = b; size = z } ∷ []) held))
 known_reserve t log c b z caller base size (inl (inr stands)) = inl (inr stands)
 known_reserve t log c b z caller base size (inr lost) = inr (inr lost)
 
-known_step : (first : Snapshot) (log : Log) (event : Event) (caller base size : ℕ) → Enabled first log event → IsSound (state first log)
-    → Known (state first log) log caller base size → Known (state first (event ∷ log)) (event ∷ log) caller base size
+known_step : (first : Snapshot) (log : Log) (event : Event) (caller base size : ℕ)
+    → Enabled first log event → IsSound (state first log)
+    → Known (state first log) log caller base size
+    → Known (state first (event ∷ log)) (event ∷ log) caller base size
 known_step first log event caller base size h s k =
     ⊎_elim
     (λ m. known_moves (state first log) (state first (event ∷ log)) log event caller base size m k)
@@ -133,7 +143,8 @@ known_step first log event caller base size h s k =
     (moves_or_reserves first log event h s)
 
 -- the row that an event reserves is held behind it
-held_now : (t : Snapshot) (event : Event) (caller base size : ℕ) → Reserves caller base size event → HoldsRow (after t event) caller base size
+held_now : (t : Snapshot) (event : Event) (caller base size : ℕ) → Reserves caller base size event
+    → HoldsRow (after t event) caller base size
 held_now t (Reserve c b z) caller base size h =
     let it = among_right record { caller = c; base = b; size = z } t.held (record { caller = c; base = b; size = z } ∷ []) (inl refl) in
     subst (λ x. Among x (after t (Reserve c b z)).held) (λ i. record { caller = h.0 i; base = h.1 i; size = h.2 i }) it
@@ -152,7 +163,9 @@ held_now t (Place caller rebuild i word rows) c b z h = absurd h
 held_now t (Lose caller bases) c b z h = absurd h
 
 -- each row that was reserved is known
-pub known : (first : Snapshot) (log : Log) (caller base size : ℕ) → IsSound first → EachEnabled first log → Happened (Reserves caller base size) log → Known (state first log) log caller base size
+pub known : (first : Snapshot) (log : Log) (caller base size : ℕ) → IsSound first
+    → EachEnabled first log → Happened (Reserves caller base size) log
+    → Known (state first log) log caller base size
 known first [] caller base size s h r = absurd r
 known first (event ∷ log) caller base size s h (inl now) = inl (inl (held_now (state first log) event caller base size now))
 known first (event ∷ log) caller base size s h (inr before) =

@@ -19,13 +19,15 @@ use Rattle.ist_core.proofs.PieceLemmas.{among-pieces_of}
 use Rattle.ist_core.proofs.MoveLemmas.{IsSound}
 
 -- an element of what is made of each element is made of one of them
-among-flat_map : {A B : Type 0} (f : A → List B) (y : B) (xs : List A) → Among y (flat_map f xs) → (x : A) × Among x xs × Among y (f x)
+among-flat_map : {A B : Type 0} (f : A → List B) (y : B) (xs : List A) → Among y (flat_map f xs)
+    → (x : A) × Among x xs × Among y (f x)
 among-flat_map f y [] i = absurd i
 among-flat_map f y (x ∷ xs) i =
     ⊎_elim (λ here. (x, inl refl, here)) (λ there. let it = among-flat_map f y xs there in (it.0, inr it.1, it.2)) (among-append y (f x) (flat_map f xs) i)
 
 -- the trees of the parts lie one behind another, and end where their words end
-placed_low : (lens : List ℕ) (from : ℕ) (xs : List Pair) (base : ℕ) (part : List Pair) → sum lens ≤ length xs → Among (base, part) (zip (bases_from from lens) (cut lens xs))
+placed_low : (lens : List ℕ) (from : ℕ) (xs : List Pair) (base : ℕ) (part : List Pair)
+    → sum lens ≤ length xs → Among (base, part) (zip (bases_from from lens) (cut lens xs))
     → base + ideal_words (length part) ≤ from + sum_by ideal_words lens
 placed_low [] from xs base part fits i = absurd i
 placed_low (n ∷ ns) from xs base part fits (inl e) =
@@ -44,7 +46,8 @@ placed_low (n ∷ ns) from xs base part fits (inr i) =
     omega arith
 
 -- each row lies within the words of its tree
-low_rows : (fuel base : ℕ) (pairs : List Pair) (at : ℕ) (p : Piece) → Among (at, p) (rows_within fuel base pairs) → at < base + ideal_words (length pairs)
+low_rows : (fuel base : ℕ) (pairs : List Pair) (at : ℕ) (p : Piece)
+    → Among (at, p) (rows_within fuel base pairs) → at < base + ideal_words (length pairs)
 unfolding rows_within
 low_rows fuel base [] at p i = absurd i
 low_rows fuel base (pair ∷ []) at p (inl e) = let here : at ≡ base = ap (λ x. x.0) e in let two = ideal_words_one in omega arith
