@@ -17,11 +17,12 @@ pub fn states_are_shown()
 
 /// A table has one list of contents at most.
 pub fn contents_are_one()
-    ensures one { (t : Snapshot) (xs ys : List Pair) → HasContents t xs → HasContents t ys → xs ≡ ys }
+    ensures one { (t : Snapshot) (xs ys : List Pair)
+        → HasContents t xs → HasContents t ys → xs ≡ ys }
 {}
 
-/// Behind a lawful log the first free word is what was spent: the fixed words, the rows of the start
-/// pairs, and all that was reserved.
+/// Behind a lawful log the first free word is what was spent: the fixed words, the rows of the
+/// start pairs, and all that was reserved.
 pub fn words_are_spent()
     ensures next { (pairs : List Pair) (words : ℕ) (log : Log) → Lawful pairs words log
         → (state_of pairs words log).next ≡ spent pairs log }
