@@ -117,7 +117,7 @@ part_len-lt n j h =
     omega (arith, part_len-short n j y))
     (cases_lt j (n % degree n))
 
--- the quotient by the root of a number is at most the root and 2, and less where something is left over
+-- the quotient by the root is at most the root and 2, and less where something is left over
 quotient_root : (n s q e : ℕ) → 1 ≤ s → s * q + e ≡ n → n < (s + 1) * (s + 1) → q ≤ s + 2
 quotient_root n s q e h k l =
     ⊎_elim
@@ -151,7 +151,8 @@ part_len-le n j r h k l =
 
     many : (s : ℕ) → n < (s + 1) * (s + 1) → s ≤ r → degree n ≡ max 2 s → 2 ≤ s
         → part_len n j ≤ r + 2
-    many s b c e a = cases (n / degree n) (n % degree n) (part_len-long n j) (part_len-short n j) whole
+    many s b c e a =
+        cases (n / degree n) (n % degree n) (part_len-long n j) (part_len-short n j) whole
       where
         whole : s * (n / degree n) + n % degree n ≡ n
         whole =

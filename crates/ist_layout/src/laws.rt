@@ -1,5 +1,5 @@
-//! The constants are those of the definitions, and each word names one reference or one status. Each law is the contract
-//! of a function that does nothing.
+//! The constants are those of the definitions, and each word names one reference or one status.
+//! Each law is the contract of a function that does nothing.
 ghost use Rattle.std.specs.Prelude.{◌≡◌, ℕ, ◌<◌, Some};
 ghost use Rattle.ist_core.specs.References.{Ref, word_of, ref_of, IsGoodRef};
 ghost use Rattle.ist_core.specs.RowLayout as layout;
@@ -81,7 +81,8 @@ pub fn decisions_and_kinds_agree()
     ensures finish_kind { FINISH_KIND ≡ words.finish_kind }
 {}
 
-/// A good reference is read back from its word, and what is read from a word is good and has this word.
+/// A good reference is read back from its word, and what is read from a word is good and has this
+/// word.
 pub fn words_name_one_reference()
     ensures read_back { (ref : Ref) → IsGoodRef ref → ref_of (word_of ref) ≡ Some ref }
     ensures good { (word : ℕ) (ref : Ref) → ref_of word ≡ Some ref → IsGoodRef ref }
@@ -92,6 +93,7 @@ pub fn words_name_one_reference()
 pub fn words_name_one_status()
     ensures open { status_of (status_word Open) ≡ Some Open }
     ensures marked { status_of (status_word Marked) ≡ Some Marked }
-    ensures finished { (k : ℕ) → k < keys_limit → status_of (status_word (Finished k)) ≡ Some (Finished k) }
+    ensures finished { (k : ℕ) → k < keys_limit
+        → status_of (status_word (Finished k)) ≡ Some (Finished k) }
     ensures same_word { (word : ℕ) (s : Status) → status_of word ≡ Some s → status_word s ≡ word }
 {}

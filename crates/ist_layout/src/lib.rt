@@ -1,8 +1,9 @@
-//! The words of a table: what stands in a slot or in a status, and where the fields of each row lie. Nothing here
-//! takes memory, and no call refuses, except that reading a word answers `None` where it is no word of its kind.
+//! The words of a table: what stands in a slot or in a status, and where the fields of each row
+//! lie. Nothing here takes memory, and no call refuses, except that reading a word answers `None`
+//! where it is no word of its kind.
 //!
-//! Read `specs/Meanings.antt`, then `references.rt`, `statuses.rt` and `places.rt`. Stands on `ist_core`, for the
-//! definitions alone.
+//! Read `specs/Meanings.antt`, then `references.rt`, `statuses.rt` and `places.rt`. Stands on
+//! `ist_core`, for the definitions alone.
 #![tactic(auto)]
 
 pub mod laws;

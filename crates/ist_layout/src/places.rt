@@ -1,4 +1,5 @@
-//! Where the fixed words of a table lie, how long its rows are, and where the fields of each row lie behind its base.
+//! Where the fixed words of a table lie, how long its rows are, and where the fields of each row
+//! lie behind its base.
 ghost use Rattle.std.specs.Prelude.{◌≡◌, ℕ, ◌+◌, ◌*◌, ◌<◌, ◌≤◌, ◌^◌};
 ghost use Rattle.ist_core.specs.RowLayout.{inner_words, key_place, slot_place, place_limit};
 
@@ -78,8 +79,8 @@ pub fn inner_words(degree: u64) -> u64
     2 * degree + 3
 }
 
-/// Where key `j` of the inner row at `base` lies, counted from 1: the smallest key below slot `j` when the row was
-/// built.
+/// Where key `j` of the inner row at `base` lies, counted from 1: the smallest key below slot `j`
+/// when the row was built.
 pub fn key_place(base: u32, j: u64) -> u64
     requires first { 1 ≤ j }
     requires fits { j < place_limit }

@@ -57,7 +57,8 @@ impl Ref {
         }
     }
 
-    /// The reference whose word this is, or `None` where the word is none of a reference with a good base.
+    /// The reference whose word this is, or `None` where the word is none of a reference with a
+    /// good base.
     pub fn from_word(word: u64) -> Option<Ref>
         ensures value { option_map ref_meant result ≡ ref_of word }
         ensures good { IfSome result (λ found. IsGoodRef (ref_meant found)) }
@@ -70,7 +71,8 @@ impl Ref {
         }
     }
 
-    /// The row with this tag and this base, or `None` where there is no such tag, or the base is not good.
+    /// The row with this tag and this base, or `None` where there is no such tag, or the base is
+    /// not good.
     fn row(tag: u64, base: u64) -> Option<Ref>
         ensures value { option_map ref_meant result ≡ good_row_tagged tag base }
     {

@@ -1,6 +1,28 @@
 -- The child of a key, found at the place where the keys turn from at most x to above x.
-use Rattle.std.proofs.Common.{◌≡◌, ℕ, zero, suc, ◌+◌, ◌-◌, ◌<◌, ◌≤◌, ◌∙◌, min, nat_le, true, false, List, length,
-    get_or, take, ⊎_elim, sym, ap, arith, add-one}
+use Rattle.std.proofs.Common.{
+  ◌≡◌,
+  ℕ,
+  zero,
+  suc,
+  ◌+◌,
+  ◌-◌,
+  ◌<◌,
+  ◌≤◌,
+  ◌∙◌,
+  min,
+  nat_le,
+  true,
+  false,
+  List,
+  length,
+  get_or,
+  take,
+  ⊎_elim,
+  sym,
+  ap,
+  arith,
+  add-one,
+}
 use Rattle.std.proofs.lemmas.Bool.{cases_lt}
 use Rattle.std.proofs.lemmas.Bool.Decides.{nat_tests}
 use Rattle.std.proofs.lemmas.List.{take_all}
@@ -50,7 +72,7 @@ child_count_is keys x at rises within above below =
     up_to (suc j) h =
         ap (λ k. child_count (take k keys) x) (sym (add-one j))
         ∙ (let so_far = up_to j (omega arith) in
-            ⊎_elim (before so_far) (behind so_far) (cases_lt j at))
+        ⊎_elim (before so_far) (behind so_far) (cases_lt j at))
       where
         before : child_count (take j keys) x ≡ min j at → j < at
             → child_count (take (j + 1) keys) x ≡ min (suc j) at

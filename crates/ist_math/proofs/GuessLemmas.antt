@@ -1,6 +1,23 @@
 -- What the guess comes to.
-use Rattle.std.proofs.Common.{◌≡◌, ℕ, ◌+◌, ◌-◌, ◌*◌, ◌/◌, ◌<◌, ◌≤◌, nat_le, nat_lt, Bool, true,
-    false, cond, refl, arith, mul-le-mul_right}
+use Rattle.std.proofs.Common.{
+  ◌≡◌,
+  ℕ,
+  ◌+◌,
+  ◌-◌,
+  ◌*◌,
+  ◌/◌,
+  ◌<◌,
+  ◌≤◌,
+  nat_le,
+  nat_lt,
+  Bool,
+  true,
+  false,
+  cond,
+  refl,
+  arith,
+  mul-le-mul_right,
+}
 use Rattle.std.proofs.lemmas.Bool.Decides.{nat_tests}
 use Rattle.std.proofs.Math.Nat.{div-le_of_le-mul}
 use Rattle.ist_math.specs.Guess.{guess_of}

@@ -1,6 +1,23 @@
 -- Two trees of which one has one key more: their parts have the same two sizes.
-use Rattle.std.proofs.Common.{◌≡◌, ◌∙◌, ℕ, ◌+◌, ◌-◌, ◌*◌, ◌/◌, ◌%◌, ◌<◌, ◌≤◌, min, ⊎_elim, sym, ap,
-    subst, arith, mul-le-mul_left}
+use Rattle.std.proofs.Common.{
+  ◌≡◌,
+  ◌∙◌,
+  ℕ,
+  ◌+◌,
+  ◌-◌,
+  ◌*◌,
+  ◌/◌,
+  ◌%◌,
+  ◌<◌,
+  ◌≤◌,
+  min,
+  ⊎_elim,
+  sym,
+  ap,
+  subst,
+  arith,
+  mul-le-mul_left,
+}
 use Rattle.std.proofs.lemmas.Bool.{cases_lt}
 use Rattle.ist_core.specs.Arithmetic.{degree}
 use Rattle.ist_core.specs.Shapes.{ideal_words}
@@ -22,14 +39,14 @@ quotient_is n d q h k l = by (n / d) (n % d) (omega arith) (omega arith)
     by p r e f =
         ⊎_elim
         (λ (y : p < q).
-            let o = mul-le-mul_left d (let x : p + 1 ≤ q = omega arith in x) in
-            absurd (omega arith))
+        let o = mul-le-mul_left d (let x : p + 1 ≤ q = omega arith in x) in
+        absurd (omega arith))
         (λ (y : q ≤ p).
-            ⊎_elim
-            (λ (z : q < p).
-                let o = mul-le-mul_left d (let x : q + 1 ≤ p = omega arith in x) in
-                absurd (omega arith))
-            (λ (z : p ≤ q). omega arith) (cases_lt q p))
+        ⊎_elim
+        (λ (z : q < p).
+        let o = mul-le-mul_left d (let x : q + 1 ≤ p = omega arith in x) in
+        absurd (omega arith))
+        (λ (z : p ≤ q). omega arith) (cases_lt q p))
         (cases_lt p q)
 
 -- the same degree: the smaller tree has the shorter parts
@@ -42,15 +59,18 @@ fits_same n d s h e =
         → FitsBoth n d d s
     by p q r t e a b x y =
         let low : p ≤ q = ⊎_elim
-            (λ (z : q < p).
-                let o = mul-le-mul_left d (let u : q + 1 ≤ p = omega arith in u) in
-                absurd (omega arith))
-            (λ (z : p ≤ q). z) (cases_lt q p) in
+        (λ (z : q < p).
+        let o = mul-le-mul_left d (let u : q + 1 ≤ p = omega arith in u) in
+        absurd (omega arith))
+        (λ (z : p ≤ q). z) (cases_lt q p) in
         let is : s ≡ p = omega arith in
         let product = ap (λ k. d * k) is in
         record {
-            enough = omega arith; near = omega arith;
-            enough_next = omega arith; near_next = omega arith }
+          enough = omega arith;
+          near = omega arith;
+          enough_next = omega arith;
+          near_next = omega arith;
+        }
 
 -- the next degree: the larger tree is a square, and the smaller one has parts of one key more
 fits_next : (n d e s : ℕ) → 2 ≤ d → s ≡ min (n / d) ((n + 1) / e) → e ≡ d + 1
@@ -60,13 +80,16 @@ fits_next n d e s h m k l =
     let above = ap (λ c. c * (d + 1 + 1)) k in
     let first : n / d ≡ d + 2 = quotient_is n d (d + 2) (omega arith) (omega arith) (omega arith) in
     let second : (n + 1) / e ≡ d + 1 =
-        quotient_is (n + 1) e (d + 1) (omega arith) (omega arith) (omega arith) in
+    quotient_is (n + 1) e (d + 1) (omega arith) (omega arith) (omega arith) in
     let is : s ≡ d + 1 = omega arith in
     let p = ap (λ c. d * c) is in
     let q = ap (λ c. e * c) is in
     record {
-        enough = omega arith; near = omega arith;
-        enough_next = omega arith; near_next = omega arith }
+      enough = omega arith;
+      near = omega arith;
+      enough_next = omega arith;
+      near_next = omega arith;
+    }
 
 -- the shortest part of either tree fits both
 pub shortest_fits : (n d e s : ℕ) → 2 ≤ n → d ≡ degree n → e ≡ degree (n + 1)
@@ -95,7 +118,7 @@ unfolding mixed_words
 words_from_both n d s first second h e f g k l =
     ap (λ c. 2 * c + 3 + ((n - c * s) * second + (c - (n - c * s)) * first)) e
     ∙ ap (λ a. 2 * degree n + 3 + ((n - degree n * s) * second
-        + (degree n - (n - degree n * s)) * a)) f
+    + (degree n - (n - degree n * s)) * a)) f
     ∙ ap (λ a. 2 * degree n + 3 + ((n - degree n * s) * a
-        + (degree n - (n - degree n * s)) * ideal_words s)) g
+    + (degree n - (n - degree n * s)) * ideal_words s)) g
     ∙ sym (ideal_words_by_two n s h k l)

@@ -4,7 +4,8 @@ ghost use Rattle.std.specs.List.Sorted.{IsStrictlyIncreasing};
 ghost use Rattle.ist_core.specs.Arithmetic.{child_count};
 ghost use Rattle.ist_math.specs.Guess.{guess_of};
 
-/// How many of `m` keys are at most `x`, if they lie evenly between `first` and `last`: a guess at the child for `x`.
+/// How many of `m` keys are at most `x`, if they lie evenly between `first` and `last`: a guess at
+/// the child for `x`.
 ///
 /// The product is taken in `u128`, before the division, so it is exact for all keys.
 ///
@@ -26,10 +27,11 @@ pub fn guess(first: u64, last: u64, m: u64, x: u64) -> u64
     1 + above as u64
 }
 
-/// The child of a node with these keys in whose range `x` lies, counted from 0: the number of keys that are at most `x`.
+/// The child of a node with these keys in whose range `x` lies, counted from 0: the number of keys
+/// that are at most `x`.
 ///
-/// It begins at the guess and moves on from there one key at a time, so it looks at few keys where they are spread
-/// evenly. No clause bounds how many.
+/// It begins at the guess and moves on from there one key at a time, so it looks at few keys where
+/// they are spread evenly. No clause bounds how many.
 pub fn child_of(keys: &[u64], x: u64) -> usize
     requires rising { IsStrictlyIncreasing keys.now }
     ensures value { result ≡ child_count keys.now x }

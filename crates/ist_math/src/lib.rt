@@ -1,8 +1,9 @@
-//! Arithmetic of the tree: how many children a node has, which keys each has, how many words a subtree takes,
-//! when a node is due for a rebuild, and in which child a key lies. Nothing here takes memory, and no call refuses.
+//! Arithmetic of the tree: how many children a node has, which keys each has, how many words a
+//! subtree takes, when a node is due for a rebuild, and in which child a key lies. Nothing here
+//! takes memory, and no call refuses.
 //!
-//! Read `specs/Guess.antt`, then `shares.rt`, `sizes.rt` and `children.rt`. `laws.rt` has what follows from the
-//! definitions alone. Stands on `ist_core`.
+//! Read `specs/Guess.antt`, then `shares.rt`, `sizes.rt` and `children.rt`. `laws.rt` has what
+//! follows from the definitions alone. Stands on `ist_core`.
 #![tactic(auto)]
 
 mod children;
@@ -15,7 +16,7 @@ pub mod tables;
 pub use children::{child_of, guess};
 pub use parts::Part;
 pub use shares::{degree, part};
-pub use sizes::{ideal_words, limit};
+pub use sizes::{SHARE_FROM, ideal_words, limit};
 
 #[cfg(test)]
 mod tests;

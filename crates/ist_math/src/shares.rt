@@ -4,7 +4,8 @@ ghost use Rattle.ist_core.specs.Arithmetic.{degree, part_len, part_start};
 
 use crate::parts::Part;
 
-/// How many children the root of an ideal tree of `n` keys has: the square root of `n`, rounded down, but at least 2.
+/// How many children the root of an ideal tree of `n` keys has: the square root of `n`, rounded
+/// down, but at least 2.
 pub fn degree(n: u64) -> u64
     requires several { 2 ≤ n }
     requires fits { n < 2 ^ 32 }

@@ -5,6 +5,9 @@ ghost use Rattle.ist_core.specs.Shapes.{ideal_words};
 
 use crate::shares::degree;
 
+/// From this many keys on, the helpers of a rebuild share its root and build one part each.
+pub const SHARE_FROM: u64 = 256;
+
 /// The words of a leaf.
 const LEAF_WORDS: u64 = 2;
 
@@ -14,8 +17,8 @@ const FIXED_WORDS: u64 = 3;
 /// A node is due for a rebuild after at least so many updates.
 const LEAST_LIMIT: u64 = 8;
 
-/// After how many updates a node that was built over `size` keys is due for a rebuild: a quarter of its keys, but at
-/// least 8.
+/// After how many updates a node that was built over `size` keys is due for a rebuild: a quarter of
+/// its keys, but at least 8.
 pub fn limit(size: u64) -> u64
     ensures value { result ≡ limit size }
 {
@@ -24,7 +27,8 @@ pub fn limit(size: u64) -> u64
 
 /// How many words an ideal tree of `n` keys takes, with its leaves.
 ///
-/// The parts of all nodes of one level have two sizes at most, so each level costs the same few steps.
+/// The parts of all nodes of one level have two sizes at most, so each level costs the same few
+/// steps.
 pub fn ideal_words(n: u64) -> u64
     requires fits { n < 2 ^ 32 }
     ensures value { result ≡ ideal_words n }
@@ -51,10 +55,16 @@ fn words_of_both(n: u64) -> Both
     ensures second { result.second ≡ ideal_words (n + 1) }
 {
     if n == 0 {
-        return Both { first: 0, second: LEAF_WORDS };
+        return Both {
+            first: 0,
+            second: LEAF_WORDS,
+        };
     }
     if n == 1 {
-        return Both { first: LEAF_WORDS, second: 2 * LEAF_WORDS + 2 * 2 + FIXED_WORDS };
+        return Both {
+            first: LEAF_WORDS,
+            second: 2 * LEAF_WORDS + 2 * 2 + FIXED_WORDS,
+        };
     }
     let shortest = (n / degree(n)).min((n + 1) / degree(n + 1));
     let parts = words_of_both(shortest);

@@ -74,7 +74,11 @@ fn parts_follow_one_another(rt: HostRuntime) {
 #[test]
 fn degrees_of_large_nodes_are_whole_roots(rt: HostRuntime) {
     // the keys, the degree
-    let cases = [(65535 * 65535 - 1, 65534), (65535 * 65535, 65535), (4294967295, 65535)];
+    let cases = [
+        (65535 * 65535 - 1, 65534),
+        (65535 * 65535, 65535),
+        (4294967295, 65535),
+    ];
     for (n, root) in cases {
         if 2 <= n && n < 1 << 32 {
             assert_eq!(rt; degree(n), root, "{n} keys");
@@ -85,8 +89,22 @@ fn degrees_of_large_nodes_are_whole_roots(rt: HostRuntime) {
 #[test]
 fn ideal_trees_take_these_words(rt: HostRuntime) {
     // the keys, the words
-    let small = [(0, 0), (1, 2), (2, 11), (3, 20), (4, 29), (10, 78), (16, 127)];
-    let large = [(100, 803), (1000, 8383), (86400, 704353), (1048575, 8787573), (4294967295, 34712447733)];
+    let small = [
+        (0, 0),
+        (1, 2),
+        (2, 11),
+        (3, 20),
+        (4, 29),
+        (10, 78),
+        (16, 127),
+    ];
+    let large = [
+        (100, 803),
+        (1000, 8383),
+        (86400, 704353),
+        (1048575, 8787573),
+        (4294967295, 34712447733),
+    ];
     for (n, words) in small {
         if n < 1 << 32 {
             assert_eq!(rt; ideal_words(n), words, "{n} keys");
@@ -102,7 +120,15 @@ fn ideal_trees_take_these_words(rt: HostRuntime) {
 #[test]
 fn nodes_are_due_after_a_quarter_of_their_keys(rt: HostRuntime) {
     // the size, the limit
-    let cases = [(2, 8), (31, 8), (32, 8), (35, 8), (36, 9), (256, 64), (1000, 250)];
+    let cases = [
+        (2, 8),
+        (31, 8),
+        (32, 8),
+        (35, 8),
+        (36, 9),
+        (256, 64),
+        (1000, 250),
+    ];
     for (size, updates) in cases {
         assert_eq!(rt; limit(size), updates, "size {size}");
     }
