@@ -31,11 +31,13 @@ below_entries : (key : ℕ) (pairs : List Pair) → ((j : ℕ) → j < length pa
     → T (below_all nat_cmp key (map entry pairs))
 below_entries key [] below = tt
 below_entries key (p ∷ pairs) below =
-    subst (λ r. T (is_lt r && below_all nat_cmp key (map entry pairs))) (nat_cmp_is key p.key Less (below 0 (omega arith)))
+    subst (λ r. T (is_lt r && below_all nat_cmp key (map entry pairs)))
+    (nat_cmp_is key p.key Less (below 0 (omega arith)))
     (below_entries key pairs (λ j within. below (suc j) (omega arith)))
 
 -- entries of pairs whose keys rise are in order
-sorted_entries : (pairs : List Pair) → ((i j : ℕ) → i < j → j < length pairs → key_at pairs i < key_at pairs j)
+sorted_entries : (pairs : List Pair)
+    → ((i j : ℕ) → i < j → j < length pairs → key_at pairs i < key_at pairs j)
     → T (is_sorted nat_cmp (map entry pairs))
 sorted_entries [] rises = tt
 sorted_entries (p ∷ pairs) rises =
@@ -55,4 +57,5 @@ pairs_of-map_of pairs rising =
     let same : map_of pairs ≡ fin.from_sorted es =
     fin.same_map nat_cmp_total fin.nat_cmp-IsAntisymmetric _ _ (λ q.
     fin.get-from_entries nat_cmp_total es q ∙ sym (fin.get-from_sorted nat_cmp es q sorted)) in
-    ap (λ m. map pair (fin.entries m)) same ∙ ap (map pair) (fin.entries-from_sorted nat_cmp es sorted) ∙ pairs-entries pairs
+    ap (λ m. map pair (fin.entries m)) same
+    ∙ ap (map pair) (fin.entries-from_sorted nat_cmp es sorted) ∙ pairs-entries pairs

@@ -23,7 +23,9 @@ set_from_values : (old new : List Pair) (key value : ℕ)
     → map_of new ≡ fin.insert (map_of old) key value
 set_from_values old new key value values =
     fin.same_map nat_cmp_total fin.nat_cmp-IsAntisymmetric _ _ (λ q.
-    get-map_of new q ∙ values q ∙ sym (fin.get-insert nat_cmp_total (map_of old) key value q ∙ rw (unsigned_tied, get-map_of) refl))
+    get-map_of new q ∙ values q
+    ∙ sym (fin.get-insert nat_cmp_total (map_of old) key value q
+    ∙ rw (unsigned_tied, get-map_of) refl))
 
 -- or by a remove
 gone_from_values : (old new : List Pair) (key : ℕ)
@@ -31,12 +33,16 @@ gone_from_values : (old new : List Pair) (key : ℕ)
     → map_of new ≡ fin.remove (map_of old) key
 gone_from_values old new key values =
     fin.same_map nat_cmp_total fin.nat_cmp-IsAntisymmetric _ _ (λ q.
-    get-map_of new q ∙ values q ∙ sym (fin.get-remove nat_cmp_total (map_of old) key q ∙ rw (unsigned_tied, get-map_of) refl))
+    get-map_of new q ∙ values q
+    ∙ sym (fin.get-remove nat_cmp_total (map_of old) key q
+    ∙ rw (unsigned_tied, get-map_of) refl))
 
 module _ (pairs : List Pair) (rising : IsRising pairs) (key : ℕ) where
   -- the comparisons with the key rise along the list, as a search by halving asks
   comparisons_rise : IsNonDecreasingBy (λ p. ordering_index (nat_cmp p.key key)) pairs
-  comparisons_rise = IsNonDecreasingBy-from_default (λ p. ordering_index (nat_cmp p.key key)) pairs no_pair (λ i j le within.
+  comparisons_rise =
+      IsNonDecreasingBy-from_default (λ p. ordering_index (nat_cmp p.key key)) pairs no_pair
+      (λ i j le within.
       let keys_rise : key_at pairs i ≤ key_at pairs j =
       grind (arith, key_at-rises pairs rising i j, λ (same : i ≡ j). ap (key_at pairs) same) in
       grind (arith, nat_tests))
@@ -61,11 +67,13 @@ module _ (pairs : List Pair) (rising : IsRising pairs) (key : ℕ) where
 module _ (pairs : List Pair) (rising : IsRising pairs) (key at : ℕ) (here : IsAt pairs key at) where
   -- the keys before the place are below, so none is the key
   none_before : NoKeyBefore pairs key at
-  none_before j before same = omega (arith, key_at-rises pairs rising j at before here.within, here.has_key)
+  none_before j before same =
+      omega (arith, key_at-rises pairs rising j at before here.within, here.has_key)
 
   -- and those behind it are above
   none_behind : (j : ℕ) → at < j → j < length pairs → key_at pairs j ≢ key
-  none_behind j behind within same = omega (arith, key_at-rises pairs rising at j behind within, here.has_key)
+  none_behind j behind within same =
+      omega (arith, key_at-rises pairs rising at j behind within, here.has_key)
 
   -- the key has the value that stands there
   pub get_at : fin.get (map_of pairs) key ≡ Some (get_or pairs at no_pair).value
@@ -73,8 +81,10 @@ module _ (pairs : List Pair) (rising : IsRising pairs) (key at : ℕ) (here : Is
 
   -- writing over its pair sets that key alone
   pub map_of-set : (value : ℕ)
-      → map_of (set pairs at (record { key = key; value = value })) ≡ fin.insert (map_of pairs) key value
-  map_of-set value = set_from_values _ _ key value (value_in-set key pairs at value here none_before)
+      → map_of (set pairs at (record { key = key; value = value })) ≡ fin.insert
+      (map_of pairs) key value
+  map_of-set value =
+      set_from_values _ _ key value (value_in-set key pairs at value here none_before)
 
   -- and keeps the order, since every key stays
   pub rising_set : (value : ℕ) → IsRising (set pairs at (record { key = key; value = value }))
@@ -83,16 +93,19 @@ module _ (pairs : List Pair) (rising : IsRising pairs) (key at : ℕ) (here : Is
 
   -- without its pair the key is gone
   pub map_of-remove : map_of (remove pairs at) ≡ fin.remove (map_of pairs) key
-  map_of-remove = gone_from_values _ _ key (value_in-remove key pairs at here none_before none_behind)
+  map_of-remove =
+      gone_from_values _ _ key (value_in-remove key pairs at here none_before none_behind)
 
   -- and the others keep their order
   pub rising_remove : IsRising (remove pairs at)
   rising_remove = rises_by_steps _ (λ i within.
       let fewer = length-remove pairs at here.within in
       let left : (i : ℕ) → i < at → key_at (remove pairs at) i ≡ key_at pairs i =
-      λ i before. ap (λ (p : Pair). p.key) (get_or-remove_below pairs at no_pair i before here.within) in
+      λ i before. ap (λ (p : Pair). p.key)
+      (get_or-remove_below pairs at no_pair i before here.within) in
       let right : (i : ℕ) → at ≤ i → key_at (remove pairs at) i ≡ key_at pairs (i + 1) =
-      λ i behind. ap (λ (p : Pair). p.key) (get_or-remove_above pairs at no_pair i behind here.within) in
+      λ i behind. ap (λ (p : Pair). p.key)
+      (get_or-remove_above pairs at no_pair i behind here.within) in
       grind (
         arith,
         left i,
@@ -113,28 +126,36 @@ module _ (pairs : List Pair) (key at : ℕ) (gap : IsGapFor pairs key at) where
   -- so taking it away changes nothing
   pub map_of-absent : map_of pairs ≡ fin.remove (map_of pairs) key
   map_of-absent =
-      let none = value_in-absent pairs key (λ j within same. grind (arith, gap.below j, gap.above j)) in
-      gone_from_values pairs pairs key (λ q. grind (arith, nat_tests, λ (same : q ≡ key). ap (value_in pairs) same))
+      let none =
+      value_in-absent pairs key (λ j within same. grind (arith, gap.below j, gap.above j)) in
+      gone_from_values pairs pairs key
+      (λ q. grind (arith, nat_tests, λ (same : q ≡ key). ap (value_in pairs) same))
 
   -- a new pair in the gap sets that key alone
   pub map_of-insert : (value : ℕ)
-      → map_of (insert pairs at (record { key = key; value = value })) ≡ fin.insert (map_of pairs) key value
+      → map_of (insert pairs at (record { key = key; value = value })) ≡ fin.insert
+      (map_of pairs) key value
   map_of-insert value = set_from_values _ _ key value
       (value_in-insert key pairs at value (λ j before same. omega (arith, gap.below j before)))
 
   -- and keeps the order
-  pub rising_insert : (value : ℕ) → IsRising pairs → IsRising (insert pairs at (record { key = key; value = value }))
+  pub rising_insert : (value : ℕ) → IsRising pairs
+      → IsRising (insert pairs at (record { key = key; value = value }))
   rising_insert value rising = rises_by_steps _ (λ i within.
       let p : Pair = record { key = key; value = value } in
       let more = length-insert pairs at p gap.within in
       let left : (i : ℕ) → i < at → key_at (insert pairs at p) i ≡ key_at pairs i =
-      λ i before. ap (λ (p : Pair). p.key) (get_or-insert_below pairs at p no_pair i before gap.within) in
+      λ i before. ap (λ (p : Pair). p.key)
+      (get_or-insert_below pairs at p no_pair i before gap.within) in
       let middle : (i : ℕ) → i ≡ at → key_at (insert pairs at p) i ≡ key =
-      λ i same. rw same (ap (λ (p : Pair). p.key) (get_or-insert_at pairs at p no_pair gap.within)) in
+      λ i same. rw same
+      (ap (λ (p : Pair). p.key) (get_or-insert_at pairs at p no_pair gap.within)) in
       let right : (i : ℕ) → at ≤ i → key_at (insert pairs at p) (i + 1) ≡ key_at pairs i =
-      λ i behind. ap (λ (p : Pair). p.key) (get_or-insert_above pairs at p no_pair i behind gap.within) in
+      λ i behind. ap (λ (p : Pair). p.key)
+      (get_or-insert_above pairs at p no_pair i behind gap.within) in
       let before_right : at < i → key_at (insert pairs at p) i ≡ key_at pairs (i - 1) =
-      λ behind. subst (λ q. key_at (insert pairs at p) q ≡ key_at pairs (i - 1)) {x = i - 1 + 1} (omega arith) (right (i - 1) (omega arith)) in
+      λ behind. subst (λ q. key_at (insert pairs at p) q ≡ key_at pairs (i - 1)) {x = i - 1 + 1}
+      (omega arith) (right (i - 1) (omega arith)) in
       grind (
         arith,
         left i,

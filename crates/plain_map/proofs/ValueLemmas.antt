@@ -33,7 +33,8 @@ find-value_in (p ∷ pairs) key = rw (unsigned_tied, find-value_in pairs key) re
 -- the map of some pairs answers with the first pair that has the key
 pub get-map_of : (pairs : List Pair) (key : ℕ) → fin.get (map_of pairs) key ≡ value_in pairs key
 get-map_of pairs key =
-    fin.get-from_entries nat_cmp_total (map (λ p. (p.key, p.value)) pairs) key ∙ find-value_in pairs key
+    fin.get-from_entries nat_cmp_total (map (λ p. (p.key, p.value)) pairs) key
+    ∙ find-value_in pairs key
 
 -- no pair of the tail has the key either
 no_key_in_tail : (p : Pair) (pairs : List Pair) (key i : ℕ) → NoKeyBefore (p ∷ pairs) key (suc i)
@@ -41,15 +42,23 @@ no_key_in_tail : (p : Pair) (pairs : List Pair) (key i : ℕ) → NoKeyBefore (p
 no_key_in_tail p pairs key i absent j before = absent (suc j) (omega arith)
 
 -- in the tail a pair is one place lower
-is_at_in_tail : (p : Pair) (pairs : List Pair) (key i : ℕ) → IsAt (p ∷ pairs) key (suc i) → IsAt pairs key i
-is_at_in_tail p pairs key i here = record { within = omega (arith, here.within); has_key = here.has_key }
+is_at_in_tail : (p : Pair) (pairs : List Pair) (key i : ℕ) → IsAt (p ∷ pairs) key (suc i)
+    → IsAt pairs key i
+is_at_in_tail p pairs key i here =
+    record { within = omega (arith, here.within); has_key = here.has_key }
 
 -- a key that no pair has is not found
 pub value_in-absent : (pairs : List Pair) (key : ℕ) → NoKeyBefore pairs key (length pairs)
     → value_in pairs key ≡ None
 value_in-absent [] key absent = refl
 value_in-absent (p ∷ pairs) key absent =
-    grind (arith, nat_tests, absent 0 (omega arith), value_in-absent pairs key (no_key_in_tail p pairs key _ absent))
+    grind (
+      arith,
+      nat_tests,
+      absent 0 (omega arith),
+      value_in-absent pairs key
+          (no_key_in_tail p pairs key _ absent),
+    )
 
 module _ (key : ℕ) where
   -- the first pair that has the key gives its value
@@ -62,12 +71,15 @@ module _ (key : ℕ) where
         arith,
         nat_tests,
         absent 0 (omega arith),
-        value_in-at pairs i (is_at_in_tail p pairs key i here) (no_key_in_tail p pairs key i absent),
+        value_in-at pairs i (is_at_in_tail p pairs key i here)
+            (no_key_in_tail p pairs key i absent),
       )
 
   -- writing over the first pair that has the key sets its value
-  pub value_in-set : (pairs : List Pair) (i value : ℕ) → IsAt pairs key i → NoKeyBefore pairs key i → (q : ℕ)
-      → value_in (set pairs i (record { key = key; value = value })) q ≡ (if q == key then Some value else value_in pairs q)
+  pub value_in-set : (pairs : List Pair) (i value : ℕ) → IsAt pairs key i → NoKeyBefore pairs key i
+      → (q : ℕ)
+      → value_in (set pairs i (record { key = key; value = value })) q ≡
+      (if q == key then Some value else value_in pairs q)
   value_in-set [] i value here absent q = absurd (omega (arith, here.within))
   value_in-set (p ∷ pairs) zero value here absent q = grind (arith, nat_tests, here.has_key)
   value_in-set (p ∷ pairs) (suc i) value here absent q =
@@ -75,12 +87,14 @@ module _ (key : ℕ) where
         arith,
         nat_tests,
         absent 0 (omega arith),
-        value_in-set pairs i value (is_at_in_tail p pairs key i here) (no_key_in_tail p pairs key i absent) q,
+        value_in-set pairs i value (is_at_in_tail p pairs key i here)
+            (no_key_in_tail p pairs key i absent) q,
       )
 
   -- so does a new pair before any pair that has the key
   pub value_in-insert : (pairs : List Pair) (i value : ℕ) → NoKeyBefore pairs key i → (q : ℕ)
-      → value_in (insert pairs i (record { key = key; value = value })) q ≡ (if q == key then Some value else value_in pairs q)
+      → value_in (insert pairs i (record { key = key; value = value })) q ≡
+      (if q == key then Some value else value_in pairs q)
   value_in-insert pairs zero value absent q = refl
   value_in-insert [] (suc i) value absent q = refl
   value_in-insert (p ∷ pairs) (suc i) value absent q =
@@ -105,6 +119,7 @@ module _ (key : ℕ) where
         arith,
         nat_tests,
         absent 0 (omega arith),
-        value_in-remove pairs i (is_at_in_tail p pairs key i here) (no_key_in_tail p pairs key i absent)
+        value_in-remove pairs i (is_at_in_tail p pairs key i here)
+            (no_key_in_tail p pairs key i absent)
             (λ j after within. last (suc j) (omega arith) (omega arith)) q,
       )

@@ -12,10 +12,12 @@ pub slice_range-later : (bytes : List ℕ) (start count end : ℕ) → start + c
 slice_range-later bytes start count end h =
     let e : count + (end - (start + count)) ≡ end - start = omega arith in
     ap (take (end - (start + count))) (sym (drop-drop count start bytes))
-    ∙ sym (ap (λ n. drop count (take n (drop start bytes))) (sym e) ∙ drop-take count (end - (start + count)) (drop start bytes))
+    ∙ sym (ap (λ n. drop count (take n (drop start bytes))) (sym e)
+    ∙ drop-take count (end - (start + count)) (drop start bytes))
 
 -- bytes that were read behind the first k are the next
-pub fills_behind : (bytes : List ℕ) (k n : ℕ) (left now : Option (List ℕ)) → k + n ≤ length bytes → Gives left now n (drop k bytes)
+pub fills_behind : (bytes : List ℕ) (k n : ℕ) (left now : Option (List ℕ)) → k + n ≤ length bytes
+    → Gives left now n (drop k bytes)
     → Fills left now (take k bytes) (take (k + n) bytes) n
 fills_behind bytes k n (Some given) now h g = record {
   longer = omega (arith, length-take-le (k + n) bytes h, length-take-le k bytes (omega arith));
@@ -35,13 +37,17 @@ fills_behind bytes k n None now h g = record {
 }
 
 -- the same, as the buffer sees its bytes
-pub filled : (bytes old : List ℕ) (k n : ℕ) (left now : Option (List ℕ)) → take k bytes ≡ old → k + n ≤ length bytes → Gives left now n (drop k bytes)
+pub filled : (bytes old : List ℕ) (k n : ℕ) (left now : Option (List ℕ)) → take k bytes ≡ old
+    → k + n ≤ length bytes → Gives left now n (drop k bytes)
     → Fills left now old (slice_range bytes 0 (k + n)) n
 filled bytes old k n left now is h g =
     let front = fills_behind bytes k n left now h g in
     let e : k + n ≡ k + n - 0 = omega arith in
-    subst (λ xs. Fills left now xs (take (k + n - 0) bytes) n) is (subst (λ m. Fills left now (take k bytes) (take m bytes) n) e front)
+    subst (λ xs. Fills left now xs (take (k + n - 0) bytes) n) is
+    (subst (λ m. Fills left now (take k bytes) (take m bytes) n) e front)
 
 -- as long as the range
-pub length-slice_range : (bytes : List ℕ) (start end : ℕ) → start ≤ end → end ≤ length bytes → start + length (slice_range bytes start end) ≡ end
-length-slice_range bytes start end h k = omega (arith, length-take (end - start) (drop start bytes), length-drop start bytes)
+pub length-slice_range : (bytes : List ℕ) (start end : ℕ) → start ≤ end → end ≤ length bytes
+    → start + length (slice_range bytes start end) ≡ end
+length-slice_range bytes start end h k =
+    omega (arith, length-take (end - start) (drop start bytes), length-drop start bytes)

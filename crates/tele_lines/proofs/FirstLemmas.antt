@@ -17,12 +17,15 @@ is_false true h = absurd (h refl)
 is_false false h = refl
 
 -- the first place that passes, or the length where none does
-pub first_place : (test : ℕ → Bool) (bytes : List ℕ) (r : Option ℕ) → IsFirstByte test bytes r → position_or_len test bytes ≡ unwrap_or r (length bytes)
+pub first_place : (test : ℕ → Bool) (bytes : List ℕ) (r : Option ℕ) → IsFirstByte test bytes r
+    → position_or_len test bytes ≡ unwrap_or r (length bytes)
 first_place test bytes (Some k) h =
     let low : k ≤ length bytes = omega (arith, h.0.high) in
-    position_or_len_is test bytes k 0 low (λ i below. is_false _ (h.0.before i (omega arith) below)) (λ _. h.1)
+    position_or_len_is test bytes k 0 low (λ i below. is_false _ (h.0.before i (omega arith) below))
+    (λ _. h.1)
 first_place test bytes None h =
-    position_or_len_is test bytes (length bytes) 0 (omega arith) (λ i below. is_false _ (h i (omega arith) below)) (λ impossible. absurd (omega arith))
+    position_or_len_is test bytes (length bytes) 0 (omega arith)
+    (λ i below. is_false _ (h i (omega arith) below)) (λ impossible. absurd (omega arith))
 
 -- the test for a space
 abbrev is_space : ℕ → Bool
@@ -35,10 +38,12 @@ put_of-None None = refl
 
 -- the words at both sides of the first space
 pub put_at_space : (words : List ℕ) (end : ℕ) → IsFirstByte is_space words (Some end)
-    → put_of (number_of (take end words)) (number_of (take (length words - (end + 1)) (drop (end + 1) words))) ≡ words_put words
+    → put_of (number_of (take end words))
+    (number_of (take (length words - (end + 1)) (drop (end + 1) words))) ≡ words_put words
 put_at_space words end h =
     let e : position_or_len is_space words ≡ end = first_place is_space words (Some end) h in
-    let rest : take (length words - (end + 1)) (drop (end + 1) words) ≡ drop (end + 1) words = take_all _ _ (omega (arith, length-drop (end + 1) words)) in
+    let rest : take (length words - (end + 1)) (drop (end + 1) words) ≡ drop (end + 1) words =
+    take_all _ _ (omega (arith, length-drop (end + 1) words)) in
     ap (λ value. put_of (number_of (take end words)) (number_of value)) rest
     ∙ sym (ap (λ k. put_of (number_of (take k words)) (number_of (drop (k + 1) words))) e)
 
@@ -46,5 +51,7 @@ put_at_space words end h =
 pub no_put : (words : List ℕ) → IsFirstByte is_space words None → None ≡ words_put words
 no_put words h =
     let e : position_or_len is_space words ≡ length words = first_place is_space words None h in
-    let rest : drop (position_or_len is_space words + 1) words ≡ [] = drop_of_length-le words (omega arith) in
-    sym (ap (λ value. put_of (number_of (before_first is_space words)) (number_of value)) rest ∙ put_of-None _)
+    let rest : drop (position_or_len is_space words + 1) words ≡ [] =
+    drop_of_length-le words (omega arith) in
+    sym (ap (λ value. put_of (number_of (before_first is_space words)) (number_of value)) rest
+    ∙ put_of-None _)

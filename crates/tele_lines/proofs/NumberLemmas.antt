@@ -16,7 +16,8 @@ with_digit value digit = value * 10 + (digit - 48)
 abbrev pub number_from : ℕ → List ℕ → Option ℕ
 number_from value [] = Some value
 number_from value (digit ∷ digits) =
-    if is_ascii_digit digit && nat_lt (with_digit value digit) (2 ^ 64) then number_from (with_digit value digit) digits else None
+    if is_ascii_digit digit && nat_lt (with_digit value digit) (2 ^ 64) then number_from
+    (with_digit value digit) digits else None
 
 -- digits only raise a value
 pub fold_no_less : (digits : List ℕ) (value : ℕ) → value ≤ fold with_digit value digits
@@ -26,37 +27,48 @@ fold_no_less (digit ∷ digits) value = omega (arith, fold_no_less digits (with_
 -- the number at once, behind a value
 abbrev number_at_once : ℕ → List ℕ → Option ℕ
 number_at_once value digits =
-    if list_all is_ascii_digit digits && nat_lt (fold with_digit value digits) (2 ^ 64) then Some (fold with_digit value digits) else None
+    if list_all is_ascii_digit digits && nat_lt (fold with_digit value digits) (2 ^ 64) then Some
+    (fold with_digit value digits) else None
 
 no_number : (digits : List ℕ) (value : ℕ) → 2 ^ 64 ≤ value → number_at_once value digits ≡ None
 no_number digits value h =
-    let k : 2 ^ 64 ≤ fold with_digit value digits = omega (arith, fold_no_less digits value) in grind (arith, common_steps)
+    let k : 2 ^ 64 ≤ fold with_digit value digits =
+    omega (arith, fold_no_less digits value) in grind (arith, common_steps)
 
 not_below : (m n : ℕ) → n ≤ m → nat_lt m n ≡ false
 not_below m n h = grind (arith, common_steps)
 
 -- a value that is small enough goes on, and another one is no number
-behind_digit : (value : ℕ) (digits : List ℕ) → (value < 2 ^ 64 → number_from value digits ≡ number_at_once value digits)
-    → (if nat_lt value (2 ^ 64) then number_from value digits else None) ≡ number_at_once value digits
+behind_digit : (value : ℕ) (digits : List ℕ)
+    → (value < 2 ^ 64 → number_from value digits ≡ number_at_once value digits)
+    → (if nat_lt value
+    (2 ^ 64) then number_from value digits else None) ≡ number_at_once value digits
 behind_digit value digits goes_on =
     elim (cases_lt value (2 ^ 64)) [
-      | inl small ↦ ap (λ b. if b then number_from value digits else None) (lt-ltb value (2 ^ 64) small) ∙ goes_on small
-      | inr large ↦ ap (λ b. if b then number_from value digits else None) (not_below value (2 ^ 64) large) ∙ sym (no_number digits value large)
+      | inl small ↦ ap (λ b. if b then number_from value digits else None)
+          (lt-ltb value (2 ^ 64) small) ∙ goes_on small
+      | inr large ↦ ap (λ b. if b then number_from value digits else None)
+          (not_below value (2 ^ 64) large) ∙ sym (no_number digits value large)
     ]
 
 -- digit by digit is at once
-pub number_from-at_once : (digits : List ℕ) (value : ℕ) → value < 2 ^ 64 → number_from value digits ≡ number_at_once value digits
+pub number_from-at_once : (digits : List ℕ) (value : ℕ) → value < 2 ^ 64
+    → number_from value digits ≡ number_at_once value digits
 number_from-at_once [] value h = grind (arith, common_steps)
 number_from-at_once (digit ∷ digits) value h =
     elim (is_ascii_digit digit) as (λ d.
-    (if d && nat_lt (with_digit value digit) (2 ^ 64) then number_from (with_digit value digit) digits else None)
-    ≡ (if (d && list_all is_ascii_digit digits) && nat_lt (fold with_digit value (digit ∷ digits)) (2 ^ 64) then Some (fold with_digit value (digit ∷ digits)) else None)) [
+    (if d && nat_lt (with_digit value digit) (2 ^ 64) then number_from
+    (with_digit value digit) digits else None)
+    ≡ (if (d && list_all is_ascii_digit digits) && nat_lt (fold with_digit value (digit ∷ digits))
+    (2 ^ 64) then Some (fold with_digit value (digit ∷ digits)) else None)) [
       | false ↦ refl
-      | true ↦ behind_digit (with_digit value digit) digits (λ small. number_from-at_once digits (with_digit value digit) small)
+      | true ↦ behind_digit (with_digit value digit) digits
+          (λ small. number_from-at_once digits (with_digit value digit) small)
     ]
 
 -- some digits are read from 0 on
-pub number_from-zero : (digits : List ℕ) → 0 < length digits → number_from 0 digits ≡ number_of digits
+pub number_from-zero : (digits : List ℕ) → 0 < length digits
+    → number_from 0 digits ≡ number_of digits
 number_from-zero digits some =
     let e : nat_lt 0 (length digits) ≡ true = lt-ltb 0 (length digits) some in
     number_from-at_once digits 0 (omega arith) ∙ sym (rw e refl)

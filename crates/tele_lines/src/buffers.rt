@@ -43,7 +43,8 @@ fn read_behind<S: Source>(bytes: &mut [u8], end: usize, source: &mut S) -> Resul
 
     ensures front { take end bytes.new ≡ take end bytes.old }
     ensures within { IfOk result (λ n. end + n ≤ length bytes.new) }
-    ensures given { IfOk result (λ n. Gives (S.left source.old) (S.left source.new) n (drop end bytes.new)) }
+    ensures given { IfOk result
+        (λ n. Gives (S.left source.old) (S.left source.new) n (drop end bytes.new)) }
 
     ensures failed { OnErr result (HaveRisen (S.faults source.old) (S.faults source.new)) }
     ensures kept { OnErr result (Keeps (S.left source.old) (S.left source.new)) }
@@ -81,7 +82,8 @@ impl Buffer {
         self.start += count;
     }
 
-    /// Takes some more bytes from the source, and says how many. It takes none only at the end of the input.
+    /// Takes some more bytes from the source, and says how many. It takes none only at the end of
+    /// the input.
     pub(crate) fn fill<S: Source>(&mut self, source: &mut S) -> Result<usize, Failed>
         requires room { length self.old < SIZE }
 

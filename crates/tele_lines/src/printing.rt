@@ -45,15 +45,19 @@ fn bad_line(line: u64, cause: Cause) -> Text
     text
 }
 
-/// Prints the reply to a point line: the line's number, a space, the value in decimal or `-`, and a newline.
+/// Prints the reply to a point line: the line's number, a space, the value in decimal or `-`, and a
+/// newline.
 ///
-/// It goes out by one `write_whole`, and takes no memory of its own. After a refusal, which is the sink's, a prefix
-/// of the text may have been written.
+/// It goes out by one `write_whole`, and takes no memory of its own. After a refusal, which is the
+/// sink's, a prefix of the text may have been written.
 pub fn print_answer<O: Sink>(out: &mut O, line: u64, reply: Reply) -> Result<(), SinkFault>
-    ensures printed { OnOk result (Appends (O.written out.old) (O.written out.new) (answer_text line reply)) }
+    ensures printed { OnOk result (Appends (O.written out.old) (O.written out.new)
+        (answer_text line reply)) }
 
-    ensures failed { result ≡ Err SinkFault.Failed → HaveRisen (O.faults out.old) (O.faults out.new) }
-    ensures part { OnErr result (AppendsPart (O.written out.old) (O.written out.new) (answer_text line reply)) }
+    ensures failed { result ≡ Err SinkFault.Failed →
+        HaveRisen (O.faults out.old) (O.faults out.new) }
+    ensures part { OnErr result (AppendsPart (O.written out.old) (O.written out.new)
+        (answer_text line reply)) }
 
     ensures counted { O.faults out.old ≤ O.faults out.new }
 {
@@ -61,15 +65,19 @@ pub fn print_answer<O: Sink>(out: &mut O, line: u64, reply: Reply) -> Result<(),
     write_whole(out, text.as_slice())
 }
 
-/// Prints that a line is bad: `! `, the line's number, a space, the word for the cause, and a newline.
+/// Prints that a line is bad: `! `, the line's number, a space, the word for the cause, and a
+/// newline.
 ///
-/// It goes out by one `write_whole`, and takes no memory of its own. After a refusal, which is the sink's, a prefix
-/// of the text may have been written.
+/// It goes out by one `write_whole`, and takes no memory of its own. After a refusal, which is the
+/// sink's, a prefix of the text may have been written.
 pub fn print_bad<O: Sink>(out: &mut O, line: u64, cause: Cause) -> Result<(), SinkFault>
-    ensures printed { OnOk result (Appends (O.written out.old) (O.written out.new) (bad_text line cause)) }
+    ensures printed { OnOk result (Appends (O.written out.old) (O.written out.new)
+        (bad_text line cause)) }
 
-    ensures failed { result ≡ Err SinkFault.Failed → HaveRisen (O.faults out.old) (O.faults out.new) }
-    ensures part { OnErr result (AppendsPart (O.written out.old) (O.written out.new) (bad_text line cause)) }
+    ensures failed { result ≡ Err SinkFault.Failed →
+        HaveRisen (O.faults out.old) (O.faults out.new) }
+    ensures part { OnErr result (AppendsPart (O.written out.old) (O.written out.new)
+        (bad_text line cause)) }
 
     ensures counted { O.faults out.old ≤ O.faults out.new }
 {

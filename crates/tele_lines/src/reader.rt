@@ -50,17 +50,20 @@ impl Lines {
 
     /// The next line, once its end has come.
     ///
-    /// `Ok(None)` says that the input is at its end and that every line was read; later calls say it again without
-    /// reading. A bad line ends the reading: this call and each later one tell its number and its cause. `Read` comes
-    /// only where the source failed in this call; no byte is lost then, and a later call goes on.
+    /// `Ok(None)` says that the input is at its end and that every line was read; later calls say
+    /// it again without reading. A bad line ends the reading: this call and each later one tell its
+    /// number and its cause. `Read` comes only where the source failed in this call; no byte is
+    /// lost then, and a later call goes on.
     pub fn next<S: Source>(&mut self, source: &mut S) -> Result<Option<Line>, LineFault>
         // The line says what the first of the unread lines says, and the others are left.
         ensures line { IfOk result (λ next. IfSome next (λ line.
             IfSome (unread self.old (S.left source.old)) (λ bytes.
             TakesLine (limit_of self.old) line.number line.item bytes (has_ended self.new)
             (unread self.new (S.left source.new))))) }
-        ensures number { IfOk result (λ next. IfSome next (λ line. line.number ≡ count_of self.old + 1)) }
-        ensures count { IfOk result (λ next. IfSome next (λ line. count_of self.new ≡ line.number)) }
+        ensures number { IfOk result (λ next. IfSome next
+            (λ line. line.number ≡ count_of self.old + 1)) }
+        ensures count { IfOk result (λ next. IfSome next
+            (λ line. count_of self.new ≡ line.number)) }
         ensures allowed { count_of self.new ≤ limit_of self.new }
 
         // There is no line where no byte is unread.
@@ -70,20 +73,25 @@ impl Lines {
         ensures again { IsDone self.old → (result ≡ Ok None) × (source.new ≡ source.old) }
 
         // The first of the unread lines is bad, and stays so.
-        ensures bad { (number : _) (cause : _) → result ≡ Err (LineFault.Bad number cause) → stop_of self.old ≡ None →
-            IfSome (unread self.old (S.left source.old)) (λ bytes. MeetsBad (limit_of self.old) number cause bytes) }
+        ensures bad { (number : _) (cause : _) → result ≡ Err (LineFault.Bad number cause) →
+            stop_of self.old ≡ None →
+            IfSome (unread self.old (S.left source.old))
+            (λ bytes. MeetsBad (limit_of self.old) number cause bytes) }
         ensures stop { (number : _) (cause : _) → result ≡ Err (LineFault.Bad number cause) →
             (number ≡ count_of self.old + 1) × (stop_of self.new ≡ Some cause) }
         ensures stopped { (cause : _) → stop_of self.old ≡ Some cause →
-            (result ≡ Err (LineFault.Bad (count_of self.old + 1) cause)) × (source.new ≡ source.old) }
+            (result ≡ Err (LineFault.Bad (count_of self.old + 1) cause)) ×
+            (source.new ≡ source.old) }
 
-        ensures failed { result ≡ Err LineFault.Read → HaveRisen (S.faults source.old) (S.faults source.new) }
+        ensures failed { result ≡ Err LineFault.Read →
+            HaveRisen (S.faults source.old) (S.faults source.new) }
         ensures kept { OnErr result (
             Keeps (unread self.old (S.left source.old)) (unread self.new (S.left source.new))) }
         ensures still { OnErr result (count_of self.new ≡ count_of self.old) }
         ensures going { OnOk result (stop_of self.new ≡ None) }
         ensures waiting { result ≡ Err LineFault.Read → Waits self.new }
-        ensures end { TellsEnd self.old (S.left source.old) → TellsEnd self.new (S.left source.new) }
+        ensures end { TellsEnd self.old (S.left source.old) →
+            TellsEnd self.new (S.left source.new) }
         ensures ended { has_ended self.old ≡ true → has_ended self.new ≡ true }
 
         ensures limit { limit_of self.new ≡ limit_of self.old }
@@ -106,16 +114,20 @@ impl Lines {
         requires there { EndsAt self.old.buffer self.old.ended end }
         requires going { self.old.stop ≡ None }
 
-        ensures line { IfOk result (λ next. IfSome next (λ line. (left : _) → IfSome (unread self.old left)
-            (λ bytes. TakesLine self.old.limit line.number line.item bytes self.new.ended (unread self.new left)))) }
-        ensures number { IfOk result (λ next. IfSome next (λ line. line.number ≡ self.old.count + 1)) }
+        ensures line { IfOk result (λ next. IfSome next (λ line. (left : _) →
+            IfSome (unread self.old left)
+            (λ bytes. TakesLine self.old.limit line.number line.item bytes self.new.ended
+            (unread self.new left)))) }
+        ensures number { IfOk result (λ next. IfSome next
+            (λ line. line.number ≡ self.old.count + 1)) }
         ensures count { IfOk result (λ next. IfSome next (λ line. self.new.count ≡ line.number)) }
 
         ensures none { IfOk result (λ next. IfNone next (IsDone self.old)) }
         ensures done { IfOk result (λ next. IfNone next (self.new ≡ self.old)) }
         ensures again { IsDone self.old → result ≡ Ok None }
 
-        ensures bad { (number : _) (cause : _) → result ≡ Err (LineFault.Bad number cause) → (left : _) →
+        ensures bad { (number : _) (cause : _) → result ≡ Err (LineFault.Bad number cause) →
+            (left : _) →
             IfSome (unread self.old left) (λ bytes. MeetsBad self.old.limit number cause bytes) }
         ensures stop { (number : _) (cause : _) → result ≡ Err (LineFault.Bad number cause) →
             (number ≡ self.old.count + 1) × (self.new.stop ≡ Some cause) }
@@ -148,7 +160,8 @@ impl Lines {
         ensures line { IfOk result (λ next. IfSome next (λ line.
             reading self.old.limit line.number (take len self.old.buffer) ≡ Ok line.item)) }
         ensures some { IfOk result IsSome }
-        ensures number { IfOk result (λ next. IfSome next (λ line. line.number ≡ self.old.count + 1)) }
+        ensures number { IfOk result (λ next. IfSome next
+            (λ line. line.number ≡ self.old.count + 1)) }
         ensures count { IfOk result (λ next. IfSome next (λ line. self.new.count ≡ line.number)) }
         ensures rest { OnOk result (self.new.buffer ≡ drop taken self.old.buffer) }
 
@@ -195,7 +208,8 @@ fn gather<S: Source>(
     ensures failed { OnErr result (HaveRisen (S.faults source.old) (S.faults source.new)) }
     ensures counted { S.faults source.old ≤ S.faults source.new }
     ensures waiting { OnErr result (IsUnbroken buffer.new × (ended.new ≡ false)) }
-    ensures end { TellsEndOf ended.old (S.left source.old) → TellsEndOf ended.new (S.left source.new) }
+    ensures end { TellsEndOf ended.old (S.left source.old) →
+        TellsEndOf ended.new (S.left source.new) }
     ensures again { ended.old ≡ true →
         IsOk result × (source.new ≡ source.old) × (buffer.new ≡ buffer.old) × (ended.new ≡ true) }
 {

@@ -14,16 +14,17 @@ use tele_lines::Lines;
 /// The most lines that an input has.
 const LINE_LIMIT: u64 = 16_777_216;
 
-/// Reads lines from the source, carries each out on one map, and writes the replies to the sink, each line before the
-/// next is read. It always returns.
+/// Reads lines from the source, carries each out on one map, and writes the replies to the sink,
+/// each line before the next is read. It always returns.
 ///
-/// `words` are those of the command line, the program's name first; the name alone is accepted, and no word is too.
-/// Other words are refused with status 2: the source isn't read, and a line that says so is written. Else the
-/// statuses are these:
+/// `words` are those of the command line, the program's name first; the name alone is accepted, and
+/// no word is too. Other words are refused with status 2: the source isn't read, and a line that
+/// says so is written. Else the statuses are these:
 ///
-/// - 0, the input was read to its end, or 3, a bad line was reached: the answer to the bytes of the source was written;
-/// - 4, the source failed in this call: the replies to the lines that a newline ends within the bytes taken were written,
-///   and none of these lines is bad;
+/// - 0, the input was read to its end, or 3, a bad line was reached: the answer to the bytes of the
+///   source was written;
+/// - 4, the source failed in this call: the replies to the lines that a newline ends within the
+///   bytes taken were written, and none of these lines is bad;
 /// - 5, the sink failed in this call, or 7, no memory was left: a prefix of the text was written.
 ///
 /// `rt` stands for the runtime that will run the workers. Nothing here uses it.
@@ -34,15 +35,18 @@ pub fn run<R, S: Source, O: Sink>(
     source: &mut S,
     out: &mut O,
 ) -> Outcome
-    // What was written is the answer to all bytes that the source had, and the status is the answer's.
+    // What was written is the answer to all bytes that the source had, and the status is the
+    // answer's.
     ensures text { IsAnswer result.status → IfSome (S.left source.old) (λ bytes.
         Appends (O.written out.old) (O.written out.new) (answer bytes).text) }
     ensures status { IsAnswer result.status → IfSome (S.left source.old) (λ bytes.
         result.status ≡ (answer bytes).status) }
-    ensures whole { result.status ≡ ANSWERED → IfSome (S.left source.old) (λ _. S.left source.new ≡ Some []) }
+    ensures whole { result.status ≡ ANSWERED →
+        IfSome (S.left source.old) (λ _. S.left source.new ≡ Some []) }
 
     // Refused words are named, and nothing is read.
-    ensures usage { result.status ≡ USAGE → Appends (O.written out.old) (O.written out.new) usage_text }
+    ensures usage { result.status ≡ USAGE →
+        Appends (O.written out.old) (O.written out.new) usage_text }
     ensures unread { are_refused (length words.now) ≡ true → source.new ≡ source.old }
 
     // After a failed read the replies to the lines that had come whole stand written.
@@ -58,8 +62,10 @@ pub fn run<R, S: Source, O: Sink>(
 
     // Each status has its cause.
     ensures statuses { IsStatus (are_refused (length words.now)) result.status }
-    ensures read_failed { result.status ≡ READ_FAILED → HaveRisen (S.faults source.old) (S.faults source.new) }
-    ensures write_failed { result.status ≡ WRITE_FAILED → HaveRisen (O.faults out.old) (O.faults out.new) }
+    ensures read_failed { result.status ≡ READ_FAILED →
+        HaveRisen (S.faults source.old) (S.faults source.new) }
+    ensures write_failed { result.status ≡ WRITE_FAILED →
+        HaveRisen (O.faults out.old) (O.faults out.new) }
 
     // Without a fault the text is written whole, while memory lasts.
     ensures complete { ¬ HaveRisen (S.faults source.old) (S.faults source.new) →
@@ -80,7 +86,8 @@ pub fn run<R, S: Source, O: Sink>(
 /// Writes that the words are refused, and gives the status.
 fn refuse<O: Sink>(out: &mut O) -> u8
     ensures usage { result ≡ USAGE → Appends (O.written out.old) (O.written out.new) usage_text }
-    ensures part { IsCutShort result → AppendsPart (O.written out.old) (O.written out.new) usage_text }
+    ensures part { IsCutShort result →
+        AppendsPart (O.written out.old) (O.written out.new) usage_text }
 
     ensures statuses { IsStatus true result }
     ensures failed { result ≡ WRITE_FAILED → HaveRisen (O.faults out.old) (O.faults out.new) }
@@ -97,8 +104,10 @@ fn refuse<O: Sink>(out: &mut O) -> u8
 fn answer_all<S: Source, O: Sink>(alloc: Global, source: &mut S, out: &mut O) -> u8
     ensures text { IsAnswer result → IfSome (S.left source.old) (λ bytes.
         Appends (O.written out.old) (O.written out.new) (answer bytes).text) }
-    ensures status { IsAnswer result → IfSome (S.left source.old) (λ bytes. result ≡ (answer bytes).status) }
-    ensures whole { result ≡ ANSWERED → IfSome (S.left source.old) (λ _. S.left source.new ≡ Some []) }
+    ensures status { IsAnswer result →
+        IfSome (S.left source.old) (λ bytes. result ≡ (answer bytes).status) }
+    ensures whole { result ≡ ANSWERED →
+        IfSome (S.left source.old) (λ _. S.left source.new ≡ Some []) }
 
     ensures stops { result ≡ READ_FAILED → IfSome (S.left source.old) (λ bytes.
         Stops bytes (S.left source.new) (O.written out.old) (O.written out.new)) }
@@ -106,7 +115,8 @@ fn answer_all<S: Source, O: Sink>(alloc: Global, source: &mut S, out: &mut O) ->
         AppendsPart (O.written out.old) (O.written out.new) (answer bytes).text) }
 
     ensures statuses { IsStatus false result }
-    ensures read_failed { result ≡ READ_FAILED → HaveRisen (S.faults source.old) (S.faults source.new) }
+    ensures read_failed { result ≡ READ_FAILED →
+        HaveRisen (S.faults source.old) (S.faults source.new) }
     ensures write_failed { result ≡ WRITE_FAILED → HaveRisen (O.faults out.old) (O.faults out.new) }
 
     ensures source_counted { S.faults source.old ≤ S.faults source.new }

@@ -36,16 +36,23 @@ pub(crate) fn step<S: Source, O: Sink>(
     requires going { stop_of lines.old ≡ None }
 
     ensures goes_on { IfNone result (IfSome (unread lines.old (S.left source.old)) (λ bytes.
-        GoesOn table.old (count_of lines.old) bytes (O.written out.old) (O.written out.new) (has_ended lines.new)
+        GoesOn table.old (count_of lines.old) bytes (O.written out.old) (O.written out.new)
+        (has_ended lines.new)
         (unread lines.new (S.left source.new)) table.new (count_of lines.new))) }
-    ensures ends { IfSome result (λ status. IsAnswer status → IfSome (unread lines.old (S.left source.old)) (λ bytes.
-        Ends (due table.old (count_of lines.old) bytes) (O.written out.old) (O.written out.new) status)) }
-    ensures part { IfSome result (λ status. IsCutShort status → IfSome (unread lines.old (S.left source.old)) (λ bytes.
-        AppendsPart (O.written out.old) (O.written out.new) (due table.old (count_of lines.old) bytes).text)) }
+    ensures ends { IfSome result (λ status. IsAnswer status →
+        IfSome (unread lines.old (S.left source.old)) (λ bytes.
+        Ends (due table.old (count_of lines.old) bytes) (O.written out.old)
+        (O.written out.new) status)) }
+    ensures part { IfSome result (λ status. IsCutShort status →
+        IfSome (unread lines.old (S.left source.old)) (λ bytes.
+        AppendsPart (O.written out.old) (O.written out.new) (due table.old
+        (count_of lines.old) bytes).text)) }
 
     ensures statuses { IfSome result (IsStatus false) }
-    ensures read_failed { result ≡ Some READ_FAILED → HaveRisen (S.faults source.old) (S.faults source.new) }
-    ensures write_failed { result ≡ Some WRITE_FAILED → HaveRisen (O.faults out.old) (O.faults out.new) }
+    ensures read_failed { result ≡ Some READ_FAILED →
+        HaveRisen (S.faults source.old) (S.faults source.new) }
+    ensures write_failed { result ≡ Some WRITE_FAILED →
+        HaveRisen (O.faults out.old) (O.faults out.new) }
 
     // A failed read leaves an unended line, and writes nothing.
     ensures waits { result ≡ Some READ_FAILED → Waits lines.new }

@@ -38,7 +38,8 @@ impl Table {
         }
     }
 
-    /// Carries out one command. Want of memory, which only a put of a new key can meet, changes nothing.
+    /// Carries out one command. Want of memory, which only a put of a new key can meet, changes
+    /// nothing.
     pub(crate) fn apply(&mut self, command: Command) -> Result<Reply, AllocError>
         ensures reply { IfOk result (λ reply. reply ≡ reply_to self.old command) }
         ensures next { OnOk result (self.new ≡ map_after self.old command) }

@@ -10,11 +10,13 @@ pub returns-then-is_some-clause-ends : goal.returns-then-is_some-clause-ends
 returns-then-is_some-clause-ends g c =
     let here = c.bytes-bytes.ensures.value in
     subst (λ bytes. EndsAt bytes c.loop-bytes.ended c.memchr-found.result) here
-    (ends_at c.bytes-bytes.result.now c.loop-bytes.ended c.memchr-found.result c.memchr-found.ensures
+    (ends_at c.bytes-bytes.result.now c.loop-bytes.ended c.memchr-found.result
+    c.memchr-found.ensures
     (elim c.then-is_some.branch [
       | then-is_some-via-then-is_some w ↦ inl (sym c.is_some.ensures ∙ w.if-is_some.true)
       | then-is_some-via-else-is_some+then-ended w ↦ inr (inl w.if-ended.true)
-      | then-is_some-via-else-is_some+else-ended+then-bytes-gt-LONGEST w ↦ inr (inr w.if-bytes-gt-LONGEST.true)
+      | then-is_some-via-else-is_some+else-ended+then-bytes-gt-LONGEST w ↦ inr
+          (inr w.if-bytes-gt-LONGEST.true)
     ]))
 
 -- what holds holds at a refusal
@@ -26,5 +28,7 @@ whatever_err (Err e) p = p
 pub returns-in_err-fill-clause-waiting : goal.returns-in_err-fill-clause-waiting
 returns-in_err-fill-clause-waiting g c =
     let found = subst (λ bytes. IsUnbroken bytes) c.bytes-bytes.ensures.value
-    (unbroken c.bytes-bytes.result.now c.memchr-found.result c.memchr-found.ensures (sym c.is_some.ensures ∙ c.if-is_some.false)) in
-    whatever_err c.from_residual.result (subst IsUnbroken (sym c.in_err-fill.ensures.kept) found, c.if-ended.false)
+    (unbroken c.bytes-bytes.result.now c.memchr-found.result c.memchr-found.ensures
+    (sym c.is_some.ensures ∙ c.if-is_some.false)) in
+    whatever_err c.from_residual.result
+    (subst IsUnbroken (sym c.in_err-fill.ensures.kept) found, c.if-ended.false)

@@ -9,10 +9,12 @@ abbrev pub invariant-loop-bytes : goal.invariant-loop-bytes
 invariant-loop-bytes g l =
     let left = g.S.Source.left in
     record {
-      kept : Keeps (unread_of l.fn.buffer l.fn.ended (left l.fn.source)) (unread_of l.buffer l.ended (left l.source));
+      kept : Keeps (unread_of l.fn.buffer l.fn.ended (left l.fn.source))
+          (unread_of l.buffer l.ended (left l.source));
       counted : g.S.Source.faults l.fn.source ≤ g.S.Source.faults l.source;
       end : TellsEndOf l.fn.ended (left l.fn.source) → TellsEndOf l.ended (left l.source);
-      again : l.fn.ended ≡ true → (l.source ≡ l.fn.source) × (l.buffer ≡ l.fn.buffer) × (l.ended ≡ true);
+      again : l.fn.ended ≡ true
+          → (l.source ≡ l.fn.source) × (l.buffer ≡ l.fn.buffer) × (l.ended ≡ true);
     }
 
 -- a line is decided within 82 bytes, and the end comes once

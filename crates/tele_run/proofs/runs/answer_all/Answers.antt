@@ -23,7 +23,8 @@ pub loop-status-preserved : goal.loop-status-preserved
 loop-status-preserved g c =
     let next = c.in_default.ensures in
     record {
-      due = on_and_on_if _ _ _ _ _ _ _ _ _ _ _ _ next.ended c.loop-status.invariant.due next.goes_on;
+      due = on_and_on_if _ _ _ _ _ _ _ _ _ _ _ _ next.ended c.loop-status.invariant.due
+          next.goes_on;
       end = λ told. next.end (c.loop-status.invariant.end told);
       limit = next.limit;
       allowed = next.allowed;
@@ -38,7 +39,9 @@ returns-in-Some-clause-stops g c is =
     let last = c.in-Some.ensures in
     let failed = ap Some is in
     let waits = last.waits failed in
-    stops_if _ _ _ _ _ _ _ _ c.step.new.lines _ c.loop-status.invariant.due (still_going _ _ last.ended waits.open_end) (last.kept failed) waits (ap g.O.Sink.written (last.silent failed))
+    stops_if _ _ _ _ _ _ _ _ c.step.new.lines _ c.loop-status.invariant.due
+    (still_going _ _ last.ended waits.open_end) (last.kept failed) waits
+    (ap g.O.Sink.written (last.silent failed))
 
 -- the text was cut short
 pub returns-in-Some-clause-part : goal.returns-in-Some-clause-part

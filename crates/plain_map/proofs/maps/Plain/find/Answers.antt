@@ -7,6 +7,7 @@ use Rattle.plain_map.proofs.maps.Plain.find.Goals as goal
 pub returns : goal.returns
 returns c =
     let facts = c.binary_search_by_key.ensures in
-    let by_key = facts.position (λ p. p.key) (answers_always _ _ _ (λ f a r g called. search rules)) in
+    let by_key =
+    facts.position (λ p. p.key) (answers_always _ _ _ (λ f a r g called. search rules)) in
     rw (← c.self.view_is, ← c.deref.ensures.value)
     (searched _ (rw c.deref.ensures.value c.self.invariant) c.args.key _ facts.bound by_key)

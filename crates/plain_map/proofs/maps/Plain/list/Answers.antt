@@ -14,13 +14,20 @@ returns-clause-between c =
     let pairs = c.self.inside.pairs.items in
     let n = c.partition_point-from.result in
     let parted = rw (← c.deref.ensures.value) at (below_first pairs c.self.invariant first) in
-    let from = IsPartitionPoint-from_clause (λ p. nat_lt p.key first) _ _ c.partition_point-from.ensures.partitioned
+    let from =
+    IsPartitionPoint-from_clause
+    (λ p. nat_lt p.key first) _ _ c.partition_point-from.ensures.partitioned
     parted (λ a r f called. search rules) in
-    let rest = rw (← take_rest pairs n, ← c.deref-2.ensures.value) at (up_to_first (drop n pairs) (rising_drop pairs c.self.invariant n) last) in
-    let count = IsPartitionPoint-from_clause (λ p. nat_le p.key last) _ _ c.partition_point-count.ensures.partitioned
+    let rest =
+    rw (← take_rest pairs n, ← c.deref-2.ensures.value) at
+    (up_to_first (drop n pairs) (rising_drop pairs c.self.invariant n) last) in
+    let count =
+    IsPartitionPoint-from_clause
+    (λ p. nat_le p.key last) _ _ c.partition_point-count.ensures.partitioned
     rest (λ a r f called. search rules) in
     rw (← c.self.view_is, c.deref-2.ensures.value, take_rest)
-    (slice_between pairs first last n _ (rw c.deref.ensures.value at from) (rw (c.deref-2.ensures.value, take_rest) at count))
+    (slice_between pairs first last n _ (rw c.deref.ensures.value at from)
+    (rw (c.deref-2.ensures.value, take_rest) at count))
 
 -- and the pairs are those of the map
 pub returns-clause-listed : goal.returns-clause-listed

@@ -11,13 +11,15 @@ invariant_of-self c = rising_set _ c.self.invariant _ _ (rw c.self.view_is c.in-
 
 pub returns-in-Ok-clause-reply : goal.returns-in-Ok-clause-reply
 returns-in-Ok-clause-reply c =
-    let value = get_at _ (subst IsRising c.self.view_is c.self.invariant) _ _ c.in-Ok.ensures.found in
+    let value =
+    get_at _ (subst IsRising c.self.view_is c.self.invariant) _ _ c.in-Ok.ensures.found in
     let read = get_or_default _ _ c.index.result.now no_pair c.in-Ok.ensures.found.within in
     grind (arith, c.self.view_is)
 
 pub returns-in-Ok-clause-after : goal.returns-in-Ok-clause-after
 returns-in-Ok-clause-after c =
-    rw c.self.view_is (map_of-set _ (subst IsRising c.self.view_is c.self.invariant) _ _ c.in-Ok.ensures.found _)
+    rw c.self.view_is
+    (map_of-set _ (subst IsRising c.self.view_is c.self.invariant) _ _ c.in-Ok.ensures.found _)
 
 -- the pair is added in the gap
 pub invariant_of-self-in-Err : goal.invariant_of-self-in-Err
@@ -29,4 +31,5 @@ returns-in_ok-insert-in-Err-clause-reply c = sym (get_in_gap _ _ _ c.in-Err.ensu
 
 pub returns-in_ok-insert-in-Err-clause-after : goal.returns-in_ok-insert-in-Err-clause-after
 returns-in_ok-insert-in-Err-clause-after c =
-    rw (c.in_ok-insert-in-Err.ensures.items, c.self.view_is) (map_of-insert _ _ _ c.in-Err.ensures.absent _)
+    rw (c.in_ok-insert-in-Err.ensures.items, c.self.view_is)
+    (map_of-insert _ _ _ c.in-Err.ensures.absent _)

@@ -12,7 +12,8 @@ invariant_of-self c = rw c.remove.ensures.items
 
 pub returns-in-Ok-clause-reply : goal.returns-in-Ok-clause-reply
 returns-in-Ok-clause-reply c =
-    let value = get_at _ (subst IsRising c.self.view_is c.self.invariant) _ _ c.in-Ok.ensures.found in
+    let value =
+    get_at _ (subst IsRising c.self.view_is c.self.invariant) _ _ c.in-Ok.ensures.found in
     let read = get_or_default _ _ c.remove.result no_pair c.in-Ok.ensures.found.within in
     grind (arith, c.self.view_is, c.remove.ensures.value)
 
