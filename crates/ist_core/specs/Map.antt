@@ -1,5 +1,6 @@
 -- The plain map: what one thread would answer. Every claim of the tree and of the program comes down to this page.
-use Rattle.std.specs.Prelude.{ℕ, List, [], ◌∷◌, map, Option}
+use Rattle.std.specs.Prelude.{ℕ, nat_le, ◌&&◌, List, [], ◌∷◌, map, Option}
+use Rattle.std.specs.List.{filter}
 use Rattle.std.specs.Ordering.{nat_cmp}
 use Rattle.std.specs.FinMap as fin
 use Rattle.ist_core.specs.declared.commands.Command.{Command}
@@ -47,3 +48,15 @@ replay m (command ∷ commands) = replay (step m command).0 commands
 abbrev pub replies : Map → List Command → List (Option ℕ)
 replies m [] = []
 replies m (command ∷ commands) = (step m command).1 ∷ replies (step m command).0 commands
+
+-- the pairs with a key from `first` to `last`, both included
+abbrev pub pairs_between : ℕ → ℕ → List Pair → List Pair
+pairs_between first last pairs = filter (λ p. nat_le first p.key && nat_le p.key last) pairs
+
+-- the pairs of a map, rising by key
+abbrev pub pairs_of : Map → List Pair
+pairs_of m = map (λ e. record { key = e.0; value = e.1 }) (fin.entries m)
+
+-- what a map has from `first` to `last`, both included, rising by key
+abbrev pub listed : ℕ → ℕ → Map → List Pair
+listed first last m = pairs_between first last (pairs_of m)

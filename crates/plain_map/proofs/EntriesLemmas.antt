@@ -7,9 +7,9 @@ use Rattle.std.specs.Ordering.{nat_cmp, is_lt}
 use Rattle.std.specs.declared.cmp.Ordering.TheVariants.{Less}
 use Rattle.std.specs.Cmp.{nat_cmp_is}
 use Rattle.std.proofs.lemmas.Cmp.{nat_cmp_total}
-use Rattle.ist_core.specs.Map.{map_of}
+use Rattle.ist_core.specs.Map.{map_of, pairs_of}
 use Rattle.ist_core.specs.declared.pairs.Pair.{Pair}
-use Rattle.plain_map.specs.Rising.{IsRising, pairs_of}
+use Rattle.plain_map.specs.Rising.{IsRising}
 use Rattle.plain_map.specs.Place.{key_at}
 use Rattle.plain_map.proofs.RisingLemmas.{key_at-rises}
 

@@ -6,7 +6,8 @@ use Rattle.std.proofs.lemmas.Bool.Decides.{nat_tests}
 use Rattle.std.proofs.lemmas.List.Elements.{filter_agree}
 use Rattle.std.proofs.lemmas.List.{get_or_default, get_or-drop, length-drop}
 use Rattle.ist_core.specs.declared.pairs.Pair.{Pair}
-use Rattle.plain_map.specs.Rising.{IsRising, pairs_between}
+use Rattle.ist_core.specs.Map.{pairs_between}
+use Rattle.plain_map.specs.Rising.{IsRising}
 use Rattle.plain_map.specs.Place.{key_at}
 use Rattle.plain_map.proofs.RisingLemmas.{key_at-rises, rises_by_steps}
 use Rattle.plain_map.proofs.ValueLemmas.{no_pair}

@@ -1,8 +1,8 @@
 //! The map of one thread: a vector of pairs in the order of their keys.
 ghost use Rattle.std.specs.Prelude.{◌≡◌, [], IfOk, IfErr, OnOk, OnErr};
 ghost use Rattle.std.specs.FinMap as fin;
-ghost use Rattle.ist_core.specs.Map.{map_of, step};
-ghost use Rattle.plain_map.specs.Rising.{IsRising, pairs_between, pairs_of, listed, IsPut};
+ghost use Rattle.ist_core.specs.Map.{map_of, step, pairs_between, pairs_of, listed};
+ghost use Rattle.plain_map.specs.Rising.{IsRising, IsPut};
 ghost use Rattle.plain_map.specs.Place.{IsAt, IsGapFor};
 
 use ist_core::{Command, Pair, Reply};
