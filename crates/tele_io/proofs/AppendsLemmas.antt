@@ -1,8 +1,8 @@
--- What two writings after one another append. Serves `write_whole`.
-use Rattle.std.proofs.Common.{◌≡◌, ℕ, ◌+◌, ◌-◌, List, length, take, drop, Option, Some, None, append_assoc}
-use Rattle.std.proofs.lemmas.List.{take_rest, length-drop}
-use Rattle.std.proofs.Math.Seq.{take-add}
-use Rattle.tele_io.specs.Bytes.{Appends}
+-- What is appended in parts. Serves `write_whole`, and whoever appends one text behind another.
+use Rattle.std.proofs.Common.{◌≡◌, ℕ, ◌+◌, ◌-◌, ◌≤◌, List, [], ◌++◌, length, take, drop, Option, Some, None, sym, ◌∙◌, ap, subst, append_assoc, arith}
+use Rattle.std.proofs.lemmas.List.{take_rest, length-drop, append-nil, length-append, take-append-le}
+use Rattle.std.proofs.Math.Seq.{take-add, take-append-add}
+use Rattle.tele_io.specs.Bytes.{Appends, AppendsPart}
 
 -- the first t bytes, and then n of those behind them, are the first t + n
 pub Appends-take-add : (before middle now : Option (List ℕ)) (bytes : List ℕ) (t n : ℕ)
@@ -21,3 +21,47 @@ pub length-take_rest : (bytes : List ℕ) (t : ℕ)
 length-take_rest bytes t = simp (take_rest, length-drop)
 
 pub ruleset appends = (Appends-take-add, length-take_rest)
+
+-- nothing was appended
+pub Appends-nothing : (before : Option (List ℕ)) → Appends before before []
+Appends-nothing (Some bytes) = ap Some (sym (append-nil bytes))
+Appends-nothing None = tt
+
+-- one piece, and then another
+pub Appends-append : (before middle now : Option (List ℕ)) (first second : List ℕ)
+    → Appends before middle first → Appends middle now second → Appends before now (first ++ second)
+Appends-append None middle now first second a b = tt
+Appends-append (Some bytes) middle now first second a b =
+    let second_is : now ≡ Some ((bytes ++ first) ++ second) =
+    subst (λ m. Appends m now second) a b in
+    second_is ∙ ap Some (append_assoc {A = ℕ} bytes first second)
+
+-- nothing is a part of anything
+pub AppendsPart-nothing : (before : Option (List ℕ)) (bytes : List ℕ)
+    → AppendsPart before before bytes
+AppendsPart-nothing before bytes = (0, omega arith, Appends-nothing before)
+
+-- one piece, and then a part of what follows it
+pub AppendsPart-append : (before middle now : Option (List ℕ)) (first second : List ℕ)
+    → Appends before middle first → AppendsPart middle now second
+    → AppendsPart before now (first ++ second)
+AppendsPart-append before middle now first second a part =
+    let n = part.0 in
+    let fits : length first + n ≤ length (first ++ second) =
+    omega (arith, length-append first second, part.1) in (
+      length first + n,
+      fits,
+      subst (Appends before now) (sym (take-append-add first second n))
+          (Appends-append before middle now first (take n second) a part.2),
+    )
+
+-- a part of the front is a part of the whole
+pub AppendsPart-longer : (before now : Option (List ℕ)) (first second : List ℕ)
+    → AppendsPart before now first → AppendsPart before now (first ++ second)
+AppendsPart-longer before now first second part =
+    let n = part.0 in (
+      n,
+      omega (arith, length-append first second, part.1),
+      subst (Appends before now)
+          (sym (take-append-le n first second part.1)) part.2,
+    )

@@ -1,6 +1,9 @@
 pub mod NumberLemmas
+pub mod WordLemmas
 pub mod FirstLemmas
 pub mod CutLemmas
 pub mod BufferLemmas
 pub mod ReaderLemmas
-pub mod ResultLemmas
+pub mod CutterLemmas
+pub mod PlaceLemmas
+pub mod PrintedLemmas

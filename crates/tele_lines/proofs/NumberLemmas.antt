@@ -6,7 +6,7 @@ use Rattle.std.specs.Char.{is_ascii_digit}
 use Rattle.std.proofs.Common.{inl, inr}
 use Rattle.std.proofs.lemmas.Bool.{cases_lt, lt-ltb}
 use Rattle.std.proofs.lemmas.Grind.{common_steps}
-use Rattle.tele_lines.specs.Lines.{number_of}
+use Rattle.tele_lines.specs.Numerals.{number_of}
 
 -- the value behind one more digit
 abbrev pub with_digit : ℕ → ℕ → ℕ

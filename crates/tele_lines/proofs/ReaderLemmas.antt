@@ -1,24 +1,26 @@
 -- What the first line of the unread bytes is. Serves the reader.
 use Rattle.std.proofs.Common.{◌≡◌, ℕ, ◌+◌, ◌<◌, Bool, true, false, List, [], ◌∷◌, ◌++◌, length, take, drop, refl, sym, ◌∙◌, ap, subst, arith, inl, inr, length-append, append_assoc}
-use Rattle.std.specs.Prelude.{Option, Some, None, IfSome, if◌then◌else◌, is_some, ◌⊎◌, Ok, Err, option_map}
-use Rattle.std.proofs.lemmas.List.{take_all, append-nil, nil_from_length, take-append-drop}
+use Rattle.std.specs.Prelude.{Option, Some, None, IfSome, if◌then◌else◌, is_some, ◌⊎◌, ◌-◌, ◌≤◌, nat_eq, nat_le, codes, option_map}
+use Rattle.std.specs.List.{ends_with}
+use Rattle.std.proofs.lemmas.List.{take_all, append-nil, nil_from_length, take-append-drop, length-take}
 use Rattle.std.proofs.Math.ListN.{drop_of_length-le}
 use Rattle.std.proofs.lemmas.Grind.{common_steps}
 use Rattle.memchr.specs.Find.{IsFirstByte}
-use Rattle.tele_lines.specs.declared.items.Item.{Item}
-use Rattle.tele_lines.specs.declared.items.Cause.{Cause}
-use Rattle.tele_lines.specs.declared.items.Cause.TheVariants.{Letter}
-use Rattle.tele_lines.specs.Lines.{longest, lines_of, reading}
+use Rattle.tele_lines.specs.declared.items.Said.{Said}
+use Rattle.tele_lines.specs.declared.items.Said.TheVariants.{Fails}
+use Rattle.tele_lines.specs.declared.items.Cause.TheVariants.{Long, Lines}
+use Rattle.tele_lines.specs.Lines.{longest, lines_of, without_return, words_of}
+use Rattle.tele_lines.specs.Readings.{by_words, reading}
 use Rattle.tele_io.specs.Bytes.{Keeps}
 use Rattle.tele_lines.specs.Buffers.{is_newline, IsUnbroken, BreaksAt, IsOpenEnded, EndsAt, Fills, unread_of}
-use Rattle.tele_lines.specs.Progress.{TakesLine, MeetsBad}
+use Rattle.tele_lines.specs.Progress.{Place, Continues, TakesLine, MeetsLine}
 use Rattle.tele_lines.proofs.FirstLemmas.{first_place}
 use Rattle.tele_lines.proofs.CutLemmas.{cut_first, cut_last, cut_long, whole_first}
 
 -- a search for a newline tells where the first line ends, once that shows
 pub ends_at : (buffer : List ℕ) (ended : Bool) (found : Option ℕ)
     → IsFirstByte is_newline buffer found
-    → (is_some found ≡ true) ⊎ ((ended ≡ true) ⊎ (longest < length buffer))
+    → (is_some found ≡ true) ⊎ ((ended ≡ true) ⊎ (longest + 1 < length buffer))
     → EndsAt buffer ended found
 ends_at buffer ended (Some place) h why =
     record { first = first_place is_newline buffer (Some place) h; within = h.0.high }
@@ -57,113 +59,127 @@ unread-ends (Some bytes) old new n (Some given) now none h f =
 unread-ends (Some bytes) old new n None now none h f = absurd (cc)
 
 -- a line that ends at a newline
-pub takes_line : (limit number : ℕ) (item : Item) (buffer : List ℕ) (ended : Bool)
-    (left : Option (List ℕ)) (place : ℕ) → BreaksAt buffer place
-    → reading limit number (take place buffer) ≡ Ok item
+pub takes_line : (place : Place) (said : Said) (buffer : List ℕ) (ended : Bool)
+    (left : Option (List ℕ)) (k : ℕ) → BreaksAt buffer k
+    → reading place.limit (place.count + 1) place.mode (take k buffer) ≡ said
     → IfSome (option_map (λ bytes. buffer ++ bytes) left)
-    (λ bytes. TakesLine limit number item bytes ended
-    (option_map (λ bytes. drop (place + 1) buffer ++ bytes) left))
-takes_line limit number item buffer ended None place b says = tt
-takes_line limit number item buffer ended (Some others) place b says = record {
-  line = take place buffer;
-  taken = take (place + 1) buffer;
-  rest = drop (place + 1) buffer ++ others;
-  same = ap (λ bytes. bytes ++ others) (sym (take-append-drop (place + 1) buffer))
-      ∙ append_assoc {A = ℕ} (take (place + 1) buffer) (drop (place + 1) buffer) others;
-  whole = λ _ more. whole_first buffer more place b.first b.within;
-  cut = cut_first buffer others place b.first b.within;
-  says = says;
+    (λ bytes. TakesLine place said bytes ended (option_map (λ bytes. drop (k + 1) buffer ++ bytes) left))
+takes_line place said buffer ended None k b says = tt
+takes_line place said buffer ended (Some others) k b says = record {
+  line = take k buffer;
+  taken = take (k + 1) buffer;
+  rest = drop (k + 1) buffer ++ others;
   left = refl;
+  same = ap (λ bytes. bytes ++ others) (sym (take-append-drop (k + 1) buffer))
+      ∙ append_assoc {A = ℕ} (take (k + 1) buffer) (drop (k + 1) buffer) others;
+  cut = cut_first buffer others k b.first b.within;
+  says = says;
+  whole = λ _ more. whole_first buffer more k b.first b.within;
 }
 
--- a bad line that ends at a newline
-pub meets_bad : (limit number : ℕ) (cause : Cause) (buffer : List ℕ) (left : Option (List ℕ))
-    (place : ℕ) → BreaksAt buffer place
-    → reading limit number (take place buffer) ≡ Err cause
-    → IfSome (option_map (λ bytes. buffer ++ bytes) left)
-    (λ bytes. MeetsBad limit number cause bytes)
-meets_bad limit number cause buffer None place b says = tt
-meets_bad limit number cause buffer (Some others) place b says = record {
-  line = take place buffer;
-  others = lines_of (drop (place + 1) buffer ++ others);
-  cut = cut_first buffer others place b.first b.within;
+-- it is the first of the unread lines
+pub meets_line : (place : Place) (said : Said) (buffer : List ℕ) (left : Option (List ℕ)) (k : ℕ)
+    → BreaksAt buffer k
+    → reading place.limit (place.count + 1) place.mode (take k buffer) ≡ said
+    → IfSome (option_map (λ bytes. buffer ++ bytes) left) (λ bytes. MeetsLine place said bytes)
+meets_line place said buffer None k b says = tt
+meets_line place said buffer (Some others) k b says = record {
+  line = take k buffer;
+  others = lines_of (drop (k + 1) buffer ++ others);
+  cut = cut_first buffer others k b.first b.within;
   says = says;
 }
 
--- a line that is too long is bad
-pub too_long : (limit number : ℕ) (line : List ℕ) → longest < length line
-    → reading limit number line ≡ Err Letter
-too_long limit number line h = grind (arith, common_steps)
+-- without its last byte a line is shorter by one
+length-without_return : (line : List ℕ) → length line ≤ length (without_return line) + 1
+length-without_return line =
+    elim (ends_with nat_eq line (codes "\r")) as (λ b. length line ≤ length (if b then take (length line - 1) line else line) + 1) [
+      | true ↦ omega (arith, length-take (length line - 1) line)
+      | false ↦ omega arith
+    ]
 
--- so are bytes that begin with too many that are no newline
-bad_of_long : (limit number : ℕ) (cause : Cause) (buffer : List ℕ) (left : Option (List ℕ))
-    → IsUnbroken buffer → 0 < length buffer → longest < length buffer
-    → reading limit number buffer ≡ Err cause
-    → IfSome (option_map (λ bytes. buffer ++ bytes) left)
-    (λ bytes. MeetsBad limit number cause bytes)
-bad_of_long limit number cause buffer None is some long bad = tt
-bad_of_long limit number cause buffer (Some others) is some long bad =
-    let first = cut_long buffer others is some in
-    let longer : longest < length (buffer ++ first.0) =
-    omega (arith, length-append buffer first.0) in
+said_long : (place : Place) (line : List ℕ) → longest + 1 < length line
+    → reading place.limit (place.count + 1) place.mode line ≡
+    (if nat_le (place.count + 1) place.limit then Fails Long else Fails Lines)
+said_long place line h =
+    let long : longest < length (without_return line) = omega (arith, length-without_return line) in
+    let too : nat_le (length (without_return line)) longest ≡ false = grind (arith, common_steps) in
+    ap (λ b. if nat_le (place.count + 1) place.limit
+    then (if b then by_words place.mode (words_of (without_return line)) else Fails Long) else Fails Lines) too
+
+-- two lines that are too long say the same
+pub too_long : (place : Place) (one two : List ℕ) → longest + 1 < length one
+    → longest + 1 < length two
+    → reading place.limit (place.count + 1) place.mode one ≡ reading place.limit
+    (place.count + 1) place.mode two
+too_long place one two h k = said_long place one h ∙ sym (said_long place two k)
+
+-- the last line, which no newline ends
+pub takes_last : (place : Place) (said : Said) (buffer : List ℕ) (ended : Bool) (left : Option (List ℕ))
+    → ended ≡ true → IsUnbroken buffer → 0 < length buffer
+    → reading place.limit (place.count + 1) place.mode (take (length buffer) buffer) ≡ said
+    → IfSome (unread_of buffer ended left)
+    (λ bytes. TakesLine place said bytes ended (unread_of (drop (length buffer) buffer) ended left))
+takes_last place said buffer ended left at_end unbroken_all some says =
+    let whole : take (length buffer) buffer ≡ buffer = take_all (length buffer) buffer (omega arith) in
+    let P : Bool → Type 0 = λ e. IfSome (unread_of buffer e left)
+    (λ bytes. TakesLine place said bytes e (unread_of (drop (length buffer) buffer) e left)) in
+    subst P (sym at_end) (record {
+      line = buffer;
+      taken = buffer;
+      rest = drop (length buffer) buffer ++ [];
+      left = refl;
+      same = ap (λ xs. buffer ++ (xs ++ [])) (sym (drop_of_length-le buffer (omega arith)));
+      cut = ap lines_of (append-nil buffer) ∙ cut_last buffer unbroken_all some
+          ∙ ap (λ xs. buffer ∷ lines_of (xs ++ [])) (sym (drop_of_length-le buffer (omega arith)));
+      says = ap (reading place.limit (place.count + 1) place.mode) (sym whole) ∙ says;
+      whole = λ never. absurd (cc);
+    })
+
+meets_long : (place : Place) (said : Said) (buffer : List ℕ) (left : Option (List ℕ))
+    → IsUnbroken buffer → 0 < length buffer
+    → longest + 1 < length buffer → reading place.limit (place.count + 1) place.mode buffer ≡ said
+    → IfSome (option_map (λ bytes. buffer ++ bytes) left) (λ bytes. MeetsLine place said bytes)
+meets_long place said buffer None unbroken_all some long says = tt
+meets_long place said buffer (Some others) unbroken_all some long says =
+    let first = cut_long buffer others unbroken_all some in
+    let longer : longest + 1 < length (buffer ++ first.0) = omega (arith, length-append buffer first.0) in
     record {
       line = buffer ++ first.0;
       others = first.1;
       cut = first.2;
-      says = too_long limit number (buffer ++ first.0) longer
-          ∙ sym (too_long limit number buffer long) ∙ bad;
+      says = too_long place (buffer ++ first.0) buffer longer long ∙ says;
     }
 
--- the last line, which no newline ends
-pub takes_last : (limit number : ℕ) (item : Item) (buffer : List ℕ) (ended : Bool)
-    (left : Option (List ℕ)) → IsOpenEnded buffer ended → 0 < length buffer
-    → reading limit number (take (length buffer) buffer) ≡ Ok item
-    → IfSome (unread_of buffer ended left)
-    (λ bytes. TakesLine limit number item bytes ended
-    (unread_of (drop (length buffer) buffer) ended left))
-takes_last limit number item buffer ended left unended some says =
-    let whole : take (length buffer) buffer ≡ buffer =
-    take_all (length buffer) buffer (omega arith) in
+-- the first of the unread lines begins with bytes without a newline that are too many, or are all
+pub meets_last : (place : Place) (said : Said) (buffer : List ℕ) (ended : Bool) (left : Option (List ℕ))
+    → IsOpenEnded buffer ended → 0 < length buffer
+    → reading place.limit (place.count + 1) place.mode (take (length buffer) buffer) ≡ said
+    → IfSome (unread_of buffer ended left) (λ bytes. MeetsLine place said bytes)
+meets_last place said buffer ended left unended some says =
+    let whole : take (length buffer) buffer ≡ buffer = take_all (length buffer) buffer (omega arith) in
+    let here = ap (reading place.limit (place.count + 1) place.mode) (sym whole) ∙ says in
     elim unended.why [
-      | inl at_end ↦ subst
-          (λ e. IfSome (unread_of buffer e left)
-          (λ bytes. TakesLine limit number item bytes e
-          (unread_of (drop (length buffer) buffer) e left))) (sym at_end) (record {
-            line = buffer;
-            taken = buffer;
-            rest = drop (length buffer) buffer ++ [];
-            same = ap (λ xs. buffer ++ (xs ++ [])) (sym (drop_of_length-le buffer (omega arith)));
-            whole = λ never. absurd (cc);
-            cut = ap lines_of (append-nil buffer) ∙ cut_last buffer unended.unbroken some
-                ∙ ap (λ xs. buffer ∷ lines_of (xs ++ []))
-                (sym (drop_of_length-le buffer (omega arith)));
-            says = ap (reading limit number) (sym whole) ∙ says;
-            left = refl;
-          })
-      | inr long ↦
-          let bad : reading limit number (take (length buffer) buffer) ≡ Err Letter =
-          ap (reading limit number) whole ∙ too_long limit number buffer long in absurd (cc)
+      | inl at_end ↦ subst (λ e. IfSome (unread_of buffer e left) (λ bytes. MeetsLine place said bytes)) (sym at_end) (record {
+        line = buffer;
+        others = [];
+        cut = ap lines_of (append-nil buffer) ∙ cut_last buffer unended.unbroken some;
+        says = here;
+      })
+      | inr long ↦ meets_long place said buffer (if ended then Some [] else left) unended.unbroken some long here
     ]
 
--- bytes without a newline that are too long, or the last, are a bad line
-pub meets_bad_last : (limit number : ℕ) (cause : Cause) (buffer : List ℕ) (ended : Bool)
-    (left : Option (List ℕ)) → IsOpenEnded buffer ended → 0 < length buffer
-    → reading limit number (take (length buffer) buffer) ≡ Err cause
-    → IfSome (unread_of buffer ended left) (λ bytes. MeetsBad limit number cause bytes)
-meets_bad_last limit number cause buffer ended left unended some says =
-    let whole : take (length buffer) buffer ≡ buffer =
-    take_all (length buffer) buffer (omega arith) in
-    let bad : reading limit number buffer ≡ Err cause = ap (reading limit number) (sym whole)
-    ∙ says in
-    elim unended.why [
-      | inl at_end ↦ subst
-          (λ e. IfSome (unread_of buffer e left) (λ bytes. MeetsBad limit number cause bytes))
-          (sym at_end) (record {
-            line = buffer;
-            others = [];
-            cut = ap lines_of (append-nil buffer) ∙ cut_last buffer unended.unbroken some;
-            says = bad;
-          })
-      | inr long ↦ bad_of_long limit number cause buffer
-          (if ended then Some [] else left) unended.unbroken some long bad
-    ]
+-- one of the two ways in which a line that is too long is bad
+fails_either : (b : Bool) (said : Said) → (if b then Fails Long else Fails Lines) ≡ said
+    → Continues said → ⊥
+fails_either true said is goes_on = subst Continues (sym is) goes_on
+fails_either false said is goes_on = subst Continues (sym is) goes_on
+
+-- behind a line that is too long the reading doesn't go on
+pub long_fails : (place : Place) (buffer : List ℕ) (said : Said) → longest + 1 < length buffer
+    → reading place.limit (place.count + 1) place.mode (take (length buffer) buffer) ≡ said
+    → Continues said → ⊥
+long_fails place buffer said long says goes_on =
+    let whole : take (length buffer) buffer ≡ buffer = take_all (length buffer) buffer (omega arith) in
+    fails_either (nat_le (place.count + 1) place.limit) said
+    (sym (said_long place buffer long) ∙ ap (reading place.limit (place.count + 1) place.mode) (sym whole) ∙ says) goes_on

@@ -1,39 +1,66 @@
 -- The answer to an input: what one thread with a plain map writes for its lines, and the status that it ends with.
-use Rattle.std.specs.Prelude.{ℕ, ◌+◌, List, [], ◌∷◌, ◌++◌, codes, decimal, Option, Some, None, Result, Ok, Err}
-use Rattle.ist_core.specs.Map.{Map, no_pairs, map_after, reply_to}
+use Rattle.std.specs.Prelude.{ℕ, ◌+◌, List, [], ◌∷◌, ◌++◌, length, codes, decimal, Option, Some, None}
+use Rattle.std.specs.List.{flat_map}
+use Rattle.ist_core.specs.declared.pairs.Pair.{Pair}
+use Rattle.ist_core.specs.Map.{Map, no_pairs, map_after, reply_to, listed}
 use Rattle.tele_lines.specs.declared.items.Item.{Item}
-use Rattle.tele_lines.specs.declared.items.Item.TheVariants.{Point}
+use Rattle.tele_lines.specs.declared.items.Item.TheVariants.{Point, Interval}
 use Rattle.tele_lines.specs.declared.items.Cause.{Cause}
-use Rattle.tele_lines.specs.declared.items.Cause.TheVariants.{Letter}
-use Rattle.tele_lines.specs.Lines.{line_limit, lines_of, whole_lines, reading}
+use Rattle.tele_lines.specs.declared.items.Cause.TheVariants.{Long, Letter, Fields, Number, Lines}
+use Rattle.tele_lines.specs.declared.items.Version.{Version}
+use Rattle.tele_lines.specs.Lines.{line_limit, lines_of, whole_lines}
+use Rattle.tele_lines.specs.Numerals.{number_text}
+use Rattle.tele_lines.specs.declared.items.Said.{Said}
+use Rattle.tele_lines.specs.declared.items.Said.TheVariants.{Skips, Chooses, Asks, Fails}
+use Rattle.tele_lines.specs.Readings.{Mode, version_in, next_mode, reading}
 
--- a line that was read, with its number: what it asks for, or why it is bad
+-- a line that was read and says something, with its number: what it asks for, and of which version it is, or why it is bad
 pub data Read : Type 0 where
-  Good : ℕ → Item → Read
+  Good : ℕ → Version → Item → Read
   Bad : ℕ → Cause → Read
 
 -- a line, and then those behind it; behind a bad line nothing is read
-abbrev pub then_read : ℕ → Result Item Cause → List Read → List Read
-then_read number (Ok item) others = Good number item ∷ others
-then_read number (Err cause) others = Bad number cause ∷ []
+abbrev pub then_read : ℕ → Mode → Said → List Read → List Read
+then_read number mode Skips others = others
+then_read number mode (Chooses version) others = others
+then_read number mode (Asks item) others = Good number (version_in mode) item ∷ others
+then_read number mode (Fails cause) others = Bad number cause ∷ []
 
--- the lines up to the first bad one, as they are read, where the first has this number
-abbrev pub read_from : ℕ → ℕ → List (List ℕ) → List Read
-read_from limit number [] = []
-read_from limit number (line ∷ lines) = then_read number (reading limit number line) (read_from limit (number + 1) lines)
+-- the lines up to the first bad one, as they are read, where the first has this number and is read in this mode
+abbrev pub read_from : ℕ → ℕ → Mode → List (List ℕ) → List Read
+read_from limit number mode [] = []
+read_from limit number mode (line ∷ lines) =
+    let said = reading limit number mode line in
+    then_read number mode said (read_from limit (number + 1) (next_mode mode said) lines)
 
--- the text of a reply: its value in decimal, or a dash
-abbrev pub reply_text : Option ℕ → List ℕ
-reply_text (Some value) = decimal value
-reply_text None = codes "-"
+-- the text of a reply: its value, or a dash
+abbrev pub reply_text : Version → Option ℕ → List ℕ
+reply_text version (Some value) = number_text version value
+reply_text version None = codes "-"
 
 -- the line that is printed for a point line
-abbrev pub answer_text : ℕ → Option ℕ → List ℕ
-answer_text number reply = decimal number ++ codes " " ++ reply_text reply ++ codes "\n"
+abbrev pub answer_text : Version → ℕ → Option ℕ → List ℕ
+answer_text version number reply = decimal number ++ codes " " ++ reply_text version reply ++ codes "\n"
+
+-- the line that is printed for a pair
+abbrev pub pair_text : Version → Pair → List ℕ
+pair_text version pair = number_text version pair.key ++ codes " " ++ number_text version pair.value ++ codes "\n"
+
+-- the first line that is printed for an interval line: how many pairs follow
+abbrev pub count_text : ℕ → ℕ → List ℕ
+count_text number count = decimal number ++ codes " " ++ decimal count ++ codes "\n"
+
+-- the lines that are printed for an interval line
+abbrev pub interval_text : Version → ℕ → List Pair → List ℕ
+interval_text version number pairs = count_text number (length pairs) ++ flat_map (pair_text version) pairs
 
 -- the word for a cause
 abbrev pub cause_text : Cause → List ℕ
+cause_text Long = codes "long"
 cause_text Letter = codes "letter"
+cause_text Fields = codes "fields"
+cause_text Number = codes "number"
+cause_text Lines = codes "lines"
 
 -- the line that is printed for a bad line
 abbrev pub bad_text : ℕ → Cause → List ℕ
@@ -42,13 +69,16 @@ bad_text number cause = codes "! " ++ decimal number ++ codes " " ++ cause_text 
 -- the texts of some lines, each by the map behind all commands of the lines before it
 abbrev pub text_of : Map → List Read → List ℕ
 text_of m [] = []
-text_of m (Good number (Point command) ∷ lines) = answer_text number (reply_to m command) ++ text_of (map_after m command) lines
+text_of m (Good number version (Point command) ∷ lines) =
+    answer_text version number (reply_to m command) ++ text_of (map_after m command) lines
+text_of m (Good number version (Interval first last) ∷ lines) =
+    interval_text version number (listed first last m) ++ text_of m lines
 text_of m (Bad number cause ∷ lines) = bad_text number cause
 
 -- the exit status after some lines: 3 behind a bad line, and otherwise 0
 abbrev pub status_of : List Read → ℕ
 status_of [] = 0
-status_of (Good number item ∷ lines) = status_of lines
+status_of (Good number version item ∷ lines) = status_of lines
 status_of (Bad number cause ∷ lines) = 3
 
 -- what is written for an input, and the status
@@ -56,17 +86,17 @@ pub record Answer : Type 0 where
   pub text : List ℕ
   pub status : ℕ
 
+-- the answer to some lines
+abbrev pub answer_to : List Read → Answer
+answer_to lines = record { text = text_of no_pairs lines; status = status_of lines }
+
 -- the answer to some bytes
 abbrev pub answer : List ℕ → Answer
-answer bytes =
-    let lines = read_from line_limit 1 (lines_of bytes) in
-    record { text = text_of no_pairs lines; status = status_of lines }
+answer bytes = answer_to (read_from line_limit 1 None (lines_of bytes))
 
 -- the answer to those lines of some bytes that a newline ends
 abbrev pub whole_answer : List ℕ → Answer
-whole_answer bytes =
-    let lines = read_from line_limit 1 (whole_lines bytes) in
-    record { text = text_of no_pairs lines; status = status_of lines }
+whole_answer bytes = answer_to (read_from line_limit 1 None (whole_lines bytes))
 
 -- the line that is printed where the words of the command line are refused
 abbrev pub usage_text : List ℕ

@@ -31,7 +31,7 @@ pub record BreaksAt (bytes : List ℕ) (place : ℕ) : Type 0 where
 -- no newline will show where the first line ends: the input has, or the line is too long
 pub record IsOpenEnded (bytes : List ℕ) (ended : Bool) : Type 0 where
   pub unbroken : IsUnbroken bytes
-  pub why : (ended ≡ true) ⊎ (longest < length bytes)
+  pub why : (ended ≡ true) ⊎ (longest + 1 < length bytes)
 
 -- where the first line ends: at a newline, or with the bytes
 abbrev pub EndsAt : List ℕ → Bool → Option ℕ → Type 0

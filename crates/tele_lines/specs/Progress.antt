@@ -1,18 +1,54 @@
 -- How far a reader of lines has come, and what its next call answers.
-use Rattle.std.specs.Prelude.{◌≡◌, ℕ, List, [], ◌∷◌, ◌++◌, Bool, true, false, Option, Some, None, Ok, Err}
-use Rattle.tele_lines.specs.declared.items.Item.{Item}
+use Rattle.std.specs.Prelude.{◌≡◌, ℕ, ◌+◌, List, [], ◌∷◌, ◌++◌, Bool, true, false, Option, Some, None}
 use Rattle.tele_lines.specs.declared.items.Cause.{Cause}
+use Rattle.tele_lines.specs.declared.items.Version.{Version}
+use Rattle.tele_lines.specs.declared.items.Said.{Said}
+use Rattle.tele_lines.specs.declared.items.Said.TheVariants.{Asks, Fails}
 use Rattle.tele_lines.specs.declared.reader.Lines.{Lines}
 use Rattle.tele_lines.specs.Buffers.{unread_of, TellsEndOf}
-use Rattle.tele_lines.specs.Lines.{lines_of, whole_lines, reading}
+use Rattle.tele_lines.specs.Lines.{lines_of, whole_lines}
+use Rattle.tele_lines.specs.Readings.{Mode, version_in, next_mode, reading}
+use Rattle.tele_lines.specs.Answer.{Read, Good, read_from}
 
--- how many lines the reader allows
+-- how far the reading has come: how many lines are allowed, how many were read, and by which version the next is read
+pub record Place : Type 0 where
+  pub limit : ℕ
+  pub count : ℕ
+  pub mode : Mode
+
+-- the place of a reader
+abbrev pub place_of : Lines → Place
+place_of lines = record { limit = lines.limit; count = lines.count; mode = lines.mode }
+
+-- how these lines are read from a place on
+abbrev pub read_at : Place → List (List ℕ) → List Read
+read_at place lines = read_from place.limit (place.count + 1) place.mode lines
+
+-- a line behind which the reading goes on
+abbrev pub Continues : Said → Type 0
+Continues (Fails cause) = ⊥
+Continues _ = Unit {0}
+
+-- the place behind a line that says this
+abbrev pub behind : Place → Said → Place
+behind place said = record { limit = place.limit; count = place.count + 1; mode = next_mode place.mode said }
+
+-- what a line gives to whoever reads on: an item with its number and its version, or nothing
+abbrev pub given : Place → Said → List Read
+given place (Asks item) = Good (place.count + 1) (version_in place.mode) item ∷ []
+given place _ = []
+
+-- how many lines a reader allows
 abbrev pub limit_of : Lines → ℕ
 limit_of lines = lines.limit
 
--- how many good lines it has read
+-- how many lines it has read
 abbrev pub count_of : Lines → ℕ
 count_of lines = lines.count
+
+-- of which version the lines are
+abbrev pub version_of : Lines → Version
+version_of lines = version_in lines.mode
 
 -- why the line behind them is bad, once it was found to be
 abbrev pub stop_of : Lines → Option Cause
@@ -30,6 +66,33 @@ kept_of lines = lines.buffer
 abbrev pub unread : Lines → Option (List ℕ) → Option (List ℕ)
 unread lines left = unread_of lines.buffer lines.ended left
 
+-- from one place to a later one: these lines were given for the bytes that were taken, and the others are left to be read; unless the input has ended, a newline ends the last of them
+pub record GoesTo (old new : Place) (ended : Bool) (given : List Read) (bytes : List ℕ) (now : Option (List ℕ)) : Type 0 where
+  pub taken : List ℕ
+  pub rest : List ℕ
+  pub left : now ≡ Some rest
+  pub same : bytes ≡ taken ++ rest
+  pub reads : read_at old (lines_of bytes) ≡ given ++ read_at new (lines_of rest)
+  pub whole : ended ≡ false → (more : List ℕ) → read_at old (whole_lines (taken ++ more)) ≡ given ++ read_at new (whole_lines more)
+
+-- the first line of these bytes says this, and the lines behind it are those of what is left then; unless the input has ended, a newline ends the line
+pub record TakesLine (place : Place) (said : Said) (bytes : List ℕ) (ended : Bool) (now : Option (List ℕ)) : Type 0 where
+  pub line : List ℕ
+  pub taken : List ℕ
+  pub rest : List ℕ
+  pub left : now ≡ Some rest
+  pub same : bytes ≡ taken ++ rest
+  pub cut : lines_of bytes ≡ line ∷ lines_of rest
+  pub says : reading place.limit (place.count + 1) place.mode line ≡ said
+  pub whole : ended ≡ false → (more : List ℕ) → whole_lines (taken ++ more) ≡ line ∷ whole_lines more
+
+-- the first line of these bytes says this
+pub record MeetsLine (place : Place) (said : Said) (bytes : List ℕ) : Type 0 where
+  pub line : List ℕ
+  pub others : List (List ℕ)
+  pub cut : lines_of bytes ≡ line ∷ others
+  pub says : reading place.limit (place.count + 1) place.mode line ≡ said
+
 -- the source tells its bytes, and has none left once the reader has seen its end
 abbrev pub TellsEnd : Lines → Option (List ℕ) → Type 0
 TellsEnd lines left = TellsEndOf lines.ended left
@@ -45,21 +108,3 @@ pub record IsDone (lines : Lines) : Type 0 where
   pub ended : lines.ended ≡ true
   pub empty : lines.buffer ≡ []
   pub going : lines.stop ≡ None
-
--- the first line of these bytes asks for this, and the lines behind it are those of what is left then; unless the input has ended, a newline ends the line
-pub record TakesLine (limit number : ℕ) (item : Item) (bytes : List ℕ) (ended : Bool) (now : Option (List ℕ)) : Type 0 where
-  pub line : List ℕ
-  pub taken : List ℕ
-  pub rest : List ℕ
-  pub left : now ≡ Some rest
-  pub same : bytes ≡ taken ++ rest
-  pub cut : lines_of bytes ≡ line ∷ lines_of rest
-  pub says : reading limit number line ≡ Ok item
-  pub whole : ended ≡ false → (more : List ℕ) → whole_lines (taken ++ more) ≡ line ∷ whole_lines more
-
--- the first line of these bytes is bad for this cause
-pub record MeetsBad (limit number : ℕ) (cause : Cause) (bytes : List ℕ) : Type 0 where
-  pub line : List ℕ
-  pub others : List (List ℕ)
-  pub cut : lines_of bytes ≡ line ∷ others
-  pub says : reading limit number line ≡ Err cause

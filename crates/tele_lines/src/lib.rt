@@ -1,18 +1,21 @@
 //! Telemetry lines: reading them from a source of bytes, and printing the replies to a sink.
 //!
-//! Read `specs/Lines.antt` and `specs/Answer.antt`, then `reader.rt` and `printing.rt`. Stands on
-//! `ist_core` and `tele_io`.
+//! Read `specs/Lines.antt`, `specs/Readings.antt` and `specs/Answer.antt`, then `reader.rt` and
+//! `printing.rt`. Stands on `ist_core` and `tele_io`.
 #![tactic(auto)]
 
 mod buffers;
 mod items;
-mod parsing;
+mod numerals;
 mod printing;
 mod reader;
+mod readings;
 mod texts;
+mod words;
 
-pub use items::{Cause, Item, Line, LineFault};
-pub use printing::{print_answer, print_bad};
+pub use items::{Cause, Item, Line, LineFault, Version};
+pub use numerals::{shifted, signed};
+pub use printing::{print_answer, print_bad, print_interval};
 pub use reader::Lines;
 
 #[cfg(test)]

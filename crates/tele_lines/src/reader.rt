@@ -4,16 +4,20 @@ ghost use Rattle.tele_io.specs.Bytes.{HaveRisen, Keeps};
 ghost use Rattle.tele_lines.specs.Buffers.{EndsAt, IsUnbroken, TellsEndOf, unread_of};
 
 use crate::buffers::Buffer;
-use crate::items::{Cause, Line, LineFault};
-use crate::parsing::{LONGEST, read_line};
+use crate::items::{Cause, Line, LineFault, Said, Version};
+use crate::readings::{LONGEST, mode_behind, read_line};
 use memchr::memchr;
 use tele_io::{Failed, Source};
+
+/// The most bytes, without a newline, that may still be a good line: one may be a carriage return.
+const UNDECIDED: usize = LONGEST + 1;
 
 /// Reads lines from a source. It takes no memory: a line is decided within 82 bytes.
 #[derive(Drop)]
 pub struct Lines {
     limit: u64,
     count: u64,
+    mode: Option<Version>,
     buffer: Buffer,
     ended: bool,
     stop: Option<Cause>,
@@ -22,10 +26,12 @@ pub struct Lines {
 }
 
 impl Lines {
-    ghost use Rattle.std.specs.Prelude.{◌≡◌, ◌≢◌, ◌+◌, ◌<◌, ◌≤◌, ◌^◌, [], Some, None, IfOk, IfSome, IfNone, IsSome, OnOk, OnErr, Ok, Err, true, false, length, take, drop};
+    ghost use Rattle.std.specs.Prelude.{◌≡◌, ◌+◌, ◌<◌, ◌≤◌, ◌^◌, [], ◌∷◌, Some, None, IfOk, IfSome, IfNone, IsOk, OnOk, OnErr, Ok, Err, true, false, length, take, drop};
     ghost use Rattle.tele_io.specs.Bytes.{HaveRisen, Keeps};
-    ghost use Rattle.tele_lines.specs.Lines.{reading};
-    ghost use Rattle.tele_lines.specs.Progress.{limit_of, count_of, stop_of, has_ended, kept_of, unread, TellsEnd, Waits, IsDone, TakesLine, MeetsBad};
+    ghost use Rattle.tele_lines.specs.Readings.{reading};
+    ghost use Rattle.tele_lines.specs.Lines.{lines_of};
+    ghost use Rattle.tele_lines.specs.Answer.{Bad, Good};
+    ghost use Rattle.tele_lines.specs.Progress.{Continues, GoesTo, given, read_at, version_of, behind, place_of, limit_of, count_of, stop_of, has_ended, kept_of, unread, TellsEnd, Waits, IsDone, TakesLine, MeetsLine};
     ghost use Rattle.tele_lines.specs.Buffers.{EndsAt};
 
     /// A reader that has read nothing, and allows so many lines.
@@ -33,8 +39,7 @@ impl Lines {
         requires some { 1 ≤ limit }
         requires few { limit ≤ 2 ^ 24 }
 
-        ensures limit { limit_of result ≡ limit }
-        ensures count { count_of result ≡ 0 }
+        ensures place { place_of result ≡ record { limit = limit; count = 0; mode = None } }
         ensures going { stop_of result ≡ None }
         ensures fresh { kept_of result ≡ [] }
         ensures unended { has_ended result ≡ false }
@@ -42,58 +47,67 @@ impl Lines {
         Lines {
             limit,
             count: 0,
+            mode: None,
             buffer: Buffer::new(),
             ended: false,
             stop: None,
         }
     }
 
-    /// The next line, once its end has come.
+    /// Of which version the lines are: `One`, until a first line `V 2` was read.
+    pub fn version(&self) -> Version
+        ensures value { result ≡ version_of self.now }
+    {
+        self.mode.unwrap_or(Version::One)
+    }
+
+    /// The next line that asks for something, once its end has come.
     ///
-    /// `Ok(None)` says that the input is at its end and that every line was read; later calls say
-    /// it again without reading. A bad line ends the reading: this call and each later one tell its
-    /// number and its cause. `Read` comes only where the source failed in this call; no byte is
-    /// lost then, and a later call goes on.
+    /// `Ok(None)` says that the input is at its end and that every line was read; later calls say it
+    /// again without reading. A bad line ends the reading: this call and each later one tell its
+    /// number and its cause. `Read` comes only where the source failed in this call; no byte is lost
+    /// then, and a later call goes on.
     pub fn next<S: Source>(&mut self, source: &mut S) -> Result<Option<Line>, LineFault>
-        // The line says what the first of the unread lines says, and the others are left.
+        // The line is the first of the unread ones that asks for something, and the others are left.
         ensures line { IfOk result (λ next. IfSome next (λ line.
             IfSome (unread self.old (S.left source.old)) (λ bytes.
-            TakesLine (limit_of self.old) line.number line.item bytes (has_ended self.new)
+            GoesTo (place_of self.old) (place_of self.new) (has_ended self.new)
+            (Good line.number (version_of self.new) line.item ∷ []) bytes
             (unread self.new (S.left source.new))))) }
         ensures number { IfOk result (λ next. IfSome next
-            (λ line. line.number ≡ count_of self.old + 1)) }
-        ensures count { IfOk result (λ next. IfSome next
-            (λ line. count_of self.new ≡ line.number)) }
+            (λ line. (count_of self.old < line.number) × (count_of self.new ≡ line.number))) }
         ensures allowed { count_of self.new ≤ limit_of self.new }
 
-        // There is no line where no byte is unread.
+        // None of the unread lines asks for anything.
         ensures none { IfOk result (λ next. IfNone next (
-            IfSome (unread self.old (S.left source.old)) (λ bytes. bytes ≡ []))) }
+            IfSome (unread self.old (S.left source.old)) (λ bytes.
+            read_at (place_of self.old) (lines_of bytes) ≡ []))) }
         ensures done { IfOk result (λ next. IfNone next (IsDone self.new)) }
         ensures again { IsDone self.old → (result ≡ Ok None) × (source.new ≡ source.old) }
 
-        // The first of the unread lines is bad, and stays so.
+        // The first of the unread lines that says something is bad, and stays so.
         ensures bad { (number : _) (cause : _) → result ≡ Err (LineFault.Bad number cause) →
-            stop_of self.old ≡ None →
-            IfSome (unread self.old (S.left source.old))
-            (λ bytes. MeetsBad (limit_of self.old) number cause bytes) }
+            stop_of self.old ≡ None → IfSome (unread self.old (S.left source.old)) (λ bytes.
+            read_at (place_of self.old) (lines_of bytes) ≡ Bad number cause ∷ []) }
         ensures stop { (number : _) (cause : _) → result ≡ Err (LineFault.Bad number cause) →
-            (number ≡ count_of self.old + 1) × (stop_of self.new ≡ Some cause) }
+            (number ≡ count_of self.new + 1) × (stop_of self.new ≡ Some cause) }
         ensures stopped { (cause : _) → stop_of self.old ≡ Some cause →
             (result ≡ Err (LineFault.Bad (count_of self.old + 1) cause)) ×
             (source.new ≡ source.old) }
 
+        // The source failed. The lines that were passed over until then ask for nothing.
         ensures failed { result ≡ Err LineFault.Read →
             HaveRisen (S.faults source.old) (S.faults source.new) }
-        ensures kept { OnErr result (
-            Keeps (unread self.old (S.left source.old)) (unread self.new (S.left source.new))) }
-        ensures still { OnErr result (count_of self.new ≡ count_of self.old) }
-        ensures going { OnOk result (stop_of self.new ≡ None) }
+        ensures passed { result ≡ Err LineFault.Read →
+            IfSome (unread self.old (S.left source.old)) (λ bytes.
+            GoesTo (place_of self.old) (place_of self.new) (has_ended self.new) [] bytes
+            (unread self.new (S.left source.new))) }
         ensures waiting { result ≡ Err LineFault.Read → Waits self.new }
+
+        ensures going { OnOk result (stop_of self.new ≡ None) }
         ensures end { TellsEnd self.old (S.left source.old) →
             TellsEnd self.new (S.left source.new) }
         ensures ended { has_ended self.old ≡ true → has_ended self.new ≡ true }
-
         ensures limit { limit_of self.new ≡ limit_of self.old }
         ensures counted { S.faults source.old ≤ S.faults source.new }
     {
@@ -103,95 +117,141 @@ impl Lines {
                 cause,
             });
         }
-        match gather(&mut self.buffer, &mut self.ended, source) {
-            Ok(end) => self.cut(end),
-            Err(Failed) => Err(LineFault::Read),
+        loop {
+            match self.advance(source) {
+                Ok(Some(Said::Skips)) => {}
+                Ok(Some(Said::Chooses(_))) => {}
+                Ok(Some(Said::Asks(item))) => {
+                    return Ok(Some(Line {
+                        number: self.count,
+                        item,
+                    }));
+                }
+                Ok(Some(Said::Fails(cause))) => {
+                    return Err(LineFault::Bad {
+                        line: self.count + 1,
+                        cause,
+                    });
+                }
+                Ok(None) => return Ok(None),
+                Err(Failed) => return Err(LineFault::Read),
+            }
         }
     }
 
-    /// Reads the first line of the buffer, which ends at this place, or with the bytes.
-    fn cut(&mut self, end: Option<usize>) -> Result<Option<Line>, LineFault>
+    /// Reads one line, whatever it says. `None` is the end of the input.
+    fn advance<S: Source>(&mut self, source: &mut S) -> Result<Option<Said>, Failed>
+        requires going { self.old.stop ≡ None }
+
+        ensures line { IfOk result (λ next. IfSome next (λ said. Continues said →
+            IfSome (unread self.old (S.left source.old)) (λ bytes.
+            GoesTo (place_of self.old) (place_of self.new) self.new.ended
+            (given (place_of self.old) said) bytes (unread self.new (S.left source.new))))) }
+        ensures place { IfOk result (λ next. IfSome next (λ said. Continues said →
+            place_of self.new ≡ behind (place_of self.old) said)) }
+
+        ensures none { IfOk result (λ next. IfNone next (
+            IfSome (unread self.old (S.left source.old)) (λ bytes. bytes ≡ []))) }
+        ensures done { IfOk result (λ next. IfNone next (IsDone self.new)) }
+        ensures again { IsDone self.old → (result ≡ Ok None) × (source.new ≡ source.old) }
+
+        ensures bad { (cause : _) → result ≡ Ok (Some (Said.Fails cause)) →
+            IfSome (unread self.old (S.left source.old)) (λ bytes.
+            read_at (place_of self.old) (lines_of bytes) ≡ Bad (self.old.count + 1) cause ∷ []) }
+        ensures stop { (cause : _) → result ≡ Ok (Some (Said.Fails cause)) →
+            (self.new.stop ≡ Some cause) × (place_of self.new ≡ place_of self.old) }
+        ensures going { IfOk result (λ next. IfSome next (λ said. Continues said →
+            self.new.stop ≡ None)) }
+
+        ensures failed { OnErr result (HaveRisen (S.faults source.old) (S.faults source.new)) }
+        ensures kept { OnErr result (
+            Keeps (unread self.old (S.left source.old)) (unread self.new (S.left source.new))) }
+        ensures still { OnErr result (place_of self.new ≡ place_of self.old) }
+        ensures waiting { OnErr result (Waits self.new) }
+
+        ensures end { TellsEnd self.old (S.left source.old) →
+            TellsEnd self.new (S.left source.new) }
+        ensures ended { has_ended self.old ≡ true → has_ended self.new ≡ true }
+        ensures limit { limit_of self.new ≡ limit_of self.old }
+        ensures counted { S.faults source.old ≤ S.faults source.new }
+    {
+        match gather(&mut self.buffer, &mut self.ended, source) {
+            Ok(end) => Ok(self.cut(end)),
+            Err(Failed) => Err(Failed),
+        }
+    }
+
+    /// Reads the first line of the buffer, which ends at this place, or with the bytes. `None` is the
+    /// end of the input.
+    fn cut(&mut self, end: Option<usize>) -> Option<Said>
         requires there { EndsAt self.old.buffer self.old.ended end }
         requires going { self.old.stop ≡ None }
 
-        ensures line { IfOk result (λ next. IfSome next (λ line. (left : _) →
-            IfSome (unread self.old left)
-            (λ bytes. TakesLine self.old.limit line.number line.item bytes self.new.ended
-            (unread self.new left)))) }
-        ensures number { IfOk result (λ next. IfSome next
-            (λ line. line.number ≡ self.old.count + 1)) }
-        ensures count { IfOk result (λ next. IfSome next (λ line. self.new.count ≡ line.number)) }
+        ensures line { IfSome result (λ said. Continues said → (left : _) →
+            IfSome (unread self.old left) (λ bytes.
+            TakesLine (place_of self.old) said bytes self.new.ended (unread self.new left))) }
+        ensures first { IfSome result (λ said. (left : _) →
+            IfSome (unread self.old left) (λ bytes. MeetsLine (place_of self.old) said bytes)) }
+        ensures place { IfSome result (λ said. Continues said →
+            place_of self.new ≡ behind (place_of self.old) said) }
 
-        ensures none { IfOk result (λ next. IfNone next (IsDone self.old)) }
-        ensures done { IfOk result (λ next. IfNone next (self.new ≡ self.old)) }
-        ensures again { IsDone self.old → result ≡ Ok None }
+        ensures none { IfNone result (IsDone self.old) }
+        ensures done { IfNone result (self.new ≡ self.old) }
+        ensures again { IsDone self.old → result ≡ None }
 
-        ensures bad { (number : _) (cause : _) → result ≡ Err (LineFault.Bad number cause) →
-            (left : _) →
-            IfSome (unread self.old left) (λ bytes. MeetsBad self.old.limit number cause bytes) }
-        ensures stop { (number : _) (cause : _) → result ≡ Err (LineFault.Bad number cause) →
-            (number ≡ self.old.count + 1) × (self.new.stop ≡ Some cause) }
-        ensures no_read { result ≢ Err LineFault.Read }
+        ensures stop { (cause : _) → result ≡ Some (Said.Fails cause) → self.new.stop ≡ Some cause }
+        ensures still { (cause : _) → result ≡ Some (Said.Fails cause) →
+            place_of self.new ≡ place_of self.old }
+        ensures going { IfSome result (λ said. Continues said → self.new.stop ≡ None) }
 
-        ensures kept { OnErr result (self.new.buffer ≡ self.old.buffer) }
-        ensures still { OnErr result (self.new.count ≡ self.old.count) }
-        ensures going { OnOk result (self.new.stop ≡ self.old.stop) }
         ensures ended { self.new.ended ≡ self.old.ended }
         ensures limit { self.new.limit ≡ self.old.limit }
     {
         let len = self.buffer.bytes().len();
         match end {
-            Some(place) => self.read(place, place + 1),
+            Some(place) => Some(self.read(place, place + 1)),
             None => {
                 if len == 0 {
-                    Ok(None)
+                    None
                 } else {
-                    self.read(len, len)
+                    Some(self.read(len, len))
                 }
             }
         }
     }
 
-    /// Reads a line of so many bytes, and lets it go with what ends it.
-    fn read(&mut self, len: usize, taken: usize) -> Result<Option<Line>, LineFault>
+    /// Reads a line of so many bytes, and lets it go with what ends it, if it isn't bad.
+    fn read(&mut self, len: usize, taken: usize) -> Said
         requires ordered { len ≤ taken }
         requires within { taken ≤ length self.old.buffer }
 
-        ensures line { IfOk result (λ next. IfSome next (λ line.
-            reading self.old.limit line.number (take len self.old.buffer) ≡ Ok line.item)) }
-        ensures some { IfOk result IsSome }
-        ensures number { IfOk result (λ next. IfSome next
-            (λ line. line.number ≡ self.old.count + 1)) }
-        ensures count { IfOk result (λ next. IfSome next (λ line. self.new.count ≡ line.number)) }
-        ensures rest { OnOk result (self.new.buffer ≡ drop taken self.old.buffer) }
+        ensures value { result ≡
+            reading self.old.limit (self.old.count + 1) self.old.mode (take len self.old.buffer) }
 
-        ensures bad { (number : _) (cause : _) → result ≡ Err (LineFault.Bad number cause) →
-            reading self.old.limit number (take len self.old.buffer) ≡ Err cause }
-        ensures stop { (number : _) (cause : _) → result ≡ Err (LineFault.Bad number cause) →
-            (number ≡ self.old.count + 1) × (self.new.stop ≡ Some cause) }
-        ensures no_read { result ≢ Err LineFault.Read }
+        ensures rest { Continues result → self.new.buffer ≡ drop taken self.old.buffer }
+        ensures place { Continues result → place_of self.new ≡ behind (place_of self.old) result }
+        ensures going { Continues result → self.new.stop ≡ self.old.stop }
 
-        ensures kept { OnErr result (self.new.buffer ≡ self.old.buffer) }
-        ensures still { OnErr result (self.new.count ≡ self.old.count) }
-        ensures going { OnOk result (self.new.stop ≡ self.old.stop) }
+        ensures stop { (cause : _) → result ≡ Said.Fails cause → self.new.stop ≡ Some cause }
+        ensures still { (cause : _) → result ≡ Said.Fails cause →
+            (place_of self.new ≡ place_of self.old) × (self.new.buffer ≡ self.old.buffer) }
+
         ensures ended { self.new.ended ≡ self.old.ended }
         ensures limit { self.new.limit ≡ self.old.limit }
     {
         let number = self.count + 1;
-        match read_line(self.limit, number, &self.buffer.bytes()[..len]) {
-            Ok(item) => {
-                self.buffer.skip(taken);
-                self.count = number;
-                Ok(Some(Line { number, item }))
-            }
-            Err(cause) => {
+        let said = read_line(self.limit, number, self.mode, &self.buffer.bytes()[..len]);
+        match said {
+            Said::Fails(cause) => {
                 self.stop = Some(cause);
-                Err(LineFault::Bad {
-                    line: number,
-                    cause,
-                })
+            }
+            _ => {
+                self.buffer.skip(taken);
+                self.mode = mode_behind(self.mode, &said);
+                self.count = number;
             }
         }
+        said
     }
 }
 
@@ -216,7 +276,7 @@ fn gather<S: Source>(
     loop {
         let bytes = buffer.bytes();
         let found = memchr(b'\n', bytes);
-        if found.is_some() || *ended || bytes.len() > LONGEST {
+        if found.is_some() || *ended || bytes.len() > UNDECIDED {
             return Ok(found);
         }
         if buffer.fill(source)? == 0 {

@@ -1,5 +1,6 @@
 //! One printed line, which is put together on the stack and goes out in one piece.
 ghost use Rattle.std.specs.Prelude.{◌≡◌, ◌+◌, ◌<◌, ◌≤◌, [], ◌++◌, length, codes, decimal};
+ghost use Rattle.std.specs.Fmt.{signed_decimal};
 
 use arrayvec::ArrayVec;
 use itoa::Buffer;
@@ -44,6 +45,16 @@ impl Text {
     pub(crate) fn push_number(&mut self, number: u64)
         requires room { length self.old + 20 ≤ ROOM }
         ensures added { self.new ≡ self.old ++ decimal number }
+        ensures short { length self.new ≤ length self.old + 20 }
+    {
+        let mut buffer = Buffer::new();
+        self.push(buffer.format(number).as_bytes());
+    }
+
+    /// Adds a signed number in decimal.
+    pub(crate) fn push_signed(&mut self, number: i64)
+        requires room { length self.old + 20 ≤ ROOM }
+        ensures added { self.new ≡ self.old ++ signed_decimal number }
         ensures short { length self.new ≤ length self.old + 20 }
     {
         let mut buffer = Buffer::new();

@@ -1,4 +1,2 @@
-pub mod TableLemmas
-pub mod AppendLemmas
 pub mod DueLemmas
 pub mod ToldLemmas

@@ -6,7 +6,7 @@ ghost use Rattle.tele_run.specs.Causes.{are_refused, IsAnswer, IsCutShort, IsSta
 
 use crate::outcomes::{ANSWERED, NO_MEMORY, Outcome, READ_FAILED, USAGE, WRITE_FAILED};
 use crate::steps::{refused, step};
-use crate::tables::Table;
+use plain_map::Plain;
 use std::alloc::Global;
 use tele_io::{Sink, Source, write_whole};
 use tele_lines::Lines;
@@ -123,9 +123,9 @@ fn answer_all<S: Source, O: Sink>(alloc: Global, source: &mut S, out: &mut O) ->
     ensures sink_counted { O.faults out.old ≤ O.faults out.new }
 {
     let mut lines = Lines::new(LINE_LIMIT);
-    let mut table = Table::new(alloc);
+    let mut plain = Plain::new(alloc);
     loop {
-        if let Some(status) = step(&mut lines, &mut table, source, out) {
+        if let Some(status) = step(&mut lines, &mut plain, source, out) {
             return status;
         }
     }

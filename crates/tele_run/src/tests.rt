@@ -35,23 +35,57 @@ fn answer(alloc: Global, input: &[u8]) -> Result<(Vec<u8>, u8), AllocError> {
 #[test]
 fn each_input_has_its_answer(rt: HostRuntime) -> Result<(), Fail> {
     // the input, the output, the status
-    let rows: [(&[u8], &[u8], u8); 12] = [
+    let rows: [(&[u8], &[u8], u8); 30] = [
         (b"", b"", 0),
         (b"P 5 7\n", b"1 -\n", 0),
         (b"P 5 7", b"1 -\n", 0),
-        (b"P 5 7\nP 5 9\n", b"1 -\n2 7\n", 0),
-        (b"P 1 1\nX 2\nP 3 3\n", b"1 -\n! 2 letter\n", 3),
-        (b"P 5\n", b"! 1 letter\n", 3),
-        (b"\n", b"! 1 letter\n", 3),
-        (b"# note\n", b"! 1 letter\n", 3),
-        (b"P  5 7\n", b"! 1 letter\n", 3),
-        (b"P +5 7\n", b"! 1 letter\n", 3),
         (
-            b"P 18446744073709551615 0\nP 18446744073709551615 1\n",
-            b"1 -\n2 0\n",
+            b"P 5 7\nP 5 9\nG 5\nR 5\nG 5\n",
+            b"1 -\n2 7\n3 9\n4 9\n5 -\n",
             0,
         ),
-        (b"P 18446744073709551616 0\n", b"! 1 letter\n", 3),
+        (
+            b"P 18446744073709551615 0\nI 18446744073709551615 18446744073709551615\n",
+            b"1 -\n2 1\n18446744073709551615 0\n",
+            0,
+        ),
+        (b"P 18446744073709551616 1\n", b"! 1 number\n", 3),
+        (b"I 0 10\nI 9 3\n", b"1 0\n2 0\n", 0),
+        (b"# note\r\n\nG 1", b"3 -\n", 0),
+        (b"P 1 1\nX 2\nP 3 3\n", b"1 -\n! 2 letter\n", 3),
+        (b"P 1\n", b"! 1 fields\n", 3),
+        (b"P 1 2 3\n", b"! 1 fields\n", 3),
+        (b"G\n", b"! 1 fields\n", 3),
+        (b"P 1 x\n", b"! 1 number\n", 3),
+        (b"p 1 2\n", b"! 1 letter\n", 3),
+        (b"P +1 2\n", b"! 1 number\n", 3),
+        (b"P1 2\n", b"! 1 letter\n", 3),
+        (b"\tP\t 007  8 \t\r\nG 7\n", b"1 -\n2 8\n", 0),
+        (b"P 1 1\r\r\n", b"! 1 number\n", 3),
+        (b"P 1 \x001\n", b"! 1 number\n", 3),
+        (b"\xff\n", b"! 1 letter\n", 3),
+        (
+            b"P 3 1\nP 1 2\nP 2 3\nI 2 9\n",
+            b"1 -\n2 -\n3 -\n4 2\n2 3\n3 1\n",
+            0,
+        ),
+        (
+            b"V 2\nP -5 -7\nP 3 1\nG -5\nI -10 10\n",
+            b"2 -\n3 -\n4 -7\n5 2\n-5 -7\n3 1\n",
+            0,
+        ),
+        (
+            b"V 2\nP -9223372036854775808 9223372036854775807\nG -9223372036854775808\n",
+            b"2 -\n3 9223372036854775807\n",
+            0,
+        ),
+        (b"V 2\nP 9223372036854775808 1\n", b"! 2 number\n", 3),
+        (b"V 2\nG -\n", b"! 2 number\n", 3),
+        (b"P -1 1\n", b"! 1 number\n", 3),
+        (b"V 3\n", b"! 1 number\n", 3),
+        (b"V\n", b"! 1 fields\n", 3),
+        (b"P 1 1\nV 2\n", b"1 -\n! 2 letter\n", 3),
+        (b"# first\nV 02\nP -0 --1\n", b"! 3 number\n", 3),
     ];
     for (input, output, status) in rows {
         let (written, ended) = answer(rt.alloc(), input)?;
@@ -63,17 +97,29 @@ fn each_input_has_its_answer(rt: HostRuntime) -> Result<(), Fail> {
 
 #[test]
 fn a_line_has_at_most_80_bytes(rt: HostRuntime) -> Result<(), Fail> {
-    // how many zeros stand before the key, the output, the status
-    let rows: [(usize, &[u8], u8); 2] = [(75, b"1 -\n", 0), (76, b"! 1 letter\n", 3)];
-    for (zeros, output, status) in rows {
+    // how many zeros stand before the key, the end of the line, the output, the status
+    let rows: [(usize, &[u8], &[u8], u8); 6] = [
+        (75, b"", b"1 -\n", 0),
+        (76, b"", b"! 1 long\n", 3),
+        (75, b"\r\n", b"1 -\n", 0),
+        (76, b"\r\n", b"! 1 long\n", 3),
+        (75, b"\r", b"1 -\n", 0),
+        (200, b"\n", b"! 1 long\n", 3),
+    ];
+    for (zeros, end, output, status) in rows {
         let mut input = b"P ".to_vec(rt.alloc())?;
         for _ in 0..zeros {
             input.push(b'0')?;
         }
         input.extend_from_slice(b"5 7")?;
+        input.extend_from_slice(end)?;
         let (written, ended) = answer(rt.alloc(), input.as_slice())?;
-        assert_eq!(rt; written.as_slice(), output, "the text with {zeros} zeros");
-        assert_eq!(rt; ended, status, "the status with {zeros} zeros");
+        assert_eq!(rt;
+            written.as_slice(),
+            output,
+            "the text with {zeros} zeros and {end:?}"
+        );
+        assert_eq!(rt; ended, status, "the status with {zeros} zeros and {end:?}");
     }
     Ok(())
 }

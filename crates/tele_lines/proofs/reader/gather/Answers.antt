@@ -3,7 +3,7 @@ use Rattle.std.specs.Prelude.{Result, Ok, Err, OnErr}
 use Rattle.tele_lines.specs.Buffers.{EndsAt, IsUnbroken}
 use Rattle.tele_lines.proofs.ReaderLemmas.{ends_at, unbroken}
 use Rattle.tele_lines.proofs.reader.gather.Goals as goal
-use Rattle.tele_lines.proofs.reader.gather.Goals.{then-is_some-via-then-is_some, then-is_some-via-else-is_some+then-ended, then-is_some-via-else-is_some+else-ended+then-bytes-gt-LONGEST}
+use Rattle.tele_lines.proofs.reader.gather.Goals.{then-is_some-via-then-is_some, then-is_some-via-else-is_some+then-ended, then-is_some-via-else-is_some+else-ended+then-bytes-gt-UNDECIDED}
 
 -- a newline was found, or the input has ended, or the line is too long
 pub returns-then-is_some-clause-ends : goal.returns-then-is_some-clause-ends
@@ -15,8 +15,8 @@ returns-then-is_some-clause-ends g c =
     (elim c.then-is_some.branch [
       | then-is_some-via-then-is_some w ↦ inl (sym c.is_some.ensures ∙ w.if-is_some.true)
       | then-is_some-via-else-is_some+then-ended w ↦ inr (inl w.if-ended.true)
-      | then-is_some-via-else-is_some+else-ended+then-bytes-gt-LONGEST w ↦ inr
-          (inr w.if-bytes-gt-LONGEST.true)
+      | then-is_some-via-else-is_some+else-ended+then-bytes-gt-UNDECIDED w ↦ inr
+          (inr w.if-bytes-gt-UNDECIDED.true)
     ]))
 
 -- what holds holds at a refusal

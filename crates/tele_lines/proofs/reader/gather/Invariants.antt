@@ -19,4 +19,4 @@ invariant-loop-bytes g l =
 
 -- a line is decided within 82 bytes, and the end comes once
 abbrev pub decreases-loop-bytes : goal.decreases-loop-bytes
-decreases-loop-bytes g l = 82 - length l.buffer + (if l.ended then 0 else 1)
+decreases-loop-bytes g l = 83 - length l.buffer + (if l.ended then 0 else 1)

@@ -1,6 +1,7 @@
 use Rattle.std.proofs.Common.{ap, arith}
 use Rattle.std.specs.Prelude.{Some}
-use Rattle.tele_run.proofs.DueLemmas.{still_going}
+use Rattle.ist_core.specs.Map.{map_of}
+use Rattle.tele_lines.specs.Progress.{Place}
 use Rattle.tele_run.proofs.ToldLemmas.{all_due, on_and_on_if, on_and_part_if, stops_if}
 use Rattle.tele_run.proofs.runs.answer_all.Goals as goal
 
@@ -9,10 +10,10 @@ pub loop-status-init : goal.loop-status-init
 loop-status-init g c =
     let new = c.new-lines.ensures in
     record {
-      due = all_due _ _ _ _ _ _ new.fresh new.unended c.new-table.ensures.empty new.count;
+      due = all_due _ _ _ _ _ _ new.fresh new.unended (ap map_of c.new-plain.ensures) new.place;
       end = λ told. record { told = told; none = λ at_end. absurd (cc (at_end, new.unended)) };
-      limit = new.limit;
-      allowed = omega (arith, new.count);
+      limit = ap (λ (p : Place). p.limit) new.place;
+      allowed = omega (arith, ap (λ (p : Place). p.count) new.place);
       going = new.going;
       source_counted = omega arith;
       sink_counted = omega arith;
@@ -23,8 +24,7 @@ pub loop-status-preserved : goal.loop-status-preserved
 loop-status-preserved g c =
     let next = c.in_default.ensures in
     record {
-      due = on_and_on_if _ _ _ _ _ _ _ _ _ _ _ _ next.ended c.loop-status.invariant.due
-          next.goes_on;
+      due = on_and_on_if _ _ _ _ _ _ _ _ _ _ _ _ next.ended c.loop-status.invariant.due next.goes_on;
       end = λ told. next.end (c.loop-status.invariant.end told);
       limit = next.limit;
       allowed = next.allowed;
@@ -38,9 +38,7 @@ pub returns-in-Some-clause-stops : goal.returns-in-Some-clause-stops
 returns-in-Some-clause-stops g c is =
     let last = c.in-Some.ensures in
     let failed = ap Some is in
-    let waits = last.waits failed in
-    stops_if _ _ _ _ _ _ _ _ c.step.new.lines _ c.loop-status.invariant.due
-    (still_going _ _ last.ended waits.open_end) (last.kept failed) waits
+    stops_if _ _ _ _ _ _ _ _ c.step.new.lines _ last.ended c.loop-status.invariant.due (last.passed failed) (last.waits failed)
     (ap g.O.Sink.written (last.silent failed))
 
 -- the text was cut short

@@ -1,17 +1,63 @@
-use Rattle.std.proofs.Common.{◌≡◌, refl}
-use Rattle.std.specs.Prelude.{Option, Some, None}
-use Rattle.tele_lines.proofs.CutLemmas.{no_whole}
+use Rattle.std.proofs.Common.{◌∙◌, ap, arith}
+use Rattle.std.specs.Prelude.{Some, Ok}
+use Rattle.tele_lines.specs.Progress.{Place, place_of}
+use Rattle.tele_lines.proofs.PlaceLemmas.{goes_on_if, reads_if, item_if, bad_if}
 use Rattle.tele_lines.proofs.reader.Lines.next.Goals as goal
 
--- what has no value is none
-is_none : {A : Type 0} (o : Option A) → ((x : A) → ¬ (o ≡ Some x)) → o ≡ None
-is_none (Some x) never = absurd (never x refl)
-is_none None never = refl
+-- a line was passed over that says nothing
+pub loop-item-preserved-in-Ok-Some-Skips : goal.loop-item-preserved-in-Ok-Some-Skips
+loop-item-preserved-in-Ok-Some-Skips g c =
+    let met = c.in-Ok-Some-Skips.ensures in
+    let line = rw c.in-Ok-Some-Skips.field-0-0-is at (rw c.in-Ok-Some-Skips.field-0-is at met.line) in
+    let place = rw c.in-Ok-Some-Skips.field-0-0-is at (rw c.in-Ok-Some-Skips.field-0-is at met.place) in
+    let going = rw c.in-Ok-Some-Skips.field-0-0-is at (rw c.in-Ok-Some-Skips.field-0-is at met.going) in
+    let before = c.loop-item.invariant in
+    let more = ap (λ (p : Place). p.count) (place tt) in
+    record {
+      passed = goes_on_if _ _ _ _ _ _ _ _ _ met.ended before.passed (line tt);
+      count = omega (arith, before.count, more);
+      limit = met.limit ∙ before.limit;
+      going = going tt;
+      end = λ told. met.end (before.end told);
+      ended = λ was. met.ended (before.ended was);
+      again = λ done. absurd (cc (met.again (before.again done).0).0);
+      counted = omega (arith, before.counted, met.counted);
+    }
 
--- the end of the line has not come
-pub returns-in-Err-clause-waiting : goal.returns-in-Err-clause-waiting
-returns-in-Err-clause-waiting g c = λ _. record {
-  going = is_none c.args.self.now.stop c.in_default.not-Some;
-  open_end = c.in-Err.ensures.waiting.1;
-  no_line = no_whole c.gather.new.buffer c.in-Err.ensures.waiting.0;
-}
+-- a line was passed over that chooses a version
+pub loop-item-preserved : goal.loop-item-preserved
+loop-item-preserved g c =
+    let met = c.in-Ok-Some-Chooses.ensures in
+    let line = rw c.in-Ok-Some-Chooses.field-0-0-is at (rw c.in-Ok-Some-Chooses.field-0-is at met.line) in
+    let place = rw c.in-Ok-Some-Chooses.field-0-0-is at (rw c.in-Ok-Some-Chooses.field-0-is at met.place) in
+    let going = rw c.in-Ok-Some-Chooses.field-0-0-is at (rw c.in-Ok-Some-Chooses.field-0-is at met.going) in
+    let before = c.loop-item.invariant in
+    let more = ap (λ (p : Place). p.count) (place tt) in
+    record {
+      passed = goes_on_if _ _ _ _ _ _ _ _ _ met.ended before.passed (line tt);
+      count = omega (arith, before.count, more);
+      limit = met.limit ∙ before.limit;
+      going = going tt;
+      end = λ told. met.end (before.end told);
+      ended = λ was. met.ended (before.ended was);
+      again = λ done. absurd (cc (met.again (before.again done).0).0);
+      counted = omega (arith, before.counted, met.counted);
+    }
+
+-- a line asks for something
+pub returns-in-Ok-Some-Asks-clause-line : goal.returns-in-Ok-Some-Asks-clause-line
+returns-in-Ok-Some-Asks-clause-line g c =
+    let met = c.in-Ok-Some-Asks.ensures in
+    let line = rw c.in-Ok-Some-Asks.field-0-0-is at (rw c.in-Ok-Some-Asks.field-0-is at met.line) in
+    let place = rw c.in-Ok-Some-Asks.field-0-0-is at (rw c.in-Ok-Some-Asks.field-0-is at met.place) in
+    let before = c.loop-item.invariant in
+    item_if _ (place_of c.loop-item.self) _ _ c.in-Ok-Some-Asks.item _ _ (place tt) (goes_on_if _ _ _ _ _ _ _ _ _ met.ended before.passed (line tt))
+
+-- a line is bad
+pub returns-in-Ok-Some-Fails-clause-bad : goal.returns-in-Ok-Some-Fails-clause-bad
+returns-in-Ok-Some-Fails-clause-bad g c number cause is going =
+    let met = c.in-Ok-Some-Fails.ensures in
+    let told = ap Ok (c.in-Ok-Some-Fails.field-0-is ∙ ap Some c.in-Ok-Some-Fails.field-0-0-is) in
+    let before = c.loop-item.invariant in
+    bad_if _ _ _ number _ cause _ (ap (λ (p : Place). p.count) (met.stop c.in-Ok-Some-Fails.cause told).1) (cc is) (cc is)
+    (reads_if _ _ _ _ _ _ before.passed (met.bad c.in-Ok-Some-Fails.cause told))

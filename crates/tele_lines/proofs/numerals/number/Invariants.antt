@@ -1,7 +1,7 @@
 use Rattle.std.proofs.Common.{◌≡◌, drop}
-use Rattle.tele_lines.specs.Lines.{number_of}
+use Rattle.tele_lines.specs.Numerals.{number_of}
 use Rattle.tele_lines.proofs.NumberLemmas.{number_from}
-use Rattle.tele_lines.proofs.parsing.number.Given as goal
+use Rattle.tele_lines.proofs.numerals.number.Given as goal
 
 -- the digits that are left complete the number
 abbrev pub invariant-loop-byte : goal.invariant-loop-byte

@@ -1,0 +1,10 @@
+use Rattle.std.proofs.Common.{◌≤◌, drop}
+use Rattle.tele_lines.proofs.PrintedLemmas.{HasPrinted}
+use Rattle.tele_lines.proofs.printing.print_pairs.Given as goal
+
+-- the pairs so far were printed, and the others are left
+abbrev pub invariant-loop-pair : goal.invariant-loop-pair
+invariant-loop-pair g l = record {
+  printed : HasPrinted l.version (g.O.Sink.written l.fn.out) (g.O.Sink.written l.out) l.pairs (drop l.pair-index l.pairs);
+  counted : g.O.Sink.faults l.fn.out ≤ g.O.Sink.faults l.out;
+}

@@ -1,0 +1,50 @@
+//! The words of a line.
+ghost use Rattle.std.specs.Prelude.{◌≡◌, ◌<◌, ◌≤◌, [], ◌∷◌, length, take, drop};
+ghost use Rattle.tele_lines.specs.Lines.{without_return, words_of};
+ghost use Rattle.tele_lines.specs.Words.{BeginsWord};
+
+use memchr::memchr2;
+
+/// A line without the carriage return at its end, if it has one there.
+pub(crate) fn trim_return(line: &[u8]) -> &[u8]
+    ensures value { result.now ≡ without_return line.now }
+{
+    match line.strip_suffix(b"\r") {
+        Some(front) => front,
+        None => line,
+    }
+}
+
+/// The bytes from the first word on.
+pub(crate) fn skip_blanks(bytes: &[u8]) -> &[u8]
+    ensures words { words_of result.now ≡ words_of bytes.now }
+    ensures word { BeginsWord result.now }
+{
+    for (place, byte) in bytes.iter().enumerate() {
+        if *byte != b' ' && *byte != b'\t' {
+            return &bytes[place..];
+        }
+    }
+    &[]
+}
+
+/// How long the word is that these bytes begin with.
+fn word_len(bytes: &[u8]) -> usize
+    requires word { BeginsWord bytes.now }
+    requires some { 0 < length bytes.now }
+    ensures within { result ≤ length bytes.now }
+    ensures first { words_of bytes.now ≡ take result bytes.now ∷ words_of (drop result bytes.now) }
+{
+    memchr2(b' ', b'\t', bytes).unwrap_or(bytes.len())
+}
+
+/// The first word, and the bytes from the next one on.
+pub(crate) fn split_word(bytes: &[u8]) -> (&[u8], &[u8])
+    requires word { BeginsWord bytes.now }
+    requires some { 0 < length bytes.now }
+    ensures words { words_of bytes.now ≡ result.0.now ∷ words_of result.1.now }
+    ensures next { BeginsWord result.1.now }
+{
+    let len = word_len(bytes);
+    (&bytes[..len], skip_blanks(&bytes[len..]))
+}
