@@ -1,2 +1,4 @@
 pub mod OrderLemmas
 pub mod MergeLemmas
+pub mod SplitLemmas
+pub mod LineLemmas
