@@ -29,12 +29,12 @@ IsStrictlyIncreasing-answers tasks answers first up =
 pub Rise-from_increasing : (answers : List Answer) → IsStrictlyIncreasing (answer_lines answers) → Rise answers
 Rise-from_increasing answers up =
     IsNonDecreasingBy-from_all_adjacent line_of answers (λ k d h.
-      let one : get_or (answer_lines answers) k 0 ≡ line_of (get_or answers k d) = get_or-map line_of answers k d 0 (omega arith) in
-      let next : get_or (answer_lines answers) (k + 1) 0 ≡ line_of (get_or answers (k + 1) d)
-            = get_or-map line_of answers (k + 1) d 0 h in
-      let less : get_or (answer_lines answers) k 0 < get_or (answer_lines answers) (k + 1) 0
-            = up k (omega (arith, length-map answers line_of)) in
-      omega arith)
+    let one : get_or (answer_lines answers) k 0 ≡ line_of (get_or answers k d) = get_or-map line_of answers k d 0 (omega arith) in
+    let next : get_or (answer_lines answers) (k + 1) 0 ≡ line_of (get_or answers (k + 1) d)
+    = get_or-map line_of answers (k + 1) d 0 h in
+    let less : get_or (answer_lines answers) k 0 < get_or (answer_lines answers) (k + 1) 0
+    = up k (omega (arith, length-map answers line_of)) in
+    omega arith)
 
 -- the lines of answers that rise
 pub IsNonDecreasing-answer_lines : (answers : List Answer) → Rise answers → IsNonDecreasing (answer_lines answers)
@@ -49,7 +49,7 @@ Apart xs ys = (x : ℕ) → Contains xs x → ¬ (Contains ys x)
 
 -- an element of the rest
 pub Contains-later : {X : Type 0} (y : X) (xs : List X) (x : X) → Contains xs x → Contains (y ∷ xs) x
-Contains-later y xs x (k , h , e) = (suc k, omega arith, e)
+Contains-later y xs x (k, h, e) = (suc k, omega arith, e)
 
 -- one list behind another, each without repetition, and apart
 pub IsDistinct-append : (xs ys : List ℕ) → IsDistinct eqb xs → IsDistinct eqb ys → Apart xs ys → IsDistinct eqb (xs ++ ys)
@@ -58,9 +58,9 @@ IsDistinct-append (x ∷ xs) ys one two apart =
     let P = λ (y : ℕ). eqb x y ≡ false in
     let left : All P xs = All-from_recursion P xs (IsDistinct-head eqb x xs one) in
     let right : All P ys = λ k d h. ne_eqb x (get_or ys k d)
-          (λ e. apart x (0, omega arith, refl) (subst (λ y. Contains ys y) (sym e) (Contains-get_or ys k d h))) in
+    (λ e. apart x (0, omega arith, refl) (subst (λ y. Contains ys y) (sym e) (Contains-get_or ys k d h))) in
     IsDistinct-cons eqb x (xs ++ ys) (recursion_from_All P (xs ++ ys) (All-append P xs ys left right))
-      (IsDistinct-append xs ys (IsDistinct-tail eqb x xs one) two (λ y c. apart y (Contains-later x xs y c)))
+    (IsDistinct-append xs ys (IsDistinct-tail eqb x xs one) two (λ y c. apart y (Contains-later x xs y c)))
 
 -- numbers that rise are distinct
 pub IsDistinct-from_increasing : (xs : List ℕ) → IsStrictlyIncreasing xs → IsDistinct eqb xs
@@ -70,11 +70,11 @@ IsDistinct-from_increasing xs up = IsDistinct-from_apart eqb xs (λ i j d lt h.
 module _ {X : Type 0} (f : X → List ℕ) where
   -- a list apart from each is apart from all together
   pub Apart-flat_map : (l : List ℕ) (xs : List X) → All (λ x. Apart l (f x)) xs → Apart l (flat_map f xs)
-  Apart-flat_map l [] each n here (k , h , e) = absurd (omega arith)
+  Apart-flat_map l [] each n here (k, h, e) = absurd (omega arith)
   Apart-flat_map l (x ∷ xs) each n here there =
       elim (Contains-append_cases (f x) (flat_map f xs) n there) [
-        inl c ↦ All-head (λ y. Apart l (f y)) x xs each n here c
-      | inr c ↦ Apart-flat_map l xs (All-tail (λ y. Apart l (f y)) x xs each) n here c
+        | inl c ↦ All-head (λ y. Apart l (f y)) x xs each n here c
+        | inr c ↦ Apart-flat_map l xs (All-tail (λ y. Apart l (f y)) x xs each) n here c
       ]
 
   -- lists that rise, and are apart, are distinct together
@@ -83,10 +83,10 @@ module _ {X : Type 0} (f : X → List ℕ) where
   IsDistinct-flat_map [] up apart = IsDistinct-from_increasing [] (λ k h. absurd (omega arith))
   IsDistinct-flat_map (x ∷ xs) up apart =
       IsDistinct-append (f x) (flat_map f xs)
-        (IsDistinct-from_increasing (f x) (All-head (λ y. IsStrictlyIncreasing (f y)) x xs up))
-        (IsDistinct-flat_map xs (All-tail (λ y. IsStrictlyIncreasing (f y)) x xs up)
-          (λ i j d lt h. apart (suc i) (suc j) d (omega arith) (omega arith)))
-        (Apart-flat_map (f x) xs (λ k d h. apart 0 (suc k) d (omega arith) (omega arith)))
+      (IsDistinct-from_increasing (f x) (All-head (λ y. IsStrictlyIncreasing (f y)) x xs up))
+      (IsDistinct-flat_map xs (All-tail (λ y. IsStrictlyIncreasing (f y)) x xs up)
+      (λ i j d lt h. apart (suc i) (suc j) d (omega arith) (omega arith)))
+      (Apart-flat_map (f x) xs (λ k d h. apart 0 (suc k) d (omega arith) (omega arith)))
 
 -- a map over lists put one behind another
 pub map-flat_map : {X A B : Type 0} (g : A → B) (f : X → List A) (xs : List X) → map g (flat_map f xs) ≡ flat_map (λ x. map g (f x)) xs
@@ -98,8 +98,8 @@ pub Contains-answered : (tasks : List Task) (answers : List Answer) (n : ℕ) �
     → Contains (answer_lines answers) n → Contains (task_lines tasks) n
 Contains-answered tasks answers n first c =
     subst (λ l. Contains l n) (take-append-drop (length answers) (task_lines tasks))
-      (Contains-append_left (take (length answers) (task_lines tasks)) (drop (length answers) (task_lines tasks)) n
-        (subst (λ l. Contains l n) first c))
+    (Contains-append_left (take (length answers) (task_lines tasks)) (drop (length answers) (task_lines tasks)) n
+    (subst (λ l. Contains l n) first c))
 
 -- eqb is symmetric
 pub eqb-flip : (x y : ℕ) → eqb x y ≡ eqb y x
@@ -116,10 +116,10 @@ pub IsStrictlyIncreasing-merged : {X : Type 0} (f : X → List Answer) (xs : Lis
     → IsPermutation (flat_map f xs) all → Rise all → IsStrictlyIncreasing (answer_lines all)
 IsStrictlyIncreasing-merged f xs all up apart same rise =
     IsStrictlyIncreasing-from_distinct (answer_lines all) (IsNonDecreasing-answer_lines all rise)
-      (IsDistinct-IsPermutation eqb eqb-flip (answer_lines (flat_map f xs)) (answer_lines all)
-        (IsPermutation-map line_of (flat_map f xs) all same)
-        (subst (λ l. IsDistinct eqb l) (sym (map-flat_map line_of f xs))
-          (IsDistinct-flat_map (λ x. answer_lines (f x)) xs up apart)))
+    (IsDistinct-IsPermutation eqb eqb-flip (answer_lines (flat_map f xs)) (answer_lines all)
+    (IsPermutation-map line_of (flat_map f xs) all same)
+    (subst (λ l. IsDistinct eqb l) (sym (map-flat_map line_of f xs))
+    (IsDistinct-flat_map (λ x. answer_lines (f x)) xs up apart)))
 
 -- a map before a flat_map
 pub flat_map-map : {X A : Type 0} (f : X → List A) (xs : List X) → flat_map (λ l. l) (map f xs) ≡ flat_map f xs

@@ -19,8 +19,8 @@ IfOk-both (Err e) P Q R both p q = tt
 pub IsPermutation-swap_ends : {X : Type 0} (xs ys zs : List X) → IsPermutation ((xs ++ ys) ++ zs) ((xs ++ zs) ++ ys)
 IsPermutation-swap_ends xs ys zs =
     subst (λ l. IsPermutation ((xs ++ ys) ++ zs) l) (sym (append_assoc xs zs ys))
-      (subst (λ l. IsPermutation l (xs ++ (zs ++ ys))) (sym (append_assoc xs ys zs))
-        (IsPermutation-append_right xs (ys ++ zs) (zs ++ ys) (IsPermutation-append_comm ys zs)))
+    (subst (λ l. IsPermutation l (xs ++ (zs ++ ys))) (sym (append_assoc xs ys zs))
+    (IsPermutation-append_right xs (ys ++ zs) (zs ++ ys) (IsPermutation-append_comm ys zs)))
 
 -- the line of an answer
 abbrev pub line_of : Answer → ℕ
@@ -51,7 +51,7 @@ pub record Merged (low high all : List Answer) (i j : ℕ) : Type 0 where
 pub Rise-push : (xs ys : List Answer) (i : ℕ) (d : Answer) → Rise xs → IsAtMost xs ys i → Rise (xs ++ get_or ys i d ∷ [])
 Rise-push xs ys i d up most =
     IsNonDecreasingBy-push line_of xs (get_or ys i d) up
-      (λ e h. All-get_or (LineAtMost (get_or ys i d).line) xs (length xs - 1) e (omega arith) (most d))
+    (λ e h. All-get_or (LineAtMost (get_or ys i d).line) xs (length xs - 1) e (omega arith) (most d))
 
 -- the bound of a list with one more, which lies below the bound too
 pub IsAtMost-push : (xs ys : List Answer) (i : ℕ) (x : Answer) → IsAtMost xs ys i
@@ -62,7 +62,7 @@ IsAtMost-push xs ys i x most one = λ d. All-push (LineAtMost (get_or ys i d).li
 pub IsAtMost-later : (xs ys : List Answer) (i j : ℕ) → Rise ys → i ≤ j → j < length ys → IsAtMost xs ys i → IsAtMost xs ys j
 IsAtMost-later xs ys i j up le lt most =
     λ d. let step : (get_or ys i d).line ≤ (get_or ys j d).line = up i j d le lt in
-      All-weaker (LineAtMost (get_or ys i d).line) (LineAtMost (get_or ys j d).line) (λ a h. omega arith) xs (most d)
+    All-weaker (LineAtMost (get_or ys i d).line) (LineAtMost (get_or ys j d).line) (λ a h. omega arith) xs (most d)
 
 -- the next answer of low goes to the end
 pub Merged-low : (low high all : List Answer) (i j : ℕ) (d : Answer) → Rise low → i < length low → j < length high
@@ -73,15 +73,15 @@ Merged-low low high all i j d up in_low in_high least m = record {
   high_in = m.high_in;
   same = subst (λ l. IsPermutation (l ++ take j high) (all ++ get_or low i d ∷ [])) (sym (take_more low i d in_low))
       (IsPermutation-trans _ _ _ (IsPermutation-swap_ends (take i low) (get_or low i d ∷ []) (take j high))
-        (IsPermutation-append_left (get_or low i d ∷ []) _ _ m.same));
+      (IsPermutation-append_left (get_or low i d ∷ []) _ _ m.same));
   rising = Rise-push all low i d m.rising (m.low_above in_low);
   low_above = λ next. IsAtMost-push all low (i + 1) (get_or low i d)
       (IsAtMost-later all low i (i + 1) up (omega arith) next (m.low_above in_low))
       (λ e. let same : get_or low i d ≡ get_or low i e = get_or_default low i d e in_low in
-        let u : (get_or low i e).line ≤ (get_or low (i + 1) e).line = up i (i + 1) e (omega arith) next in
-        rw same u);
+      let u : (get_or low i e).line ≤ (get_or low (i + 1) e).line = up i (i + 1) e (omega arith) next in
+      rw same u);
   high_above = λ h. IsAtMost-push all high j (get_or low i d) (m.high_above h)
-      (λ e. let same : get_or high j e ≡ get_or high j d = get_or_default high j e d in_high in rw same least)
+      (λ e. let same : get_or high j e ≡ get_or high j d = get_or_default high j e d in_high in rw same least);
 }
 
 -- the next answer of high goes to the end
@@ -93,15 +93,15 @@ Merged-high low high all i j d up in_low in_high least m = record {
   high_in = omega arith;
   same = subst (λ l. IsPermutation (take i low ++ l) (all ++ get_or high j d ∷ [])) (sym (take_more high j d in_high))
       (subst (λ l. IsPermutation l (all ++ get_or high j d ∷ [])) (append_assoc (take i low) (take j high) (get_or high j d ∷ []))
-        (IsPermutation-append_left (get_or high j d ∷ []) _ _ m.same));
+      (IsPermutation-append_left (get_or high j d ∷ []) _ _ m.same));
   rising = Rise-push all high j d m.rising (m.high_above in_high);
   low_above = λ h. IsAtMost-push all low i (get_or high j d) (m.low_above h)
       (λ e. let same : get_or low i e ≡ get_or low i d = get_or_default low i e d in_low in rw same least);
   high_above = λ next. IsAtMost-push all high (j + 1) (get_or high j d)
       (IsAtMost-later all high j (j + 1) up (omega arith) next (m.high_above in_high))
       (λ e. let same : get_or high j d ≡ get_or high j e = get_or_default high j d e in_high in
-        let u : (get_or high j e).line ≤ (get_or high (j + 1) e).line = up j (j + 1) e (omega arith) next in
-        rw same u)
+      let u : (get_or high j e).line ≤ (get_or high (j + 1) e).line = up j (j + 1) e (omega arith) next in
+      rw same u);
 }
 
 -- a list that rises, with one behind it that rises and begins no lower than all of it
@@ -109,15 +109,15 @@ pub Rise-append : (xs ys : List Answer) → Rise xs → Rise ys → (0 < length 
 Rise-append xs ys up_xs up_ys below i j d le lt =
     let long : length (xs ++ ys) ≡ length xs + length ys = length-append xs ys in
     elim (cases_lt j (length xs)) [
-      inl j_left ↦ rw (get_or_append_left xs ys d i (omega arith), get_or_append_left xs ys d j j_left) (up_xs i j d le j_left)
-    | inr j_right ↦ elim (cases_lt i (length xs)) [
-        inl i_left ↦
-          rw (get_or_append_left xs ys d i i_left, get_or-append_right xs ys (length xs) j d refl j_right)
+      | inl j_left ↦ rw (get_or_append_left xs ys d i (omega arith), get_or_append_left xs ys d j j_left) (up_xs i j d le j_left)
+      | inr j_right ↦ elim (cases_lt i (length xs)) [
+        | inl i_left ↦
+            rw (get_or_append_left xs ys d i i_left, get_or-append_right xs ys (length xs) j d refl j_right)
             (let low : (get_or xs i d).line ≤ (get_or ys 0 d).line = All-get_or (LineAtMost (get_or ys 0 d).line) xs i d i_left (below (omega arith) d) in
-             let high : (get_or ys 0 d).line ≤ (get_or ys (j - length xs) d).line = up_ys 0 (j - length xs) d (omega arith) (omega arith) in
-             omega arith)
-      | inr i_right ↦
-          rw (get_or-append_right xs ys (length xs) i d refl i_right, get_or-append_right xs ys (length xs) j d refl j_right)
+            let high : (get_or ys 0 d).line ≤ (get_or ys (j - length xs) d).line = up_ys 0 (j - length xs) d (omega arith) (omega arith) in
+            omega arith)
+        | inr i_right ↦
+            rw (get_or-append_right xs ys (length xs) i d refl i_right, get_or-append_right xs ys (length xs) j d refl j_right)
             (up_ys (i - length xs) (j - length xs) d (omega arith) (omega arith))
       ]
     ]
@@ -132,24 +132,24 @@ pub Merged-all_same : (low high all : List Answer) (i j : ℕ) → Merged low hi
     → IsPermutation (low ++ high) ((all ++ drop i low) ++ drop j high)
 Merged-all_same low high all i j m =
     IsPermutation-trans _ _ _
-      (subst (λ l. IsPermutation l (((take i low ++ take j high) ++ drop i low) ++ drop j high))
-        (append_assoc (take i low ++ drop i low) (take j high) (drop j high)
-          ∙ ap (λ l. l ++ (take j high ++ drop j high)) (take-append-drop i low)
-          ∙ ap (λ l. low ++ l) (take-append-drop j high))
-        (IsPermutation-append_left (drop j high) _ _ (IsPermutation-swap_ends (take i low) (drop i low) (take j high))))
-      (IsPermutation-append_left (drop j high) _ _ (IsPermutation-append_left (drop i low) _ _ m.same))
+    (subst (λ l. IsPermutation l (((take i low ++ take j high) ++ drop i low) ++ drop j high))
+    (append_assoc (take i low ++ drop i low) (take j high) (drop j high)
+    ∙ ap (λ l. l ++ (take j high ++ drop j high)) (take-append-drop i low)
+    ∙ ap (λ l. low ++ l) (take-append-drop j high))
+    (IsPermutation-append_left (drop j high) _ _ (IsPermutation-swap_ends (take i low) (drop i low) (take j high))))
+    (IsPermutation-append_left (drop j high) _ _ (IsPermutation-append_left (drop i low) _ _ m.same))
 
 -- where one of the two is used up, the lines still rise
 pub Merged-all_rise : (low high all : List Answer) (i j : ℕ) → Rise low → Rise high → Merged low high all i j
     → (length low ≤ i) ⊎ (length high ≤ j) → Rise ((all ++ drop i low) ++ drop j high)
 Merged-all_rise low high all i j up_low up_high m (inl used) =
     rw (drop_all i low used, append-nil all)
-      (Rise-append all (drop j high) m.rising (IsNonDecreasingBy-drop line_of j high up_high)
-        (λ h. IsAtMost-drop all high j (m.high_above (omega (arith, length-drop j high)))))
+    (Rise-append all (drop j high) m.rising (IsNonDecreasingBy-drop line_of j high up_high)
+    (λ h. IsAtMost-drop all high j (m.high_above (omega (arith, length-drop j high)))))
 Merged-all_rise low high all i j up_low up_high m (inr used) =
     rw (drop_all j high used, append-nil (all ++ drop i low))
-      (Rise-append all (drop i low) m.rising (IsNonDecreasingBy-drop line_of i low up_low)
-        (λ h. IsAtMost-drop all low i (m.low_above (omega (arith, length-drop i low)))))
+    (Rise-append all (drop i low) m.rising (IsNonDecreasingBy-drop line_of i low up_low)
+    (λ h. IsAtMost-drop all low i (m.low_above (omega (arith, length-drop i low)))))
 
 -- the answers of the two halves of the lanes, merged, are those of all
 pub IsPermutation-halves : {X A : Type 0} (f : X → List A) (n : ℕ) (xs front back : List X) (low high all : List A)
@@ -158,6 +158,6 @@ pub IsPermutation-halves : {X A : Type 0} (f : X → List A) (n : ℕ) (xs front
     → IsPermutation (flat_map f xs) all
 IsPermutation-halves f n xs front back low high all front_is back_is p q r =
     subst (λ l. IsPermutation l all)
-      (sym (flat_map-append f front back)
-        ∙ ap (λ l. flat_map f l) (ap (λ l. l ++ back) front_is ∙ ap (λ l. take n xs ++ l) back_is ∙ take-append-drop n xs))
-      (IsPermutation-trans _ _ _ (IsPermutation-append _ _ _ _ p q) r)
+    (sym (flat_map-append f front back)
+    ∙ ap (λ l. flat_map f l) (ap (λ l. l ++ back) front_is ∙ ap (λ l. take n xs ++ l) back_is ∙ take-append-drop n xs))
+    (IsPermutation-trans _ _ _ (IsPermutation-append _ _ _ _ p q) r)

@@ -45,18 +45,18 @@ all_lane_tasks-push workers lane tasks t here in_range =
     let longer = lane_tasks workers lane tasks ++ t ∷ [] in
     let long : length (set lists lane longer) ≡ workers = length-set lists lane longer ∙ length-all_lane_tasks workers tasks in
     same_lists (set lists lane longer) (all_lane_tasks workers (tasks ++ t ∷ []))
-      (long ∙ sym (length-all_lane_tasks workers (tasks ++ t ∷ [])))
-      (λ k d h. elim (cases_eq k lane) [
-          inl same ↦ rw same
-            (get_or-set_same lists lane longer d (omega (arith, length-all_lane_tasks workers tasks))
-              ∙ sym (lane_tasks-push_here workers lane tasks t here)
-              ∙ sym (get_or-all_lane_tasks workers lane (tasks ++ t ∷ []) d in_range))
-        | inr other ↦
-            get_or-set_other lists lane k longer d other
-            ∙ get_or-all_lane_tasks workers k tasks d (omega arith)
-            ∙ sym (lane_tasks-push_other workers k tasks t (λ e. other (sym e ∙ here)))
-            ∙ sym (get_or-all_lane_tasks workers k (tasks ++ t ∷ []) d (omega arith))
-        ])
+    (long ∙ sym (length-all_lane_tasks workers (tasks ++ t ∷ [])))
+    (λ k d h. elim (cases_eq k lane) [
+      | inl same ↦ rw same
+          (get_or-set_same lists lane longer d (omega (arith, length-all_lane_tasks workers tasks))
+          ∙ sym (lane_tasks-push_here workers lane tasks t here)
+          ∙ sym (get_or-all_lane_tasks workers lane (tasks ++ t ∷ []) d in_range))
+      | inr other ↦
+          get_or-set_other lists lane k longer d other
+          ∙ get_or-all_lane_tasks workers k tasks d (omega arith)
+          ∙ sym (lane_tasks-push_other workers k tasks t (λ e. other (sym e ∙ here)))
+          ∙ sym (get_or-all_lane_tasks workers k (tasks ++ t ∷ []) d (omega arith))
+    ])
 
 -- a loop's step: the lists for the first tasks, with the next task put into its lane
 pub all_lane_tasks-more : (workers lane : ℕ) (lists : List (List Task)) (tasks : List Task) (i : ℕ) (d : Task) (old new : List Task)
@@ -67,7 +67,7 @@ pub all_lane_tasks-more : (workers lane : ℕ) (lists : List (List Task)) (tasks
 all_lane_tasks-more workers lane lists tasks i d old new lists_is h here in_range old_is new_is =
     ap (λ l. set l lane new) lists_is
     ∙ ap (λ l. set (all_lane_tasks workers (take i tasks)) lane l)
-        (new_is ∙ ap (λ l. l ++ get_or tasks i d ∷ [])
-          (old_is ∙ ap (λ l. get_or l lane old) lists_is ∙ get_or-all_lane_tasks workers lane (take i tasks) old in_range))
+    (new_is ∙ ap (λ l. l ++ get_or tasks i d ∷ [])
+    (old_is ∙ ap (λ l. get_or l lane old) lists_is ∙ get_or-all_lane_tasks workers lane (take i tasks) old in_range))
     ∙ all_lane_tasks-push workers lane (take i tasks) (get_or tasks i d) (sym here) in_range
     ∙ ap (λ l. all_lane_tasks workers l) (sym (take_more tasks i d h))

@@ -29,6 +29,12 @@ pub record AreAlone (m : Map) (tasks : List Task) (answers : List Answer) : Type
   pub lines : answer_lines answers ≡ task_lines tasks
   pub replies : replies_in answers ≡ replies m (commands_of tasks)
 
+-- each lane answers its own tasks so, as if it were alone on a map of its own
+pub record AnswerAlone (m : Map) (workers : ℕ) (tasks : List Task) (lanes : List (List Answer)) : Type 0 where
+  pub len : length lanes ≡ workers
+  pub each : (lane : ℕ) (d : List Answer) → lane < workers
+      → AreAlone m (lane_tasks workers lane tasks) (slice_index_or lanes lane d)
+
 -- the answers of all lanes put back in line order: none is added or left out, and the lines rise
 pub record InLineOrder (lanes : List (List Answer)) (all : List Answer) : Type 0 where
   pub same : IsPermutation (flat_map (λ answers. answers) lanes) all

@@ -7,6 +7,7 @@ mod answer_lists;
 mod gates;
 mod gathering;
 mod lanes;
+pub mod laws;
 mod splitting;
 mod task_lists;
 
@@ -16,3 +17,6 @@ pub use gathering::gather;
 pub use lanes::{Lane, run_lanes};
 pub use splitting::{lane_of, split};
 pub use task_lists::{Task, Tasks};
+
+#[cfg(test)]
+mod tests;

@@ -16,9 +16,9 @@ returns g c = record {
         rising = IsStrictlyIncreasing-merged (λ l. l.answers.list) c.args.lanes.now v.items
             (λ k d h. IsStrictlyIncreasing-answers _ _ (c.requires.answers k d h) (c.requires.rising k d h))
             (λ i j d lt h n here there. c.requires.apart i j d lt h n
-              (Contains-answered _ _ n (c.requires.answers i d (omega arith)) here)
-              (Contains-answered _ _ n (c.requires.answers j d h) there))
-            same rising
+            (Contains-answered _ _ n (c.requires.answers i d (omega arith)) here)
+            (Contains-answered _ _ n (c.requires.answers j d h) there))
+            same rising;
       })
-      c.merge_lanes.ensures.same c.merge_lanes.ensures.rising
+      c.merge_lanes.ensures.same c.merge_lanes.ensures.rising;
 }

@@ -15,11 +15,11 @@ loop-i-preserved c = rw c.in_ok-push-2.ensures.items
 pub returns-clause-same : goal.returns-clause-same
 returns-clause-same c =
     rw (c.in_ok-extend_from_slice-2.ensures.items, c.in_ok-extend_from_slice.ensures.items)
-      (rw (take_rest c.args.low.now c.loop-i.i, take_rest c.args.high.now c.loop-i.j) (Merged-all_same _ _ _ _ _ c.loop-i.invariant))
+    (rw (take_rest c.args.low.now c.loop-i.i, take_rest c.args.high.now c.loop-i.j) (Merged-all_same _ _ _ _ _ c.loop-i.invariant))
 
 pub returns-clause-rising : goal.returns-clause-rising
 returns-clause-rising c =
     rw (c.in_ok-extend_from_slice-2.ensures.items, c.in_ok-extend_from_slice.ensures.items)
-      (rw (take_rest c.args.low.now c.loop-i.i, take_rest c.args.high.now c.loop-i.j)
-        (Merged-all_rise _ _ _ _ _ c.requires.low_rising c.requires.high_rising c.loop-i.invariant
-          (elim c.loop-i-test.branch [ then-loop-i-test+else-j-high w ↦ inr (omega arith) | else-loop-i-test w ↦ inl (omega arith) ])))
+    (rw (take_rest c.args.low.now c.loop-i.i, take_rest c.args.high.now c.loop-i.j)
+    (Merged-all_rise _ _ _ _ _ c.requires.low_rising c.requires.high_rising c.loop-i.invariant
+    (elim c.loop-i-test.branch [ then-loop-i-test+else-j-high w ↦ inr (omega arith) | else-loop-i-test w ↦ inl (omega arith) ])))

@@ -17,5 +17,5 @@ loop-index-preserved g c = record {
   answers = rw c.keep.ensures.kept
       (follows_push _ _ _ _ _ _ _ c.loop-index.invariant.answered c.loop-index-test.true refl c.loop-index.invariant.answers);
   replies = rw (c.keep.ensures.kept, c.in-Ok.ensures.recorded, map_push, map_push)
-      (ap (λ z. z ++ c.in-Ok.reply ∷ []) c.loop-index.invariant.replies)
+      (ap (λ z. z ++ c.in-Ok.reply ∷ []) c.loop-index.invariant.replies);
 }

@@ -11,5 +11,5 @@ invariant-loop-index g l = record {
   tie : g.P.Port.tie l.port ≡ g.P.Port.tie l.initial.port;
   calls : CallInOrder l.tasks (g.P.Port.calls l.port);
   answers : AnswerInOrder l.tasks l.answers.list;
-  replies : TellReplies (g.P.Port.calls l.port) l.answers.list
+  replies : TellReplies (g.P.Port.calls l.port) l.answers.list;
 }

@@ -10,5 +10,5 @@ index_mut-requires c = omega (arith, ap length c.loop-task.invariant ∙ length-
 pub loop-task-preserved : goal.loop-task-preserved
 loop-task-preserved c =
     all_lane_tasks-more _ _ _ _ _ _ _ _ c.loop-task.invariant c.loop-task-test.true
-      (c.lane_of-lane.ensures ∙ ap (λ key. key % c.args.workers) c.timestamp_of.ensures) (omega arith)
-      c.index_mut.ensures.value c.in_ok-push.ensures.pushed
+    (c.lane_of-lane.ensures ∙ ap (λ key. key % c.args.workers) c.timestamp_of.ensures) (omega arith)
+    c.index_mut.ensures.value c.in_ok-push.ensures.pushed
