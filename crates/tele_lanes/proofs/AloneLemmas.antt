@@ -1,5 +1,5 @@
 -- What one thread answers, and what the lanes answer alone. Serves the law of lanes.
-use Rattle.std.proofs.Common.{◌≡◌, ◌≢◌, ◌⊎◌, inl, inr, ◌+◌, ◌<◌, ◌≤◌, ◌%◌, ◌==◌, ℕ, zero, suc, Bool, true, false, cond, List, [], ◌∷◌, ◌++◌, length, map, filter, get_or, Option, Some, None, sym, ap, subst, ◌∙◌, refl, arith, nat_lt}
+use Rattle.std.proofs.Common.{◌≡◌, ◌≢◌, inl, inr, ◌+◌, ◌<◌, ◌≤◌, ◌%◌, ◌==◌, ℕ, zero, suc, Bool, true, false, cond, List, [], ◌∷◌, ◌++◌, Some, None, sym, ap, subst, ◌∙◌, refl, arith, nat_lt}
 use Rattle.std.specs.FinMap as fin
 use Rattle.std.specs.List.{flat_map, range_with_len}
 use Rattle.std.specs.List.Sorted.{IsPermutation}
@@ -7,16 +7,14 @@ use Rattle.std.specs.Ordering.{nat_cmp, eq_by_cmp, is_eq}
 use Rattle.std.specs.declared.cmp.Ordering.TheVariants.{Less, Equal, Greater}
 use Rattle.std.specs.Cmp.{nat_cmp_total}
 use Rattle.std.proofs.lemmas.Bool.{cases_eq, eqb-true, eqb-false, ne_eqb, eq-eqb}
-use Rattle.std.proofs.lemmas.List.{same_lists, length-map}
-use Rattle.std.proofs.lemmas.List.FromFn.{get_or-map-range_with_len, length-map-range_with_len}
 use Rattle.std.proofs.lemmas.List.Sorted.{IsPermutation-refl, IsPermutation-trans, IsPermutation-append_right, IsPermutation-cons, IsPermutation-middle}
 use Rattle.ist_core.specs.declared.commands.Command.{Command}
 use Rattle.ist_core.specs.declared.commands.Command.TheVariants.{Put, Remove, Get}
-use Rattle.ist_core.specs.Map.{Map, key_of, map_after, reply_to, replies, replay}
+use Rattle.ist_core.specs.Map.{Map, key_of, map_after, reply_to}
 use Rattle.tele_lanes.specs.declared.task_lists.Task.{Task}
 use Rattle.tele_lanes.specs.declared.answer_lists.Answer.{Answer}
-use Rattle.tele_lanes.specs.Lines.{commands_of, task_lines, answer_lines, replies_in}
-use Rattle.tele_lanes.specs.Lanes.{lane_of, lane_commands, lane_tasks, AreAlone}
+use Rattle.tele_lanes.specs.Lines.{answer_lines, replies_in}
+use Rattle.tele_lanes.specs.Lanes.{lane_of, lane_tasks, AreAlone}
 
 -- less and greater aren't equal
 less_or_greater : (b : Bool) → is_eq (cond b Less Greater) ≡ false

@@ -1,5 +1,5 @@
 -- Lists whose lines rise from each element to all later ones. Serves the laws of lanes.
-use Rattle.std.proofs.Common.{◌≡◌, ◌≢◌, ◌⊎◌, inl, inr, ◌+◌, ◌<◌, ◌≤◌, ◌==◌, ℕ, zero, suc, Bool, true, List, [], ◌∷◌, ◌++◌, length, map, filter, get_or, sym, ap, subst, ◌∙◌, refl, arith, All, AllPairs, Contains}
+use Rattle.std.proofs.Common.{◌≡◌, ◌≢◌, ◌⊎◌, inl, inr, ◌+◌, ◌<◌, ℕ, zero, suc, true, List, [], ◌∷◌, length, map, get_or, sym, ap, subst, ◌∙◌, refl, arith, AllPairs, Contains}
 use Rattle.std.specs.List.Sorted.{IsStrictlyIncreasing}
 use Rattle.std.proofs.lemmas.Bool.{cases_lt, eqb-true}
 use Rattle.std.proofs.lemmas.List.{get_or-map, get_or_default, length-map}
@@ -8,8 +8,8 @@ use Rattle.std.proofs.lemmas.List.Kept.{AllPairs-from_increasing, AllPairs-filte
 use Rattle.ist_core.specs.declared.commands.Command.TheVariants.{Get}
 use Rattle.tele_lanes.specs.declared.task_lists.Task.{Task}
 use Rattle.tele_lanes.specs.Lines.{task_lines, ShareNoLine}
-use Rattle.tele_lanes.specs.Lanes.{lane_of, lane_tasks, all_lane_tasks}
-use Rattle.tele_lanes.proofs.SplitLemmas.{is_in, get_or-all_lane_tasks, length-all_lane_tasks}
+use Rattle.tele_lanes.specs.Lanes.{lane_of, lane_tasks}
+use Rattle.tele_lanes.proofs.SplitLemmas.{is_in}
 use Rattle.tele_lanes.proofs.LineLemmas.{Contains-later}
 
 -- the head or one of the rest

@@ -1,7 +1,7 @@
 -- Lines that rise, and lines of which no two lanes have the same. Serves `gather`.
-use Rattle.std.proofs.Common.{◌≡◌, ◌⊎◌, inl, inr, ◌+◌, ◌<◌, ◌≤◌, ℕ, suc, min, Bool, true, false, List, [], ◌∷◌, ◌++◌, length, map, take, drop, get_or, eqb, None, sym, ap, subst, ◌∙◌, refl, arith, All, AllPairs, Contains}
-use Rattle.std.specs.List.{flat_map, IsDistinct, AllByRecursion}
-use Rattle.std.specs.List.Sorted.{IsPermutation, IsNonDecreasing, IsNonDecreasingBy, IsStrictlyIncreasing}
+use Rattle.std.proofs.Common.{◌≡◌, inl, inr, ◌+◌, ◌<◌, ℕ, suc, min, Bool, true, false, List, [], ◌∷◌, ◌++◌, length, map, take, drop, get_or, eqb, None, sym, ap, subst, ◌∙◌, refl, arith, All, AllPairs, Contains}
+use Rattle.std.specs.List.{flat_map, IsDistinct}
+use Rattle.std.specs.List.Sorted.{IsPermutation, IsNonDecreasing, IsStrictlyIncreasing}
 use Rattle.std.proofs.lemmas.Bool.{ne_eqb, eqb-true, eqb-false, eq-eqb}
 use Rattle.std.proofs.lemmas.List.{get_or-map, get_or-take, length-map, length-take, map-append, take-append-drop}
 use Rattle.std.proofs.lemmas.List.Elements.{All-head, All-tail, All-append, All-from_recursion, recursion_from_All, Contains-get_or, Contains-append_left, Contains-append_cases}
@@ -10,7 +10,7 @@ use Rattle.std.proofs.lemmas.List.Kept.{AllPairs-from_increasing}
 use Rattle.std.proofs.lemmas.Map.Keys.{IsDistinct-head, IsDistinct-tail, IsDistinct-cons, IsDistinct-from_apart, IsDistinct-IsPermutation, IsStrictlyIncreasing-from_distinct}
 use Rattle.tele_lanes.specs.declared.task_lists.Task.{Task}
 use Rattle.tele_lanes.specs.declared.answer_lists.Answer.{Answer}
-use Rattle.tele_lanes.specs.Lines.{task_lines, answer_lines, AnswerInOrder, ShareNoLine}
+use Rattle.tele_lanes.specs.Lines.{task_lines, answer_lines, AnswerInOrder}
 use Rattle.tele_lanes.proofs.MergeLemmas.{line_of, Rise}
 
 -- the first numbers of a list that rises
@@ -125,3 +125,15 @@ IsStrictlyIncreasing-merged f xs all up apart same rise =
 pub flat_map-map : {X A : Type 0} (f : X → List A) (xs : List X) → flat_map (λ l. l) (map f xs) ≡ flat_map f xs
 flat_map-map f [] = refl
 flat_map-map f (x ∷ xs) = ap (λ l. f x ++ l) (flat_map-map f xs)
+
+-- what holds of each image
+pub All-from_map : {X Y : Type 0} (P : Y → Type 0) (f : X → Y) (xs : List X) → All P (map f xs) → All (λ x. P (f x)) xs
+All-from_map P f xs all k d h = subst P (get_or-map f xs k d (f d) h) (all k (f d) (omega (arith, length-map xs f)))
+
+-- what holds of each two images
+pub AllPairs-from_map : {X Y : Type 0} (R : Y → Y → Type 0) (f : X → Y) (xs : List X) → AllPairs R (map f xs)
+    → AllPairs (λ x y. R (f x) (f y)) xs
+AllPairs-from_map R f xs pairs i j d lt h =
+    subst (λ y. R (f (get_or xs i d)) y) (get_or-map f xs j d (f d) h)
+    (subst (λ x. R x (get_or (map f xs) j (f d))) (get_or-map f xs i d (f d) (omega arith))
+    (pairs i j (f d) lt (omega (arith, length-map xs f))))

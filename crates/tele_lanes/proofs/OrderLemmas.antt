@@ -1,5 +1,5 @@
 -- Lists that follow another one in order, grown by one element. Serves the calls and answers of a lane.
-use Rattle.std.proofs.Common.{◌≡◌, ◌+◌, ◌<◌, ℕ, suc, List, [], ◌∷◌, ◌++◌, length, map, take, get_or, Option, Some, slice_get, sym, ap, ◌∙◌, refl, arith}
+use Rattle.std.proofs.Common.{◌≡◌, ◌+◌, ◌<◌, ℕ, suc, List, [], ◌∷◌, ◌++◌, length, map, take, get_or, sym, ap, ◌∙◌, refl, arith}
 use Rattle.std.proofs.lemmas.List.{take-map, map_more, map_push, length_push}
 
 -- one more element of a mapped list
@@ -30,3 +30,11 @@ map_same f (x ∷ xs) (y ∷ ys) long same =
     let head : f y ≡ f x = same 0 x (omega arith) in
     let rest : map f ys ≡ map f xs = map_same f xs ys (omega arith) (λ k d h. same (suc k) d (omega arith)) in
     cc
+
+-- two lists that f and g see as the same, each with one more that they see as the same
+pub map-push_both : {X A Y : Type 0} (f : X → Y) (g : A → Y) (xs longer_xs : List X) (made longer_made : List A) (x : X) (a : A)
+    → longer_xs ≡ xs ++ x ∷ [] → longer_made ≡ made ++ a ∷ [] → f x ≡ g a → map f xs ≡ map g made → map f longer_xs ≡ map g longer_made
+map-push_both f g xs longer_xs made longer_made x a one more same before =
+    ap (λ l. map f l) one ∙ map_push f xs x
+    ∙ ap (λ l. l ++ f x ∷ []) before ∙ ap (λ y. map g made ++ y ∷ []) same
+    ∙ sym (ap (λ l. map g l) more ∙ map_push g made a)

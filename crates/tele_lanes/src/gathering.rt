@@ -17,8 +17,8 @@ use std::alloc::{AllocError, Global};
 /// to the answers times the logarithm of the number of lanes, since it merges the lanes in pairs.
 pub fn gather<P: Port>(alloc: Global, lanes: &[Lane<P>]) -> Result<Vec<Answer>, AllocError>
     requires answers { All (λ l. AnswerInOrder l.tasks l.answers.list) lanes.now }
-    requires rising { All (λ l. IsStrictlyIncreasing (task_lines l.tasks)) lanes.now }
-    requires apart { AllPairs (λ l k. ShareNoLine l.tasks k.tasks) lanes.now }
+    requires rising { All (λ ts. IsStrictlyIncreasing (task_lines ts)) (map (λ l. l.tasks) lanes.now) }
+    requires apart { AllPairs ShareNoLine (map (λ l. l.tasks) lanes.now) }
     ensures gathered { IfOk result (λ v.
         InLineOrder (map (λ l. l.answers.list) lanes.now) v.items) }
 {

@@ -1,7 +1,6 @@
-use Rattle.std.proofs.Common.{◌≡◌, ◌+◌, ◌<◌, ◌≤◌, length, map, None, [], ◌∷◌, ◌++◌, arith, ap, ◌∙◌, refl}
-use Rattle.std.proofs.lemmas.List.{map_push, length_push}
-use Rattle.tele_lanes.proofs.OrderLemmas.{follows_push}
-use Rattle.tele_lanes.specs.Lines.{AnswerInOrder, CallInOrder, TellReplies}
+use Rattle.std.proofs.Common.{◌+◌, arith, ap, ◌∙◌, refl}
+use Rattle.std.proofs.lemmas.List.{length_push}
+use Rattle.tele_lanes.proofs.OrderLemmas.{follows_push, map-push_both}
 use Rattle.tele_lanes.proofs.lanes.call_each.Goals as goal
 
 -- one more call, which was answered: its command and its answer's line are those of the next task
@@ -16,6 +15,5 @@ loop-index-preserved g c = record {
       (follows_push _ _ _ _ _ _ _ c.loop-index.invariant.called c.loop-index-test.true refl c.loop-index.invariant.calls);
   answers = rw c.keep.ensures.kept
       (follows_push _ _ _ _ _ _ _ c.loop-index.invariant.answered c.loop-index-test.true refl c.loop-index.invariant.answers);
-  replies = rw (c.keep.ensures.kept, c.in-Ok.ensures.recorded, map_push, map_push)
-      (ap (λ z. z ++ c.in-Ok.reply ∷ []) c.loop-index.invariant.replies);
+  replies = map-push_both _ _ _ _ _ _ _ _ c.keep.ensures.kept c.in-Ok.ensures.recorded refl c.loop-index.invariant.replies;
 }

@@ -1,4 +1,4 @@
-use Rattle.std.proofs.Common.{sym, subst, refl, ◌∙◌}
+use Rattle.std.proofs.Common.{sym, subst, refl}
 use Rattle.tele_lanes.specs.Lanes.{AreAlone, InLineOrder}
 use Rattle.tele_lanes.proofs.AloneLemmas.{AreAlone-answered, answered-from_AreAlone}
 use Rattle.tele_lanes.proofs.LawLemmas.{InLineOrder-answered, InLineOrder-one, get-replay_lane}
