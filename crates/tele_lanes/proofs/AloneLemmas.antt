@@ -1,5 +1,7 @@
 -- What one thread answers, and what the lanes answer alone. Serves the law of lanes.
-use Rattle.std.proofs.Common.{◌≡◌, ◌≢◌, inl, inr, ◌+◌, ◌<◌, ◌≤◌, ◌%◌, ◌==◌, ℕ, zero, suc, Bool, true, false, cond, List, [], ◌∷◌, ◌++◌, Some, None, sym, ap, subst, ◌∙◌, refl, arith, nat_lt}
+use Rattle.std.proofs.Common.{◌≡◌, ◌≢◌, inl, inr, ◌+◌, ◌<◌, ◌≤◌, ◌%◌, ◌==◌, ℕ, zero, suc, Bool}
+use Rattle.std.proofs.Common.{true, false, cond, List, [], ◌∷◌, ◌++◌, Some, None, sym, ap, subst}
+use Rattle.std.proofs.Common.{◌∙◌, refl, arith, nat_lt}
 use Rattle.std.specs.FinMap as fin
 use Rattle.std.specs.List.{flat_map, range_with_len}
 use Rattle.std.specs.List.Sorted.{IsPermutation}
@@ -7,14 +9,16 @@ use Rattle.std.specs.Ordering.{nat_cmp, eq_by_cmp, is_eq}
 use Rattle.std.specs.declared.cmp.Ordering.TheVariants.{Less, Equal, Greater}
 use Rattle.std.specs.Cmp.{nat_cmp_total}
 use Rattle.std.proofs.lemmas.Bool.{cases_eq, eqb-true, eqb-false, ne_eqb, eq-eqb}
-use Rattle.std.proofs.lemmas.List.Sorted.{IsPermutation-refl, IsPermutation-trans, IsPermutation-append_right, IsPermutation-cons, IsPermutation-middle}
+use Rattle.std.proofs.lemmas.List.Sorted.{IsPermutation-refl, IsPermutation-trans}
+use Rattle.std.proofs.lemmas.List.Sorted.{IsPermutation-append_right, IsPermutation-cons}
+use Rattle.std.proofs.lemmas.List.Sorted.{IsPermutation-middle}
 use Rattle.ist_core.specs.declared.commands.Command.{Command}
 use Rattle.ist_core.specs.declared.commands.Command.TheVariants.{Put, Remove, Get}
 use Rattle.ist_core.specs.Map.{Map, key_of, map_after, reply_to}
 use Rattle.tele_lanes.specs.declared.task_lists.Task.{Task}
 use Rattle.tele_lanes.specs.declared.answer_lists.Answer.{Answer}
 use Rattle.tele_lanes.specs.Lines.{answer_lines, replies_in}
-use Rattle.tele_lanes.specs.Lanes.{lane_of, lane_tasks, AreAlone}
+use Rattle.tele_lanes.specs.Lanes.{lane_of, lane_tasks, ArePlainAnswers}
 
 -- less and greater aren't equal
 less_or_greater : (b : Bool) → is_eq (cond b Less Greater) ≡ false
@@ -38,7 +42,8 @@ get-map_after_same m n (Remove key) q same =
 get-map_after_same m n (Get key) q same = same
 
 -- a command leaves the other keys
-pub get-map_after_other : (m : Map) (c : Command) (q : ℕ) → q ≢ key_of c → fin.get (map_after m c) q ≡ fin.get m q
+pub get-map_after_other : (m : Map) (c : Command) (q : ℕ) → q ≢ key_of c
+    → fin.get (map_after m c) q ≡ fin.get m q
 get-map_after_other m (Put key value) q other =
     fin.get-insert nat_cmp_total m key value q ∙ ap (λ b. cond b (Some value) (fin.get m q)) (eq_by_cmp-differ q key other)
 get-map_after_other m (Remove key) q other =
@@ -50,14 +55,17 @@ abbrev pub answered : Map → List Task → List Answer
 answered m [] = []
 answered m (t ∷ ts) = record { line = t.line; reply = reply_to m t.command } ∷ answered (map_after m t.command) ts
 
-pub AreAlone-answered : (m : Map) (tasks : List Task) → AreAlone m tasks (answered m tasks)
-AreAlone-answered m [] = record { lines = refl; replies = refl }
-AreAlone-answered m (t ∷ ts) =
-    let rest : AreAlone (map_after m t.command) ts (answered (map_after m t.command) ts) = AreAlone-answered (map_after m t.command) ts in
+-- it is what one thread answers, by the definition of the law
+pub ArePlainAnswers-answered : (m : Map) (tasks : List Task)
+    → ArePlainAnswers m tasks (answered m tasks)
+ArePlainAnswers-answered m [] = record { lines = refl; replies = refl }
+ArePlainAnswers-answered m (t ∷ ts) =
+    let rest : ArePlainAnswers (map_after m t.command) ts (answered (map_after m t.command) ts) = ArePlainAnswers-answered (map_after m t.command) ts in
     record { lines = ap (λ l. t.line ∷ l) rest.lines; replies = ap (λ l. reply_to m t.command ∷ l) rest.replies }
 
 -- answers are known by their lines and their replies
-pub same_answers : (xs ys : List Answer) → answer_lines xs ≡ answer_lines ys → replies_in xs ≡ replies_in ys → xs ≡ ys
+pub same_answers : (xs ys : List Answer) → answer_lines xs ≡ answer_lines ys
+    → replies_in xs ≡ replies_in ys → xs ≡ ys
 same_answers [] [] e f = refl
 same_answers [] (y ∷ ys) e f = cc
 same_answers (x ∷ xs) [] e f = cc
@@ -71,9 +79,10 @@ same_answers (x ∷ xs) (y ∷ ys) e f =
     cc
 
 -- one thread answers in one way
-pub answered-from_AreAlone : (m : Map) (tasks : List Task) (all : List Answer) → AreAlone m tasks all → all ≡ answered m tasks
-answered-from_AreAlone m tasks all alone =
-    let own : AreAlone m tasks (answered m tasks) = AreAlone-answered m tasks in
+pub answered-from_ArePlainAnswers : (m : Map) (tasks : List Task) (all : List Answer)
+    → ArePlainAnswers m tasks all → all ≡ answered m tasks
+answered-from_ArePlainAnswers m tasks all alone =
+    let own : ArePlainAnswers m tasks (answered m tasks) = ArePlainAnswers-answered m tasks in
     same_answers all (answered m tasks) (alone.lines ∙ sym own.lines) (alone.replies ∙ sym own.replies)
 
 -- the answers for one lane among those of one thread to all tasks
@@ -121,7 +130,8 @@ flat_map-same f g from (suc n) same =
     cc
 
 -- one more element in one list of a range
-pub flat_map-more : {A : Type 0} (f g : ℕ → List A) (a : A) (at from n : ℕ) → from ≤ at → at < from + n
+pub flat_map-more : {A : Type 0} (f g : ℕ → List A) (a : A) (at from n : ℕ) → from ≤ at
+    → at < from + n
     → f at ≡ a ∷ g at → ((w : ℕ) → w ≢ at → f w ≡ g w)
     → IsPermutation (flat_map f (range_with_len from n)) (a ∷ flat_map g (range_with_len from n))
 flat_map-more f g a at from zero low high here other = absurd (omega arith)

@@ -1,9 +1,12 @@
 -- Lists whose lines rise from each element to all later ones. Serves the laws of lanes.
-use Rattle.std.proofs.Common.{◌≡◌, ◌≢◌, ◌⊎◌, inl, inr, ◌+◌, ◌<◌, ℕ, zero, suc, true, List, [], ◌∷◌, length, map, get_or, sym, ap, subst, ◌∙◌, refl, arith, AllPairs, Contains}
+use Rattle.std.proofs.Common.{◌≡◌, ◌≢◌, ◌⊎◌, inl, inr, ◌+◌, ◌<◌, ℕ, zero, suc, true, List, [], ◌∷◌}
+use Rattle.std.proofs.Common.{length, map, get_or, sym, ap, subst, ◌∙◌, refl, arith, AllPairs}
+use Rattle.std.proofs.Common.{Contains}
 use Rattle.std.specs.List.Sorted.{IsStrictlyIncreasing}
 use Rattle.std.proofs.lemmas.Bool.{cases_lt, eqb-true}
 use Rattle.std.proofs.lemmas.List.{get_or-map, get_or_default, length-map}
-use Rattle.std.proofs.lemmas.List.Elements.{All-contains, All-filter, All-contains_itself, filter_passes, Contains-get_or}
+use Rattle.std.proofs.lemmas.List.Elements.{All-contains, All-filter, All-contains_itself}
+use Rattle.std.proofs.lemmas.List.Elements.{filter_passes, Contains-get_or}
 use Rattle.std.proofs.lemmas.List.Kept.{AllPairs-from_increasing, AllPairs-filter}
 use Rattle.ist_core.specs.declared.commands.Command.TheVariants.{Get}
 use Rattle.tele_lanes.specs.declared.task_lists.Task.{Task}
@@ -13,7 +16,8 @@ use Rattle.tele_lanes.proofs.SplitLemmas.{is_in}
 use Rattle.tele_lanes.proofs.LineLemmas.{Contains-later}
 
 -- the head or one of the rest
-pub Contains-cons_cases : {X : Type 0} (y : X) (ys : List X) (x : X) → Contains (y ∷ ys) x → (y ≡ x) ⊎ Contains ys x
+pub Contains-cons_cases : {X : Type 0} (y : X) (ys : List X) (x : X) → Contains (y ∷ ys) x
+    → (y ≡ x) ⊎ Contains ys x
 Contains-cons_cases y ys x (zero, h, e) = inl e
 Contains-cons_cases y ys x (suc k, h, e) = inr (k, omega arith, e)
 
@@ -22,6 +26,7 @@ module _ {X : Type 0} (n : X → ℕ) where
   abbrev pub Climb : List X → Type 0
   Climb xs = AllPairs (λ a b. n a < n b) xs
 
+  -- numbers that rise from one to the next rise to all later ones
   pub Climb-from_increasing : (xs : List X) → IsStrictlyIncreasing (map n xs) → Climb xs
   Climb-from_increasing xs up i j d lt h =
       let less : get_or (map n xs) i 0 < get_or (map n xs) j 0
@@ -30,19 +35,24 @@ module _ {X : Type 0} (n : X → ℕ) where
       let high : get_or (map n xs) j 0 ≡ n (get_or xs j d) = get_or-map n xs j d 0 h in
       omega arith
 
-  pub IsStrictlyIncreasing-from_Climb : (d : X) (xs : List X) → Climb xs → IsStrictlyIncreasing (map n xs)
+  -- and the other way
+  pub IsStrictlyIncreasing-from_Climb : (d : X) (xs : List X) → Climb xs
+      → IsStrictlyIncreasing (map n xs)
   IsStrictlyIncreasing-from_Climb d xs up k h =
       let h' : k + 1 < length xs = omega (arith, length-map xs n) in
       rw (get_or-map n xs k d 0 (omega arith), get_or-map n xs (k + 1) d 0 h') (up k (k + 1) d (omega arith) h')
 
+  -- the rest climbs
   pub Climb-tail : (x : X) (xs : List X) → Climb (x ∷ xs) → Climb xs
   Climb-tail x xs up i j d lt h = up (suc i) (suc j) d (omega arith) (omega arith)
 
+  -- the head lies below all of the rest
   pub Climb-head : (x : X) (xs : List X) (a : X) → Climb (x ∷ xs) → Contains xs a → n x < n a
   Climb-head x xs a up (k, h, e) = subst (λ b. n x < n b) e (up 0 (suc k) a (omega arith) (omega arith))
 
   -- elements with the same number are the same
-  pub same_element : (xs : List X) (a b : X) → Climb xs → Contains xs a → Contains xs b → n a ≡ n b → a ≡ b
+  pub same_element : (xs : List X) (a b : X) → Climb xs → Contains xs a → Contains xs b → n a ≡ n b
+      → a ≡ b
   same_element xs a b up (i, hi, ei) (j, hj, ej) same =
       elim (cases_lt i j) [
         | inl lt ↦
@@ -64,7 +74,8 @@ module _ {X : Type 0} (n : X → ℕ) where
 
   -- what the rest of two lists have, where their heads are the same
   pub rest_members : (x y : X) (xs ys : List X) → x ≡ y → Climb (x ∷ xs)
-      → ((a : X) → Contains (x ∷ xs) a → Contains (y ∷ ys) a) → (a : X) → Contains xs a → Contains ys a
+      → ((a : X) → Contains (x ∷ xs) a → Contains (y ∷ ys) a) → (a : X) → Contains xs a
+      → Contains ys a
   rest_members x y xs ys same up to a c =
       elim (Contains-cons_cases y ys a (to a (Contains-later x xs a c))) [
         | inl e ↦
@@ -75,7 +86,8 @@ module _ {X : Type 0} (n : X → ℕ) where
       ]
 
   -- lists that climb and have the same elements are the same
-  pub same_climbing : (xs ys : List X) → Climb xs → Climb ys → ((a : X) → Contains xs a → Contains ys a)
+  pub same_climbing : (xs ys : List X) → Climb xs → Climb ys
+      → ((a : X) → Contains xs a → Contains ys a)
       → ((a : X) → Contains ys a → Contains xs a) → xs ≡ ys
   same_climbing [] [] up_xs up_ys to back = refl
   same_climbing [] (y ∷ ys) up_xs up_ys to back = absurd (nowhere (back y (0, omega arith, refl)))
@@ -112,7 +124,9 @@ pub record Chosen (workers lane : ℕ) (tasks : List Task) (line : ℕ) : Type 0
   pub member : Contains tasks task
   pub lane_is : lane_of workers task.command ≡ lane
 
-pub Chosen-from_lane : (workers lane : ℕ) (tasks : List Task) (line : ℕ) → Contains (task_lines (lane_tasks workers lane tasks)) line
+-- a line of a lane is that of a task of the lane
+pub Chosen-from_lane : (workers lane : ℕ) (tasks : List Task) (line : ℕ)
+    → Contains (task_lines (lane_tasks workers lane tasks)) line
     → Chosen workers lane tasks line
 Chosen-from_lane workers lane tasks line (k, h, e) =
     let d : Task = record { line = 0; command = Get 0 } in
@@ -128,7 +142,8 @@ Chosen-from_lane workers lane tasks line (k, h, e) =
     }
 
 -- two lanes have no line in common
-pub lane_tasks-apart : (workers i j : ℕ) (tasks : List Task) → IsStrictlyIncreasing (task_lines tasks) → i ≢ j
+pub lane_tasks-apart : (workers i j : ℕ) (tasks : List Task)
+    → IsStrictlyIncreasing (task_lines tasks) → i ≢ j
     → ShareNoLine (lane_tasks workers i tasks) (lane_tasks workers j tasks)
 lane_tasks-apart workers i j tasks up differ line here there =
     let one = Chosen-from_lane workers i tasks line here in
@@ -138,7 +153,8 @@ lane_tasks-apart workers i j tasks up differ line here there =
     differ (sym one.lane_is ∙ ap (λ t. lane_of workers t.command) same ∙ two.lane_is)
 
 -- the lines of a lane rise
-pub lane_tasks-rising : (workers lane : ℕ) (tasks : List Task) → IsStrictlyIncreasing (task_lines tasks)
+pub lane_tasks-rising : (workers lane : ℕ) (tasks : List Task)
+    → IsStrictlyIncreasing (task_lines tasks)
     → IsStrictlyIncreasing (task_lines (lane_tasks workers lane tasks))
 lane_tasks-rising workers lane tasks up =
     IsStrictlyIncreasing-from_Climb line_of (record { line = 0; command = Get 0 }) (lane_tasks workers lane tasks)

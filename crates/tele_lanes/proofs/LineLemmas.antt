@@ -1,32 +1,42 @@
 -- Lines that rise, and lines of which no two lanes have the same. Serves `gather`.
-use Rattle.std.proofs.Common.{◌≡◌, inl, inr, ◌+◌, ◌<◌, ℕ, suc, min, Bool, true, false, List, [], ◌∷◌, ◌++◌, length, map, take, drop, get_or, eqb, None, sym, ap, subst, ◌∙◌, refl, arith, All, AllPairs, Contains}
+use Rattle.std.proofs.Common.{◌≡◌, inl, inr, ◌+◌, ◌<◌, ℕ, suc, min, Bool, true, false, List, []}
+use Rattle.std.proofs.Common.{◌∷◌, ◌++◌, length, map, take, drop, get_or, eqb, None, sym, ap, subst}
+use Rattle.std.proofs.Common.{◌∙◌, refl, arith, All, AllPairs, Contains}
 use Rattle.std.specs.List.{flat_map, IsDistinct}
 use Rattle.std.specs.List.Sorted.{IsPermutation, IsNonDecreasing, IsStrictlyIncreasing}
 use Rattle.std.proofs.lemmas.Bool.{ne_eqb, eqb-true, eqb-false, eq-eqb}
-use Rattle.std.proofs.lemmas.List.{get_or-map, get_or-take, length-map, length-take, map-append, take-append-drop}
-use Rattle.std.proofs.lemmas.List.Elements.{All-head, All-tail, All-append, All-from_recursion, recursion_from_All, Contains-get_or, Contains-append_left, Contains-append_cases}
+use Rattle.std.proofs.lemmas.List.{get_or-map, get_or-take, length-map, length-take, map-append}
+use Rattle.std.proofs.lemmas.List.{take-append-drop}
+use Rattle.std.proofs.lemmas.List.Elements.{All-head, All-tail, All-append, All-from_recursion}
+use Rattle.std.proofs.lemmas.List.Elements.{recursion_from_All, Contains-get_or}
+use Rattle.std.proofs.lemmas.List.Elements.{Contains-append_left, Contains-append_cases}
 use Rattle.std.proofs.lemmas.List.Sorted.{IsNonDecreasingBy-from_all_adjacent, IsPermutation-map}
 use Rattle.std.proofs.lemmas.List.Kept.{AllPairs-from_increasing}
-use Rattle.std.proofs.lemmas.Map.Keys.{IsDistinct-head, IsDistinct-tail, IsDistinct-cons, IsDistinct-from_apart, IsDistinct-IsPermutation, IsStrictlyIncreasing-from_distinct}
+use Rattle.std.proofs.lemmas.Map.Keys.{IsDistinct-head, IsDistinct-tail, IsDistinct-cons}
+use Rattle.std.proofs.lemmas.Map.Keys.{IsDistinct-from_apart, IsDistinct-IsPermutation}
+use Rattle.std.proofs.lemmas.Map.Keys.{IsStrictlyIncreasing-from_distinct}
 use Rattle.tele_lanes.specs.declared.task_lists.Task.{Task}
 use Rattle.tele_lanes.specs.declared.answer_lists.Answer.{Answer}
 use Rattle.tele_lanes.specs.Lines.{task_lines, answer_lines, AnswerInOrder}
 use Rattle.tele_lanes.proofs.MergeLemmas.{line_of, Rise}
 
 -- the first numbers of a list that rises
-pub IsStrictlyIncreasing-take : (n : ℕ) (xs : List ℕ) → IsStrictlyIncreasing xs → IsStrictlyIncreasing (take n xs)
+pub IsStrictlyIncreasing-take : (n : ℕ) (xs : List ℕ) → IsStrictlyIncreasing xs
+    → IsStrictlyIncreasing (take n xs)
 IsStrictlyIncreasing-take n xs up k h =
     let long : length (take n xs) ≡ min n (length xs) = length-take n xs in
     rw (get_or-take n xs k 0 (omega arith), get_or-take n xs (k + 1) 0 (omega arith)) (up k (omega arith))
 
 -- answers to the first of some tasks that rise, rise
-pub IsStrictlyIncreasing-answers : (tasks : List Task) (answers : List Answer) → AnswerInOrder tasks answers
+pub IsStrictlyIncreasing-answers : (tasks : List Task) (answers : List Answer)
+    → AnswerInOrder tasks answers
     → IsStrictlyIncreasing (task_lines tasks) → IsStrictlyIncreasing (answer_lines answers)
 IsStrictlyIncreasing-answers tasks answers first up =
     subst IsStrictlyIncreasing (sym first) (IsStrictlyIncreasing-take (length answers) (task_lines tasks) up)
 
 -- answers whose lines rise
-pub Rise-from_increasing : (answers : List Answer) → IsStrictlyIncreasing (answer_lines answers) → Rise answers
+pub Rise-from_increasing : (answers : List Answer) → IsStrictlyIncreasing (answer_lines answers)
+    → Rise answers
 Rise-from_increasing answers up =
     IsNonDecreasingBy-from_all_adjacent line_of answers (λ k d h.
     let one : get_or (answer_lines answers) k 0 ≡ line_of (get_or answers k d) = get_or-map line_of answers k d 0 (omega arith) in
@@ -37,7 +47,8 @@ Rise-from_increasing answers up =
     omega arith)
 
 -- the lines of answers that rise
-pub IsNonDecreasing-answer_lines : (answers : List Answer) → Rise answers → IsNonDecreasing (answer_lines answers)
+pub IsNonDecreasing-answer_lines : (answers : List Answer) → Rise answers
+    → IsNonDecreasing (answer_lines answers)
 IsNonDecreasing-answer_lines answers up i j d le lt =
     let none : Answer = record { line = 0; reply = None } in
     let lt' : j < length answers = omega (arith, length-map answers line_of) in
@@ -48,11 +59,13 @@ abbrev pub Apart : List ℕ → List ℕ → Type 0
 Apart xs ys = (x : ℕ) → Contains xs x → ¬ (Contains ys x)
 
 -- an element of the rest
-pub Contains-later : {X : Type 0} (y : X) (xs : List X) (x : X) → Contains xs x → Contains (y ∷ xs) x
+pub Contains-later : {X : Type 0} (y : X) (xs : List X) (x : X) → Contains xs x
+    → Contains (y ∷ xs) x
 Contains-later y xs x (k, h, e) = (suc k, omega arith, e)
 
 -- one list behind another, each without repetition, and apart
-pub IsDistinct-append : (xs ys : List ℕ) → IsDistinct eqb xs → IsDistinct eqb ys → Apart xs ys → IsDistinct eqb (xs ++ ys)
+pub IsDistinct-append : (xs ys : List ℕ) → IsDistinct eqb xs → IsDistinct eqb ys → Apart xs ys
+    → IsDistinct eqb (xs ++ ys)
 IsDistinct-append [] ys one two apart = two
 IsDistinct-append (x ∷ xs) ys one two apart =
     let P = λ (y : ℕ). eqb x y ≡ false in
@@ -69,7 +82,8 @@ IsDistinct-from_increasing xs up = IsDistinct-from_apart eqb xs (λ i j d lt h.
 
 module _ {X : Type 0} (f : X → List ℕ) where
   -- a list apart from each is apart from all together
-  pub Apart-flat_map : (l : List ℕ) (xs : List X) → All (λ x. Apart l (f x)) xs → Apart l (flat_map f xs)
+  pub Apart-flat_map : (l : List ℕ) (xs : List X) → All (λ x. Apart l (f x)) xs
+      → Apart l (flat_map f xs)
   Apart-flat_map l [] each n here (k, h, e) = absurd (omega arith)
   Apart-flat_map l (x ∷ xs) each n here there =
       elim (Contains-append_cases (f x) (flat_map f xs) n there) [
@@ -78,7 +92,8 @@ module _ {X : Type 0} (f : X → List ℕ) where
       ]
 
   -- lists that rise, and are apart, are distinct together
-  pub IsDistinct-flat_map : (xs : List X) → All (λ x. IsStrictlyIncreasing (f x)) xs → AllPairs (λ x y. Apart (f x) (f y)) xs
+  pub IsDistinct-flat_map : (xs : List X) → All (λ x. IsStrictlyIncreasing (f x)) xs
+      → AllPairs (λ x y. Apart (f x) (f y)) xs
       → IsDistinct eqb (flat_map f xs)
   IsDistinct-flat_map [] up apart = IsDistinct-from_increasing [] (λ k h. absurd (omega arith))
   IsDistinct-flat_map (x ∷ xs) up apart =
@@ -89,12 +104,14 @@ module _ {X : Type 0} (f : X → List ℕ) where
       (Apart-flat_map (f x) xs (λ k d h. apart 0 (suc k) d (omega arith) (omega arith)))
 
 -- a map over lists put one behind another
-pub map-flat_map : {X A B : Type 0} (g : A → B) (f : X → List A) (xs : List X) → map g (flat_map f xs) ≡ flat_map (λ x. map g (f x)) xs
+pub map-flat_map : {X A B : Type 0} (g : A → B) (f : X → List A) (xs : List X)
+    → map g (flat_map f xs) ≡ flat_map (λ x. map g (f x)) xs
 map-flat_map g f [] = refl
 map-flat_map g f (x ∷ xs) = map-append g (f x) (flat_map f xs) ∙ ap (λ l. map g (f x) ++ l) (map-flat_map g f xs)
 
 -- an answered line is the line of a task
-pub Contains-answered : (tasks : List Task) (answers : List Answer) (n : ℕ) → AnswerInOrder tasks answers
+pub Contains-answered : (tasks : List Task) (answers : List Answer) (n : ℕ)
+    → AnswerInOrder tasks answers
     → Contains (answer_lines answers) n → Contains (task_lines tasks) n
 Contains-answered tasks answers n first c =
     subst (λ l. Contains l n) (take-append-drop (length answers) (task_lines tasks))
@@ -122,16 +139,19 @@ IsStrictlyIncreasing-merged f xs all up apart same rise =
     (IsDistinct-flat_map (λ x. answer_lines (f x)) xs up apart)))
 
 -- a map before a flat_map
-pub flat_map-map : {X A : Type 0} (f : X → List A) (xs : List X) → flat_map (λ l. l) (map f xs) ≡ flat_map f xs
+pub flat_map-map : {X A : Type 0} (f : X → List A) (xs : List X)
+    → flat_map (λ l. l) (map f xs) ≡ flat_map f xs
 flat_map-map f [] = refl
 flat_map-map f (x ∷ xs) = ap (λ l. f x ++ l) (flat_map-map f xs)
 
 -- what holds of each image
-pub All-from_map : {X Y : Type 0} (P : Y → Type 0) (f : X → Y) (xs : List X) → All P (map f xs) → All (λ x. P (f x)) xs
+pub All-from_map : {X Y : Type 0} (P : Y → Type 0) (f : X → Y) (xs : List X) → All P (map f xs)
+    → All (λ x. P (f x)) xs
 All-from_map P f xs all k d h = subst P (get_or-map f xs k d (f d) h) (all k (f d) (omega (arith, length-map xs f)))
 
 -- what holds of each two images
-pub AllPairs-from_map : {X Y : Type 0} (R : Y → Y → Type 0) (f : X → Y) (xs : List X) → AllPairs R (map f xs)
+pub AllPairs-from_map : {X Y : Type 0} (R : Y → Y → Type 0) (f : X → Y) (xs : List X)
+    → AllPairs R (map f xs)
     → AllPairs (λ x y. R (f x) (f y)) xs
 AllPairs-from_map R f xs pairs i j d lt h =
     subst (λ y. R (f (get_or xs i d)) y) (get_or-map f xs j d (f d) h)

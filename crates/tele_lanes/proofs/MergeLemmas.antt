@@ -1,12 +1,19 @@
 -- Merging two lists of answers that rise by line. Serves `merge`, `merge_lanes` and `gather`.
-use Rattle.std.proofs.Common.{◌≡◌, ◌⊎◌, inl, inr, ◌+◌, ◌-◌, ◌<◌, ◌≤◌, ℕ, List, [], ◌∷◌, ◌++◌, length, take, drop, get_or, sym, ap, subst, ◌∙◌, refl, arith, All, Result, Ok, Err, IfOk}
+use Rattle.std.proofs.Common.{◌≡◌, ◌⊎◌, inl, inr, ◌+◌, ◌-◌, ◌<◌, ◌≤◌, ℕ, List, [], ◌∷◌, ◌++◌}
+use Rattle.std.proofs.Common.{length, take, drop, get_or, sym, ap, subst, ◌∙◌, refl, arith, All}
+use Rattle.std.proofs.Common.{Result, Ok, Err, IfOk}
 use Rattle.std.specs.List.{flat_map}
 use Rattle.std.specs.List.Sorted.{IsPermutation, IsNonDecreasingBy}
 use Rattle.std.proofs.lemmas.Bool.{cases_lt}
-use Rattle.std.proofs.lemmas.List.{take_more, get_or_default, append_assoc, length-append, length-drop, get_or_append_left, get_or-append_right, get_or-drop, drop_all, append-nil, take-append-drop}
+use Rattle.std.proofs.lemmas.List.{take_more, get_or_default, append_assoc, length-append}
+use Rattle.std.proofs.lemmas.List.{length-drop, get_or_append_left, get_or-append_right}
+use Rattle.std.proofs.lemmas.List.{get_or-drop, drop_all, append-nil, take-append-drop}
 use Rattle.std.proofs.lemmas.List.Concat.{flat_map-append}
 use Rattle.std.proofs.lemmas.List.Elements.{All-push, All-weaker, All-get_or}
-use Rattle.std.proofs.lemmas.List.Sorted.{IsPermutation-trans, IsPermutation-append_left, IsPermutation-append_right, IsPermutation-append_comm, IsPermutation-append, IsNonDecreasingBy-push, IsNonDecreasingBy-drop}
+use Rattle.std.proofs.lemmas.List.Sorted.{IsPermutation-trans, IsPermutation-append_left}
+use Rattle.std.proofs.lemmas.List.Sorted.{IsPermutation-append_right, IsPermutation-append_comm}
+use Rattle.std.proofs.lemmas.List.Sorted.{IsPermutation-append, IsNonDecreasingBy-push}
+use Rattle.std.proofs.lemmas.List.Sorted.{IsNonDecreasingBy-drop}
 use Rattle.tele_lanes.specs.declared.answer_lists.Answer.{Answer}
 
 -- what holds of a value on two counts
@@ -16,7 +23,8 @@ IfOk-both (Ok x) P Q R both p q = both x p q
 IfOk-both (Err e) P Q R both p q = tt
 
 -- the middle and the end of a list change places
-pub IsPermutation-swap_ends : {X : Type 0} (xs ys zs : List X) → IsPermutation ((xs ++ ys) ++ zs) ((xs ++ zs) ++ ys)
+pub IsPermutation-swap_ends : {X : Type 0} (xs ys zs : List X)
+    → IsPermutation ((xs ++ ys) ++ zs) ((xs ++ zs) ++ ys)
 IsPermutation-swap_ends xs ys zs =
     subst (λ l. IsPermutation ((xs ++ ys) ++ zs) l) (sym (append_assoc xs zs ys))
     (subst (λ l. IsPermutation l (xs ++ (zs ++ ys))) (sym (append_assoc xs ys zs))
@@ -38,7 +46,8 @@ LineAtMost n a = a.line ≤ n
 abbrev pub IsAtMost : List Answer → List Answer → ℕ → Type 0
 IsAtMost xs ys i = (d : Answer) → All (LineAtMost (get_or ys i d).line) xs
 
--- the first i answers of low and the first j of high stand in all, which rises, and what is left lies above
+-- the first i answers of low and the first j of high stand in all, which rises, and what is left
+-- lies above
 pub record Merged (low high all : List Answer) (i j : ℕ) : Type 0 where
   pub low_in : i ≤ length low
   pub high_in : j ≤ length high
@@ -48,7 +57,8 @@ pub record Merged (low high all : List Answer) (i j : ℕ) : Type 0 where
   pub high_above : j < length high → IsAtMost all high j
 
 -- one more at the end, no lower than all before it
-pub Rise-push : (xs ys : List Answer) (i : ℕ) (d : Answer) → Rise xs → IsAtMost xs ys i → Rise (xs ++ get_or ys i d ∷ [])
+pub Rise-push : (xs ys : List Answer) (i : ℕ) (d : Answer) → Rise xs → IsAtMost xs ys i
+    → Rise (xs ++ get_or ys i d ∷ [])
 Rise-push xs ys i d up most =
     IsNonDecreasingBy-push line_of xs (get_or ys i d) up
     (λ e h. All-get_or (LineAtMost (get_or ys i d).line) xs (length xs - 1) e (omega arith) (most d))
@@ -59,13 +69,15 @@ pub IsAtMost-push : (xs ys : List Answer) (i : ℕ) (x : Answer) → IsAtMost xs
 IsAtMost-push xs ys i x most one = λ d. All-push (LineAtMost (get_or ys i d).line) xs x (most d) (one d)
 
 -- the bound at a later answer of a list that rises
-pub IsAtMost-later : (xs ys : List Answer) (i j : ℕ) → Rise ys → i ≤ j → j < length ys → IsAtMost xs ys i → IsAtMost xs ys j
+pub IsAtMost-later : (xs ys : List Answer) (i j : ℕ) → Rise ys → i ≤ j → j < length ys
+    → IsAtMost xs ys i → IsAtMost xs ys j
 IsAtMost-later xs ys i j up le lt most =
     λ d. let step : (get_or ys i d).line ≤ (get_or ys j d).line = up i j d le lt in
     All-weaker (LineAtMost (get_or ys i d).line) (LineAtMost (get_or ys j d).line) (λ a h. omega arith) xs (most d)
 
 -- the next answer of low goes to the end
-pub Merged-low : (low high all : List Answer) (i j : ℕ) (d : Answer) → Rise low → i < length low → j < length high
+pub Merged-low : (low high all : List Answer) (i j : ℕ) (d : Answer) → Rise low → i < length low
+    → j < length high
     → (get_or low i d).line ≤ (get_or high j d).line
     → Merged low high all i j → Merged low high (all ++ get_or low i d ∷ []) (i + 1) j
 Merged-low low high all i j d up in_low in_high least m = record {
@@ -85,7 +97,8 @@ Merged-low low high all i j d up in_low in_high least m = record {
 }
 
 -- the next answer of high goes to the end
-pub Merged-high : (low high all : List Answer) (i j : ℕ) (d : Answer) → Rise high → i < length low → j < length high
+pub Merged-high : (low high all : List Answer) (i j : ℕ) (d : Answer) → Rise high → i < length low
+    → j < length high
     → (get_or high j d).line ≤ (get_or low i d).line
     → Merged low high all i j → Merged low high (all ++ get_or high j d ∷ []) i (j + 1)
 Merged-high low high all i j d up in_low in_high least m = record {
@@ -105,7 +118,8 @@ Merged-high low high all i j d up in_low in_high least m = record {
 }
 
 -- a list that rises, with one behind it that rises and begins no lower than all of it
-pub Rise-append : (xs ys : List Answer) → Rise xs → Rise ys → (0 < length ys → IsAtMost xs ys 0) → Rise (xs ++ ys)
+pub Rise-append : (xs ys : List Answer) → Rise xs → Rise ys → (0 < length ys → IsAtMost xs ys 0)
+    → Rise (xs ++ ys)
 Rise-append xs ys up_xs up_ys below i j d le lt =
     let long : length (xs ++ ys) ≡ length xs + length ys = length-append xs ys in
     elim (cases_lt j (length xs)) [
@@ -140,7 +154,8 @@ Merged-all_same low high all i j m =
     (IsPermutation-append_left (drop j high) _ _ (IsPermutation-append_left (drop i low) _ _ m.same))
 
 -- where one of the two is used up, the lines still rise
-pub Merged-all_rise : (low high all : List Answer) (i j : ℕ) → Rise low → Rise high → Merged low high all i j
+pub Merged-all_rise : (low high all : List Answer) (i j : ℕ) → Rise low → Rise high
+    → Merged low high all i j
     → (length low ≤ i) ⊎ (length high ≤ j) → Rise ((all ++ drop i low) ++ drop j high)
 Merged-all_rise low high all i j up_low up_high m (inl used) =
     rw (drop_all i low used, append-nil all)
@@ -154,7 +169,8 @@ Merged-all_rise low high all i j up_low up_high m (inr used) =
 -- the answers of the two halves of the lanes, merged, are those of all
 pub IsPermutation-halves : {X A : Type 0} (f : X → List A) (n : ℕ) (xs front back : List X) (low high all : List A)
     → front ≡ take n xs → back ≡ drop n xs
-    → IsPermutation (flat_map f front) low → IsPermutation (flat_map f back) high → IsPermutation (low ++ high) all
+    → IsPermutation (flat_map f front) low → IsPermutation (flat_map f back) high
+    → IsPermutation (low ++ high) all
     → IsPermutation (flat_map f xs) all
 IsPermutation-halves f n xs front back low high all front_is back_is p q r =
     subst (λ l. IsPermutation l all)

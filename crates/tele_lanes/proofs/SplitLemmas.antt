@@ -1,7 +1,9 @@
 -- The tasks of each lane, one task at a time. Serves `split`.
-use Rattle.std.proofs.Common.{◌≡◌, ◌≢◌, inl, inr, ◌+◌, ◌<◌, ◌==◌, ℕ, Bool, cond, List, [], ◌∷◌, ◌++◌, length, set, take, get_or, sym, ap, ◌∙◌, arith, eq-eqb}
+use Rattle.std.proofs.Common.{◌≡◌, ◌≢◌, inl, inr, ◌+◌, ◌<◌, ◌==◌, ℕ, Bool, cond, List, [], ◌∷◌}
+use Rattle.std.proofs.Common.{◌++◌, length, set, take, get_or, sym, ap, ◌∙◌, arith, eq-eqb}
 use Rattle.std.proofs.lemmas.Bool.{cases_eq, ne_eqb}
-use Rattle.std.proofs.lemmas.List.{same_lists, take_more, append-nil, length-set, get_or-set_same, get_or-set_other}
+use Rattle.std.proofs.lemmas.List.{same_lists, take_more, append-nil, length-set, get_or-set_same}
+use Rattle.std.proofs.lemmas.List.{get_or-set_other}
 use Rattle.std.proofs.lemmas.List.Elements.{filter-append}
 use Rattle.std.proofs.lemmas.List.FromFn.{get_or-map-range_with_len, length-map-range_with_len}
 use Rattle.tele_lanes.specs.declared.task_lists.Task.{Task}
@@ -12,14 +14,16 @@ abbrev pub is_in : ℕ → ℕ → Task → Bool
 is_in workers lane t = lane_of workers t.command == lane
 
 -- one more task, in its lane
-pub lane_tasks-push_here : (workers lane : ℕ) (tasks : List Task) (t : Task) → lane_of workers t.command ≡ lane
+pub lane_tasks-push_here : (workers lane : ℕ) (tasks : List Task) (t : Task)
+    → lane_of workers t.command ≡ lane
     → lane_tasks workers lane (tasks ++ t ∷ []) ≡ lane_tasks workers lane tasks ++ t ∷ []
 lane_tasks-push_here workers lane tasks t here =
     filter-append (is_in workers lane) tasks (t ∷ [])
     ∙ ap (λ b. lane_tasks workers lane tasks ++ cond b (t ∷ []) []) (eq-eqb (lane_of workers t.command) lane here)
 
 -- one more task, in another lane
-pub lane_tasks-push_other : (workers lane : ℕ) (tasks : List Task) (t : Task) → lane_of workers t.command ≢ lane
+pub lane_tasks-push_other : (workers lane : ℕ) (tasks : List Task) (t : Task)
+    → lane_of workers t.command ≢ lane
     → lane_tasks workers lane (tasks ++ t ∷ []) ≡ lane_tasks workers lane tasks
 lane_tasks-push_other workers lane tasks t other =
     filter-append (is_in workers lane) tasks (t ∷ [])
@@ -33,11 +37,13 @@ get_or-all_lane_tasks workers lane tasks d h =
     get_or-map-range_with_len (λ w. lane_tasks workers w tasks) 0 workers lane lane d h (omega arith)
 
 -- there is a list for each worker
-pub length-all_lane_tasks : (workers : ℕ) (tasks : List Task) → length (all_lane_tasks workers tasks) ≡ workers
+pub length-all_lane_tasks : (workers : ℕ) (tasks : List Task)
+    → length (all_lane_tasks workers tasks) ≡ workers
 length-all_lane_tasks workers tasks = length-map-range_with_len (λ w. lane_tasks workers w tasks) 0 workers
 
 -- one more task is one more in its lane
-pub all_lane_tasks-push : (workers lane : ℕ) (tasks : List Task) (t : Task) → lane_of workers t.command ≡ lane → lane < workers
+pub all_lane_tasks-push : (workers lane : ℕ) (tasks : List Task) (t : Task)
+    → lane_of workers t.command ≡ lane → lane < workers
     → set (all_lane_tasks workers tasks) lane (lane_tasks workers lane tasks ++ t ∷ []) ≡ all_lane_tasks workers (tasks ++ t ∷ [])
 all_lane_tasks-push workers lane tasks t here in_range =
     let lists = all_lane_tasks workers tasks in

@@ -22,18 +22,20 @@ lane_tasks workers lane tasks = filter (λ t. lane_of workers t.command == lane)
 
 -- the tasks of each lane, lane by lane
 abbrev pub all_lane_tasks : ℕ → List Task → List (List Task)
-all_lane_tasks workers tasks = map (λ lane. lane_tasks workers lane tasks) (range_with_len 0 workers)
+all_lane_tasks workers tasks =
+    map (λ lane. lane_tasks workers lane tasks) (range_with_len 0 workers)
 
--- one thread answers these tasks so, from this map: each line in order, with the reply to its command
-pub record AreAlone (m : Map) (tasks : List Task) (answers : List Answer) : Type 0 where
+-- one thread answers the tasks so, from this map: each line in order, with its reply
+pub record ArePlainAnswers (m : Map) (tasks : List Task) (answers : List Answer) : Type 0 where
   pub lines : answer_lines answers ≡ task_lines tasks
   pub replies : replies_in answers ≡ replies m (commands_of tasks)
 
--- each lane answers its own tasks so, as if it were alone on a map of its own
-pub record AnswerAlone (m : Map) (workers : ℕ) (tasks : List Task) (lanes : List (List Answer)) : Type 0 where
+-- each lane answers its own tasks as one thread does, from this map and with no others beside it
+pub record AnswerAlone (m : Map) (workers : ℕ) (tasks : List Task)
+    (lanes : List (List Answer)) : Type 0 where
   pub len : length lanes ≡ workers
   pub each : (lane : ℕ) (d : List Answer) → lane < workers
-      → AreAlone m (lane_tasks workers lane tasks) (slice_index_or lanes lane d)
+      → ArePlainAnswers m (lane_tasks workers lane tasks) (slice_index_or lanes lane d)
 
 -- the answers of all lanes put back in line order: none is added or left out, and the lines rise
 pub record InLineOrder (lanes : List (List Answer)) (all : List Answer) : Type 0 where

@@ -12,12 +12,14 @@ use std::alloc::{AllocError, Global};
 
 /// All answers of the lanes, rising by line.
 ///
-/// The lanes were run; each lane's tasks rise by line, and no two lanes have a task with the same
-/// line. Both hold where the lanes were split from tasks that rise by line. Takes time in proportion
-/// to the answers times the logarithm of the number of lanes, since it merges the lanes in pairs.
+/// The lanes were run, so that the answers are for the first of their tasks; each lane's tasks rise
+/// by line, and no two lanes have a task with the same line. `laws::lanes_can_be_gathered` says so
+/// of lanes that were split. It merges the lanes in pairs, in time that grows as the answers times the
+/// logarithm of the number of lanes.
 pub fn gather<P: Port>(alloc: Global, lanes: &[Lane<P>]) -> Result<Vec<Answer>, AllocError>
     requires answers { All (λ l. AnswerInOrder l.tasks l.answers.list) lanes.now }
-    requires rising { All (λ ts. IsStrictlyIncreasing (task_lines ts)) (map (λ l. l.tasks) lanes.now) }
+    requires rising { All (λ ts. IsStrictlyIncreasing (task_lines ts))
+        (map (λ l. l.tasks) lanes.now) }
     requires apart { AllPairs ShareNoLine (map (λ l. l.tasks) lanes.now) }
     ensures gathered { IfOk result (λ v.
         InLineOrder (map (λ l. l.answers.list) lanes.now) v.items) }
@@ -28,7 +30,8 @@ pub fn gather<P: Port>(alloc: Global, lanes: &[Lane<P>]) -> Result<Vec<Answer>, 
 // The answers of the lanes, merged by line: those of each half first.
 fn merge_lanes<P: Port>(alloc: Global, lanes: &[Lane<P>]) -> Result<Vec<Answer>, AllocError>
     requires { All (λ l. IsNonDecreasingBy (λ a. a.line) l.answers.list) lanes.now }
-    ensures same { IfOk result (λ v. IsPermutation (flat_map (λ l. l.answers.list) lanes.now) v.items) }
+    ensures same { IfOk result (λ v.
+        IsPermutation (flat_map (λ l. l.answers.list) lanes.now) v.items) }
     ensures rising { IfOk result (λ v. IsNonDecreasingBy (λ a. a.line) v.items) }
 {
     if lanes.len() < 2 {

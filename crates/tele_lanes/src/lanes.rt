@@ -58,8 +58,11 @@ impl<P: Port> Lane<P> {
         ensures replies { TellReplies (P.calls self.new.port) self.new.answers.list }
 
         ensures stopped { self.new.stopped ≡ option_map (λ r. r.full) (P.refused self.new.port) }
-        ensures refused { IfSome (P.refused self.new.port) (λ r. slice_get (commands_of self.new.tasks) (length (P.calls self.new.port)) ≡ Some r.command) }
-        ensures whole { IfNone self.new.stopped (length (P.calls self.new.port) ≡ length self.new.tasks) }
+        ensures refused { IfSome (P.refused self.new.port) (λ r.
+            slice_get (commands_of self.new.tasks) (length (P.calls self.new.port))
+            ≡ Some r.command) }
+        ensures whole { IfNone self.new.stopped
+            (length (P.calls self.new.port) ≡ length self.new.tasks) }
     {
         self.stopped = call_each(
             rt,
@@ -72,7 +75,8 @@ impl<P: Port> Lane<P> {
     }
 }
 
-// Makes the calls of the tasks in order, until one is refused, and keeps the answers. Gives the refusal.
+// Makes the calls of the tasks in order, until one is refused, and keeps the answers. Gives the
+// refusal.
 fn call_each<R: Wait, G: Gate, P: Port>(
     rt: &R,
     gate: &G,
@@ -92,7 +96,8 @@ fn call_each<R: Wait, G: Gate, P: Port>(
     ensures replies { TellReplies (P.calls port.new) answers.new.list }
 
     ensures stopped { result ≡ option_map (λ r. r.full) (P.refused port.new) }
-    ensures refused { IfSome (P.refused port.new) (λ r. slice_get (commands_of tasks.now) (length (P.calls port.new)) ≡ Some r.command) }
+    ensures refused { IfSome (P.refused port.new) (λ r.
+        slice_get (commands_of tasks.now) (length (P.calls port.new)) ≡ Some r.command) }
     ensures whole { IfNone result (length (P.calls port.new) ≡ length tasks.now) }
 {
     for (index, task) in tasks.iter().enumerate() {

@@ -32,7 +32,10 @@ impl Port for Recorder {
 
     ghost calls = { λ p. map (λ e. record { command = e.0; reply = e.1 }) p.told.items };
 
-    ghost refused = { λ p. option_map (λ c. record { command = c; full = record { next = 1; asked = 1; words = 1 } }) p.refused };
+    ghost refused = { λ p. option_map (λ c. record {
+      command = c;
+      full = record { next = 1; asked = 1; words = 1 };
+    }) p.refused };
 
     ghost tie = { λ p. tt };
 
@@ -50,7 +53,7 @@ impl Port for Recorder {
     }
 }
 
-// counts what it is told: each call before by its index and one, each call after by a thousand times that
+// adds the number of each call, counted from 1, before it, and a thousand times that after it
 #[derive(Drop)]
 struct Counter {
     told: AtomicU64,
@@ -80,9 +83,13 @@ struct Meeting<'a> {
 impl Port for Meeting<'_> {
     type Tie = ();
 
-    ghost calls = { λ p. option_to_list (option_map (λ c. record { command = c; reply = None }) p.told) };
+    ghost calls = { λ p. option_to_list
+        (option_map (λ c. record { command = c; reply = None }) p.told) };
 
-    ghost refused = { λ p. option_map (λ c. record { command = c; full = record { next = 1; asked = 1; words = 1 } }) p.refused };
+    ghost refused = { λ p. option_map (λ c. record {
+      command = c;
+      full = record { next = 1; asked = 1; words = 1 };
+    }) p.refused };
 
     ghost tie = { λ p. tt };
 
@@ -131,7 +138,8 @@ fn idle_lanes(
 ) -> Result<Vec<Lane<Recorder>>, AllocError>
     requires some { 1 ≤ workers }
     requires at_most { workers ≤ 64 }
-    ensures tasks { IfOk result (λ v. map (λ l. l.tasks) v.items ≡ all_lane_tasks workers tasks.now) }
+    ensures tasks { IfOk result (λ v.
+        map (λ l. l.tasks) v.items ≡ all_lane_tasks workers tasks.now) }
     ensures empty { IfOk result (λ v. All (λ l. l.answers.list ≡ []) v.items) }
     ensures room { IfOk result (λ v. All (λ l. length l.tasks ≤ l.answers.room) v.items) }
     ensures no_calls { IfOk result (λ v. All (λ l. l.port.told.items ≡ []) v.items) }
@@ -382,5 +390,22 @@ fn answers_come_back_in_line_order(rt: HostRuntime) -> Result<(), AllocError> {
         let all = round(&rt, rt.alloc(), &tasks, workers)?;
         assert_eq!(rt; all.as_slice(), answers.as_slice(), "{workers} workers");
     }
+    Ok(())
+}
+
+#[test]
+fn lists_come_back_as_they_went_in(rt: HostRuntime) -> Result<(), AllocError> {
+    let task = Task {
+        line: 3,
+        command: Command::Remove { key: 8 },
+    };
+    let tasks = Tasks::from_vec(vec![in rt.alloc(); task]?).into_vec();
+    assert_eq!(rt; tasks.as_slice(), [task].as_slice());
+    let answer = Answer {
+        line: 3,
+        reply: Some(6),
+    };
+    let answers = Answers::from_vec(vec![in rt.alloc(); answer]?).into_vec();
+    assert_eq!(rt; answers.as_slice(), [answer].as_slice());
     Ok(())
 }

@@ -2,7 +2,9 @@ use Rattle.std.proofs.Common.{sym, subst, arith}
 use Rattle.std.specs.List.Sorted.{IsPermutation, IsStrictlyIncreasing}
 use Rattle.tele_lanes.specs.Lines.{task_lines, ShareNoLine}
 use Rattle.tele_lanes.proofs.MergeLemmas.{IfOk-both}
-use Rattle.tele_lanes.proofs.LineLemmas.{IsStrictlyIncreasing-answers, Rise-from_increasing, Contains-answered, IsStrictlyIncreasing-merged, flat_map-map, All-from_map, AllPairs-from_map}
+use Rattle.tele_lanes.proofs.LineLemmas.{IsStrictlyIncreasing-answers, Rise-from_increasing}
+use Rattle.tele_lanes.proofs.LineLemmas.{Contains-answered, IsStrictlyIncreasing-merged}
+use Rattle.tele_lanes.proofs.LineLemmas.{flat_map-map, All-from_map, AllPairs-from_map}
 use Rattle.tele_lanes.proofs.gathering.gather.Goals as goal
 
 -- the answers of a lane rise, since they are for the first of its tasks

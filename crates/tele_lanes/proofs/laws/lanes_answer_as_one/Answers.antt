@@ -1,6 +1,6 @@
 use Rattle.std.proofs.Common.{sym, subst, refl}
-use Rattle.tele_lanes.specs.Lanes.{AreAlone, InLineOrder}
-use Rattle.tele_lanes.proofs.AloneLemmas.{AreAlone-answered, answered-from_AreAlone}
+use Rattle.tele_lanes.specs.Lanes.{ArePlainAnswers, InLineOrder}
+use Rattle.tele_lanes.proofs.AloneLemmas.{ArePlainAnswers-answered, answered-from_ArePlainAnswers}
 use Rattle.tele_lanes.proofs.LawLemmas.{InLineOrder-answered, InLineOrder-one, get-replay_lane}
 use Rattle.tele_lanes.proofs.laws.lanes_answer_as_one.Goals as goal
 
@@ -8,8 +8,8 @@ use Rattle.tele_lanes.proofs.laws.lanes_answer_as_one.Goals as goal
 pub returns-clause-answers : goal.returns-clause-answers
 returns-clause-answers c = λ m workers tasks some up lanes all alone.
     let own = InLineOrder-answered m workers tasks lanes some up alone in (
-      (λ ordered. subst (AreAlone m tasks) (sym (InLineOrder-one lanes _ _ ordered own)) (AreAlone-answered m tasks)),
-      (λ one. subst (InLineOrder lanes) (sym (answered-from_AreAlone m tasks all one)) own),
+      (λ ordered. subst (ArePlainAnswers m tasks) (sym (InLineOrder-one lanes _ _ ordered own)) (ArePlainAnswers-answered m tasks)),
+      (λ one. subst (InLineOrder lanes) (sym (answered-from_ArePlainAnswers m tasks all one)) own),
     )
 
 pub returns-clause-values : goal.returns-clause-values
