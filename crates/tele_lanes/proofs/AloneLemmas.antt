@@ -28,13 +28,15 @@ less_or_greater false = refl
 -- two numbers that differ don't tie
 pub eq_by_cmp-differ : (q k : ℕ) → q ≢ k → eq_by_cmp nat_cmp q k ≡ false
 eq_by_cmp-differ q k differ =
-    ap (λ b. is_eq (cond (nat_lt q k) Less (cond b Equal Greater))) (ne_eqb q k differ) ∙ less_or_greater (nat_lt q k)
+    ap (λ b. is_eq (cond (nat_lt q k) Less (cond b Equal Greater))) (ne_eqb q k differ)
+    ∙ less_or_greater (nat_lt q k)
 
 -- a command does the same to what two maps have at a key
 pub get-map_after_same : (m n : Map) (c : Command) (q : ℕ) → fin.get m q ≡ fin.get n q
     → fin.get (map_after m c) q ≡ fin.get (map_after n c) q
 get-map_after_same m n (Put key value) q same =
-    fin.get-insert nat_cmp_total m key value q ∙ ap (λ o. cond (eq_by_cmp nat_cmp q key) (Some value) o) same
+    fin.get-insert nat_cmp_total m key value q
+    ∙ ap (λ o. cond (eq_by_cmp nat_cmp q key) (Some value) o) same
     ∙ sym (fin.get-insert nat_cmp_total n key value q)
 get-map_after_same m n (Remove key) q same =
     fin.get-remove nat_cmp_total m key q ∙ ap (λ o. cond (eq_by_cmp nat_cmp q key) None o) same
@@ -45,22 +47,26 @@ get-map_after_same m n (Get key) q same = same
 pub get-map_after_other : (m : Map) (c : Command) (q : ℕ) → q ≢ key_of c
     → fin.get (map_after m c) q ≡ fin.get m q
 get-map_after_other m (Put key value) q other =
-    fin.get-insert nat_cmp_total m key value q ∙ ap (λ b. cond b (Some value) (fin.get m q)) (eq_by_cmp-differ q key other)
+    fin.get-insert nat_cmp_total m key value q
+    ∙ ap (λ b. cond b (Some value) (fin.get m q)) (eq_by_cmp-differ q key other)
 get-map_after_other m (Remove key) q other =
-    fin.get-remove nat_cmp_total m key q ∙ ap (λ b. cond b None (fin.get m q)) (eq_by_cmp-differ q key other)
+    fin.get-remove nat_cmp_total m key q
+    ∙ ap (λ b. cond b None (fin.get m q)) (eq_by_cmp-differ q key other)
 get-map_after_other m (Get key) q other = refl
 
 -- what one thread answers
 abbrev pub answered : Map → List Task → List Answer
 answered m [] = []
-answered m (t ∷ ts) = record { line = t.line; reply = reply_to m t.command } ∷ answered (map_after m t.command) ts
+answered m (t ∷ ts) = record { line = t.line; reply = reply_to m t.command }
+    ∷ answered (map_after m t.command) ts
 
 -- it is what one thread answers, by the definition of the law
 pub ArePlainAnswers-answered : (m : Map) (tasks : List Task)
     → ArePlainAnswers m tasks (answered m tasks)
 ArePlainAnswers-answered m [] = record { lines = refl; replies = refl }
 ArePlainAnswers-answered m (t ∷ ts) =
-    let rest : ArePlainAnswers (map_after m t.command) ts (answered (map_after m t.command) ts) = ArePlainAnswers-answered (map_after m t.command) ts in
+    let rest : ArePlainAnswers (map_after m t.command) ts (answered (map_after m t.command) ts)
+    = ArePlainAnswers-answered (map_after m t.command) ts in
     record { lines = ap (λ l. t.line ∷ l) rest.lines; replies = ap (λ l. reply_to m t.command ∷ l) rest.replies }
 
 -- answers are known by their lines and their replies
@@ -83,7 +89,8 @@ pub answered-from_ArePlainAnswers : (m : Map) (tasks : List Task) (all : List An
     → ArePlainAnswers m tasks all → all ≡ answered m tasks
 answered-from_ArePlainAnswers m tasks all alone =
     let own : ArePlainAnswers m tasks (answered m tasks) = ArePlainAnswers-answered m tasks in
-    same_answers all (answered m tasks) (alone.lines ∙ sym own.lines) (alone.replies ∙ sym own.replies)
+    same_answers all (answered m tasks) (alone.lines ∙ sym own.lines)
+    (alone.replies ∙ sym own.replies)
 
 -- the answers for one lane among those of one thread to all tasks
 abbrev pub picked : ℕ → ℕ → Map → List Task → List Answer
@@ -101,7 +108,8 @@ Agree workers lane m n = (q : ℕ) → q % workers ≡ lane → fin.get m q ≡ 
 pub picked_is : (workers lane : ℕ) (m n : Map) (tasks : List Task) → Agree workers lane m n
     → picked workers lane m tasks ≡ answered n (lane_tasks workers lane tasks)
 picked_is workers lane m n [] agree = refl
-picked_is workers lane m n (t ∷ ts) agree = go (lane_of workers t.command == lane) refl (λ p q. picked_is workers lane p q ts)
+picked_is workers lane m n (t ∷ ts) agree = go (lane_of workers t.command == lane) refl
+    (λ p q. picked_is workers lane p q ts)
   where
     go : (b : Bool) → (lane_of workers t.command == lane) ≡ b
         → ((p q : Map) → Agree workers lane p q → picked workers lane p ts ≡ answered q (lane_tasks workers lane ts))
@@ -109,8 +117,10 @@ picked_is workers lane m n (t ∷ ts) agree = go (lane_of workers t.command == l
         (picked workers lane (map_after m t.command) ts)
         ≡ answered n (cond b (t ∷ lane_tasks workers lane ts) (lane_tasks workers lane ts))
     go true e later =
-        let same : reply_to m t.command ≡ reply_to n t.command = agree (key_of t.command) (eqb-true _ _ e) in
-        let rest : picked workers lane (map_after m t.command) ts ≡ answered (map_after n t.command) (lane_tasks workers lane ts)
+        let same : reply_to m t.command ≡ reply_to n t.command
+        = agree (key_of t.command) (eqb-true _ _ e) in
+        let rest : picked workers lane (map_after m t.command) ts
+        ≡ answered (map_after n t.command) (lane_tasks workers lane ts)
         = later (map_after m t.command) (map_after n t.command)
         (λ q h. get-map_after_same m n t.command q (agree q h)) in
         ap (λ r. record { line = t.line; reply = r } ∷ picked workers lane (map_after m t.command) ts) same
@@ -139,7 +149,8 @@ flat_map-more f g a at from (suc n) low high here other =
     elim (cases_eq from at) [
       | inl same ↦
           let one : f from ≡ a ∷ g from = ap f same ∙ here ∙ ap (λ w. a ∷ g w) (sym same) in
-          let rest : flat_map f (range_with_len (from + 1) n) ≡ flat_map g (range_with_len (from + 1) n)
+          let rest : flat_map f (range_with_len (from + 1) n)
+          ≡ flat_map g (range_with_len (from + 1) n)
           = flat_map-same f g (from + 1) n (λ w h. other w (λ e. omega arith)) in
           subst (λ l. IsPermutation l (a ∷ (g from ++ flat_map g (range_with_len (from + 1) n))))
           (ap (λ l. (a ∷ g from) ++ l) (sym rest) ∙ ap (λ l. l ++ flat_map f (range_with_len (from + 1) n)) (sym one))
@@ -164,8 +175,10 @@ lane_below workers c h = omega arith
 
 -- the answers for all lanes are the answers of one thread
 pub IsPermutation-picked : (workers : ℕ) (m : Map) (tasks : List Task) → 0 < workers
-    → IsPermutation (flat_map (λ lane. picked workers lane m tasks) (range_with_len 0 workers)) (answered m tasks)
-IsPermutation-picked workers m [] h = subst (λ l. IsPermutation l []) (sym (flat_map-nil (range_with_len 0 workers))) (IsPermutation-refl [])
+    → IsPermutation (flat_map (λ lane. picked workers lane m tasks) (range_with_len 0 workers))
+    (answered m tasks)
+IsPermutation-picked workers m [] h = subst (λ l. IsPermutation l [])
+    (sym (flat_map-nil (range_with_len 0 workers))) (IsPermutation-refl [])
 IsPermutation-picked workers m (t ∷ ts) h =
     let a : Answer = record { line = t.line; reply = reply_to m t.command } in
     let f : ℕ → List Answer = λ lane. picked workers lane m (t ∷ ts) in

@@ -40,7 +40,8 @@ module _ {X : Type 0} (n : X → ℕ) where
       → IsStrictlyIncreasing (map n xs)
   IsStrictlyIncreasing-from_Climb d xs up k h =
       let h' : k + 1 < length xs = omega (arith, length-map xs n) in
-      rw (get_or-map n xs k d 0 (omega arith), get_or-map n xs (k + 1) d 0 h') (up k (k + 1) d (omega arith) h')
+      rw (get_or-map n xs k d 0 (omega arith), get_or-map n xs (k + 1) d 0 h')
+      (up k (k + 1) d (omega arith) h')
 
   -- the rest climbs
   pub Climb-tail : (x : X) (xs : List X) → Climb (x ∷ xs) → Climb xs
@@ -48,7 +49,8 @@ module _ {X : Type 0} (n : X → ℕ) where
 
   -- the head lies below all of the rest
   pub Climb-head : (x : X) (xs : List X) (a : X) → Climb (x ∷ xs) → Contains xs a → n x < n a
-  Climb-head x xs a up (k, h, e) = subst (λ b. n x < n b) e (up 0 (suc k) a (omega arith) (omega arith))
+  Climb-head x xs a up (k, h, e) = subst (λ b. n x < n b) e
+      (up 0 (suc k) a (omega arith) (omega arith))
 
   -- elements with the same number are the same
   pub same_element : (xs : List X) (a b : X) → Climb xs → Contains xs a → Contains xs b → n a ≡ n b
@@ -157,5 +159,6 @@ pub lane_tasks-rising : (workers lane : ℕ) (tasks : List Task)
     → IsStrictlyIncreasing (task_lines tasks)
     → IsStrictlyIncreasing (task_lines (lane_tasks workers lane tasks))
 lane_tasks-rising workers lane tasks up =
-    IsStrictlyIncreasing-from_Climb line_of (record { line = 0; command = Get 0 }) (lane_tasks workers lane tasks)
+    IsStrictlyIncreasing-from_Climb line_of (record { line = 0; command = Get 0 })
+    (lane_tasks workers lane tasks)
     (AllPairs-filter (λ a b. line_of a < line_of b) (is_in workers lane) tasks (Climb-from_increasing line_of tasks up))

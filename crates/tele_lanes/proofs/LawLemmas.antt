@@ -32,7 +32,8 @@ picked-from_AnswerAlone m workers tasks lanes alone =
     (alone.len ∙ sym (length-map-range_with_len f 0 workers))
     (λ k d h.
     let h' : k < workers = omega (arith, alone.len) in
-    answered-from_ArePlainAnswers m (lane_tasks workers k tasks) (get_or lanes k d) (alone.each k d h')
+    answered-from_ArePlainAnswers m (lane_tasks workers k tasks) (get_or lanes k d)
+    (alone.each k d h')
     ∙ sym (picked_is workers k m m tasks (λ q e. refl))
     ∙ sym (get_or-map-range_with_len f 0 workers k k d h' (omega arith)))
 
@@ -64,20 +65,24 @@ pub InLineOrder-one : (lanes : List (List Answer)) (xs ys : List Answer) → InL
     → InLineOrder lanes ys → xs ≡ ys
 InLineOrder-one lanes xs ys one two =
     let flat : List Answer = flat_map (λ answers. answers) lanes in
-    same_climbing line_of xs ys (Climb-from_increasing line_of xs one.rising) (Climb-from_increasing line_of ys two.rising)
+    same_climbing line_of xs ys (Climb-from_increasing line_of xs one.rising)
+    (Climb-from_increasing line_of ys two.rising)
     (λ a c. Contains-permutation flat ys a two.same (Contains-permutation xs flat a (IsPermutation-sym flat xs one.same) c))
     (λ a c. Contains-permutation flat xs a one.same (Contains-permutation ys flat a (IsPermutation-sym flat ys two.same) c))
 
 -- what a key has at the end, its lane alone gives it
 pub get-replay_lane : (workers key : ℕ) (m n : Map) (commands : List Command)
     → fin.get m key ≡ fin.get n key
-    → fin.get (replay m commands) key ≡ fin.get (replay n (lane_commands workers (key % workers) commands)) key
+    → fin.get (replay m commands) key
+    ≡ fin.get (replay n (lane_commands workers (key % workers) commands)) key
 get-replay_lane workers key m n [] same = same
-get-replay_lane workers key m n (c ∷ cs) same = go (lane_of workers c == key % workers) refl (λ p q. get-replay_lane workers key p q cs)
+get-replay_lane workers key m n (c ∷ cs) same = go (lane_of workers c == key % workers) refl
+    (λ p q. get-replay_lane workers key p q cs)
   where
     go : (b : Bool) → (lane_of workers c == key % workers) ≡ b
         → ((p q : Map) → fin.get p key ≡ fin.get q key
-        → fin.get (replay p cs) key ≡ fin.get (replay q (lane_commands workers (key % workers) cs)) key)
+        → fin.get (replay p cs) key
+        ≡ fin.get (replay q (lane_commands workers (key % workers) cs)) key)
         → fin.get (replay (map_after m c) cs) key
         ≡ fin.get (replay n (cond b (c ∷ lane_commands workers (key % workers) cs) (lane_commands workers (key % workers) cs))) key
     go true e later = later (map_after m c) (map_after n c) (get-map_after_same m n c key same)

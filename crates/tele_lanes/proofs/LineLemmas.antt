@@ -25,21 +25,24 @@ pub IsStrictlyIncreasing-take : (n : ℕ) (xs : List ℕ) → IsStrictlyIncreasi
     → IsStrictlyIncreasing (take n xs)
 IsStrictlyIncreasing-take n xs up k h =
     let long : length (take n xs) ≡ min n (length xs) = length-take n xs in
-    rw (get_or-take n xs k 0 (omega arith), get_or-take n xs (k + 1) 0 (omega arith)) (up k (omega arith))
+    rw (get_or-take n xs k 0 (omega arith), get_or-take n xs (k + 1) 0 (omega arith))
+    (up k (omega arith))
 
 -- answers to the first of some tasks that rise, rise
 pub IsStrictlyIncreasing-answers : (tasks : List Task) (answers : List Answer)
     → AnswerInOrder tasks answers
     → IsStrictlyIncreasing (task_lines tasks) → IsStrictlyIncreasing (answer_lines answers)
 IsStrictlyIncreasing-answers tasks answers first up =
-    subst IsStrictlyIncreasing (sym first) (IsStrictlyIncreasing-take (length answers) (task_lines tasks) up)
+    subst IsStrictlyIncreasing (sym first)
+    (IsStrictlyIncreasing-take (length answers) (task_lines tasks) up)
 
 -- answers whose lines rise
 pub Rise-from_increasing : (answers : List Answer) → IsStrictlyIncreasing (answer_lines answers)
     → Rise answers
 Rise-from_increasing answers up =
     IsNonDecreasingBy-from_all_adjacent line_of answers (λ k d h.
-    let one : get_or (answer_lines answers) k 0 ≡ line_of (get_or answers k d) = get_or-map line_of answers k d 0 (omega arith) in
+    let one : get_or (answer_lines answers) k 0 ≡ line_of (get_or answers k d)
+    = get_or-map line_of answers k d 0 (omega arith) in
     let next : get_or (answer_lines answers) (k + 1) 0 ≡ line_of (get_or answers (k + 1) d)
     = get_or-map line_of answers (k + 1) d 0 h in
     let less : get_or (answer_lines answers) k 0 < get_or (answer_lines answers) (k + 1) 0
@@ -52,7 +55,8 @@ pub IsNonDecreasing-answer_lines : (answers : List Answer) → Rise answers
 IsNonDecreasing-answer_lines answers up i j d le lt =
     let none : Answer = record { line = 0; reply = None } in
     let lt' : j < length answers = omega (arith, length-map answers line_of) in
-    rw (get_or-map line_of answers i none d (omega arith), get_or-map line_of answers j none d lt') (up i j none le lt')
+    rw (get_or-map line_of answers i none d (omega arith), get_or-map line_of answers j none d lt')
+    (up i j none le lt')
 
 -- no number stands in both lists
 abbrev pub Apart : List ℕ → List ℕ → Type 0
@@ -72,7 +76,8 @@ IsDistinct-append (x ∷ xs) ys one two apart =
     let left : All P xs = All-from_recursion P xs (IsDistinct-head eqb x xs one) in
     let right : All P ys = λ k d h. ne_eqb x (get_or ys k d)
     (λ e. apart x (0, omega arith, refl) (subst (λ y. Contains ys y) (sym e) (Contains-get_or ys k d h))) in
-    IsDistinct-cons eqb x (xs ++ ys) (recursion_from_All P (xs ++ ys) (All-append P xs ys left right))
+    IsDistinct-cons eqb x (xs ++ ys)
+    (recursion_from_All P (xs ++ ys) (All-append P xs ys left right))
     (IsDistinct-append xs ys (IsDistinct-tail eqb x xs one) two (λ y c. apart y (Contains-later x xs y c)))
 
 -- numbers that rise are distinct
@@ -107,7 +112,8 @@ module _ {X : Type 0} (f : X → List ℕ) where
 pub map-flat_map : {X A B : Type 0} (g : A → B) (f : X → List A) (xs : List X)
     → map g (flat_map f xs) ≡ flat_map (λ x. map g (f x)) xs
 map-flat_map g f [] = refl
-map-flat_map g f (x ∷ xs) = map-append g (f x) (flat_map f xs) ∙ ap (λ l. map g (f x) ++ l) (map-flat_map g f xs)
+map-flat_map g f (x ∷ xs) = map-append g (f x) (flat_map f xs)
+    ∙ ap (λ l. map g (f x) ++ l) (map-flat_map g f xs)
 
 -- an answered line is the line of a task
 pub Contains-answered : (tasks : List Task) (answers : List Answer) (n : ℕ)
@@ -147,7 +153,8 @@ flat_map-map f (x ∷ xs) = ap (λ l. f x ++ l) (flat_map-map f xs)
 -- what holds of each image
 pub All-from_map : {X Y : Type 0} (P : Y → Type 0) (f : X → Y) (xs : List X) → All P (map f xs)
     → All (λ x. P (f x)) xs
-All-from_map P f xs all k d h = subst P (get_or-map f xs k d (f d) h) (all k (f d) (omega (arith, length-map xs f)))
+All-from_map P f xs all k d h = subst P (get_or-map f xs k d (f d) h)
+    (all k (f d) (omega (arith, length-map xs f)))
 
 -- what holds of each two images
 pub AllPairs-from_map : {X Y : Type 0} (R : Y → Y → Type 0) (f : X → Y) (xs : List X)

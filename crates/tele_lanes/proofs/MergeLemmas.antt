@@ -66,14 +66,16 @@ Rise-push xs ys i d up most =
 -- the bound of a list with one more, which lies below the bound too
 pub IsAtMost-push : (xs ys : List Answer) (i : ℕ) (x : Answer) → IsAtMost xs ys i
     → ((d : Answer) → x.line ≤ (get_or ys i d).line) → IsAtMost (xs ++ x ∷ []) ys i
-IsAtMost-push xs ys i x most one = λ d. All-push (LineAtMost (get_or ys i d).line) xs x (most d) (one d)
+IsAtMost-push xs ys i x most one = λ d. All-push (LineAtMost (get_or ys i d).line) xs x (most d)
+    (one d)
 
 -- the bound at a later answer of a list that rises
 pub IsAtMost-later : (xs ys : List Answer) (i j : ℕ) → Rise ys → i ≤ j → j < length ys
     → IsAtMost xs ys i → IsAtMost xs ys j
 IsAtMost-later xs ys i j up le lt most =
     λ d. let step : (get_or ys i d).line ≤ (get_or ys j d).line = up i j d le lt in
-    All-weaker (LineAtMost (get_or ys i d).line) (LineAtMost (get_or ys j d).line) (λ a h. omega arith) xs (most d)
+    All-weaker (LineAtMost (get_or ys i d).line) (LineAtMost (get_or ys j d).line)
+    (λ a h. omega arith) xs (most d)
 
 -- the next answer of low goes to the end
 pub Merged-low : (low high all : List Answer) (i j : ℕ) (d : Answer) → Rise low → i < length low
@@ -83,14 +85,16 @@ pub Merged-low : (low high all : List Answer) (i j : ℕ) (d : Answer) → Rise 
 Merged-low low high all i j d up in_low in_high least m = record {
   low_in = omega arith;
   high_in = m.high_in;
-  same = subst (λ l. IsPermutation (l ++ take j high) (all ++ get_or low i d ∷ [])) (sym (take_more low i d in_low))
+  same = subst (λ l. IsPermutation (l ++ take j high) (all ++ get_or low i d ∷ []))
+      (sym (take_more low i d in_low))
       (IsPermutation-trans _ _ _ (IsPermutation-swap_ends (take i low) (get_or low i d ∷ []) (take j high))
       (IsPermutation-append_left (get_or low i d ∷ []) _ _ m.same));
   rising = Rise-push all low i d m.rising (m.low_above in_low);
   low_above = λ next. IsAtMost-push all low (i + 1) (get_or low i d)
       (IsAtMost-later all low i (i + 1) up (omega arith) next (m.low_above in_low))
       (λ e. let same : get_or low i d ≡ get_or low i e = get_or_default low i d e in_low in
-      let u : (get_or low i e).line ≤ (get_or low (i + 1) e).line = up i (i + 1) e (omega arith) next in
+      let u : (get_or low i e).line ≤ (get_or low (i + 1) e).line
+      = up i (i + 1) e (omega arith) next in
       rw same u);
   high_above = λ h. IsAtMost-push all high j (get_or low i d) (m.high_above h)
       (λ e. let same : get_or high j e ≡ get_or high j d = get_or_default high j e d in_high in rw same least);
@@ -104,7 +108,8 @@ pub Merged-high : (low high all : List Answer) (i j : ℕ) (d : Answer) → Rise
 Merged-high low high all i j d up in_low in_high least m = record {
   low_in = m.low_in;
   high_in = omega arith;
-  same = subst (λ l. IsPermutation (take i low ++ l) (all ++ get_or high j d ∷ [])) (sym (take_more high j d in_high))
+  same = subst (λ l. IsPermutation (take i low ++ l) (all ++ get_or high j d ∷ []))
+      (sym (take_more high j d in_high))
       (subst (λ l. IsPermutation l (all ++ get_or high j d ∷ [])) (append_assoc (take i low) (take j high) (get_or high j d ∷ []))
       (IsPermutation-append_left (get_or high j d ∷ []) _ _ m.same));
   rising = Rise-push all high j d m.rising (m.high_above in_high);
@@ -113,7 +118,8 @@ Merged-high low high all i j d up in_low in_high least m = record {
   high_above = λ next. IsAtMost-push all high (j + 1) (get_or high j d)
       (IsAtMost-later all high j (j + 1) up (omega arith) next (m.high_above in_high))
       (λ e. let same : get_or high j d ≡ get_or high j e = get_or_default high j d e in_high in
-      let u : (get_or high j e).line ≤ (get_or high (j + 1) e).line = up j (j + 1) e (omega arith) next in
+      let u : (get_or high j e).line ≤ (get_or high (j + 1) e).line
+      = up j (j + 1) e (omega arith) next in
       rw same u);
 }
 
@@ -128,7 +134,8 @@ Rise-append xs ys up_xs up_ys below i j d le lt =
         | inl i_left ↦
             rw (get_or_append_left xs ys d i i_left, get_or-append_right xs ys (length xs) j d refl j_right)
             (let low : (get_or xs i d).line ≤ (get_or ys 0 d).line = All-get_or (LineAtMost (get_or ys 0 d).line) xs i d i_left (below (omega arith) d) in
-            let high : (get_or ys 0 d).line ≤ (get_or ys (j - length xs) d).line = up_ys 0 (j - length xs) d (omega arith) (omega arith) in
+            let high : (get_or ys 0 d).line ≤ (get_or ys (j - length xs) d).line
+            = up_ys 0 (j - length xs) d (omega arith) (omega arith) in
             omega arith)
         | inr i_right ↦
             rw (get_or-append_right xs ys (length xs) i d refl i_right, get_or-append_right xs ys (length xs) j d refl j_right)
@@ -175,5 +182,6 @@ pub IsPermutation-halves : {X A : Type 0} (f : X → List A) (n : ℕ) (xs front
 IsPermutation-halves f n xs front back low high all front_is back_is p q r =
     subst (λ l. IsPermutation l all)
     (sym (flat_map-append f front back)
-    ∙ ap (λ l. flat_map f l) (ap (λ l. l ++ back) front_is ∙ ap (λ l. take n xs ++ l) back_is ∙ take-append-drop n xs))
+    ∙ ap (λ l. flat_map f l)
+    (ap (λ l. l ++ back) front_is ∙ ap (λ l. take n xs ++ l) back_is ∙ take-append-drop n xs))
     (IsPermutation-trans _ _ _ (IsPermutation-append _ _ _ _ p q) r)

@@ -8,7 +8,8 @@ use Rattle.std.proofs.lemmas.List.{take-map, map_more, map_push, length_push}
 pub take-map_more : {X Y : Type 0} (f : X → Y) (xs : List X) (i : ℕ) (d : X) → i < length xs
     → take (i + 1) (map f xs) ≡ take i (map f xs) ++ f (get_or xs i d) ∷ []
 take-map_more f xs i d h =
-    take-map f (i + 1) xs ∙ map_more f xs i d h ∙ ap (λ z. z ++ f (get_or xs i d) ∷ []) (sym (take-map f i xs))
+    take-map f (i + 1) xs ∙ map_more f xs i d h
+    ∙ ap (λ z. z ++ f (get_or xs i d) ∷ []) (sym (take-map f i xs))
 
 -- a list that follows the first elements of xs, by g and f, still does with one for the next
 -- element
@@ -32,7 +33,8 @@ map_same f [] (y ∷ ys) long same = absurd (omega arith)
 map_same f (x ∷ xs) [] long same = absurd (omega arith)
 map_same f (x ∷ xs) (y ∷ ys) long same =
     let head : f y ≡ f x = same 0 x (omega arith) in
-    let rest : map f ys ≡ map f xs = map_same f xs ys (omega arith) (λ k d h. same (suc k) d (omega arith)) in
+    let rest : map f ys ≡ map f xs
+    = map_same f xs ys (omega arith) (λ k d h. same (suc k) d (omega arith)) in
     cc
 
 -- two lists that f and g see as the same, each with one more that they see as the same

@@ -19,7 +19,8 @@ pub lane_tasks-push_here : (workers lane : ℕ) (tasks : List Task) (t : Task)
     → lane_tasks workers lane (tasks ++ t ∷ []) ≡ lane_tasks workers lane tasks ++ t ∷ []
 lane_tasks-push_here workers lane tasks t here =
     filter-append (is_in workers lane) tasks (t ∷ [])
-    ∙ ap (λ b. lane_tasks workers lane tasks ++ cond b (t ∷ []) []) (eq-eqb (lane_of workers t.command) lane here)
+    ∙ ap (λ b. lane_tasks workers lane tasks ++ cond b (t ∷ []) [])
+    (eq-eqb (lane_of workers t.command) lane here)
 
 -- one more task, in another lane
 pub lane_tasks-push_other : (workers lane : ℕ) (tasks : List Task) (t : Task)
@@ -27,28 +28,33 @@ pub lane_tasks-push_other : (workers lane : ℕ) (tasks : List Task) (t : Task)
     → lane_tasks workers lane (tasks ++ t ∷ []) ≡ lane_tasks workers lane tasks
 lane_tasks-push_other workers lane tasks t other =
     filter-append (is_in workers lane) tasks (t ∷ [])
-    ∙ ap (λ b. lane_tasks workers lane tasks ++ cond b (t ∷ []) []) (ne_eqb (lane_of workers t.command) lane other)
+    ∙ ap (λ b. lane_tasks workers lane tasks ++ cond b (t ∷ []) [])
+    (ne_eqb (lane_of workers t.command) lane other)
     ∙ append-nil (lane_tasks workers lane tasks)
 
 -- the tasks of the lane at a place
 pub get_or-all_lane_tasks : (workers lane : ℕ) (tasks : List Task) (d : List Task) → lane < workers
     → get_or (all_lane_tasks workers tasks) lane d ≡ lane_tasks workers lane tasks
 get_or-all_lane_tasks workers lane tasks d h =
-    get_or-map-range_with_len (λ w. lane_tasks workers w tasks) 0 workers lane lane d h (omega arith)
+    get_or-map-range_with_len (λ w. lane_tasks workers w tasks) 0 workers lane lane d h
+    (omega arith)
 
 -- there is a list for each worker
 pub length-all_lane_tasks : (workers : ℕ) (tasks : List Task)
     → length (all_lane_tasks workers tasks) ≡ workers
-length-all_lane_tasks workers tasks = length-map-range_with_len (λ w. lane_tasks workers w tasks) 0 workers
+length-all_lane_tasks workers tasks = length-map-range_with_len
+    (λ w. lane_tasks workers w tasks) 0 workers
 
 -- one more task is one more in its lane
 pub all_lane_tasks-push : (workers lane : ℕ) (tasks : List Task) (t : Task)
     → lane_of workers t.command ≡ lane → lane < workers
-    → set (all_lane_tasks workers tasks) lane (lane_tasks workers lane tasks ++ t ∷ []) ≡ all_lane_tasks workers (tasks ++ t ∷ [])
+    → set (all_lane_tasks workers tasks) lane (lane_tasks workers lane tasks ++ t ∷ [])
+    ≡ all_lane_tasks workers (tasks ++ t ∷ [])
 all_lane_tasks-push workers lane tasks t here in_range =
     let lists = all_lane_tasks workers tasks in
     let longer = lane_tasks workers lane tasks ++ t ∷ [] in
-    let long : length (set lists lane longer) ≡ workers = length-set lists lane longer ∙ length-all_lane_tasks workers tasks in
+    let long : length (set lists lane longer) ≡ workers
+    = length-set lists lane longer ∙ length-all_lane_tasks workers tasks in
     same_lists (set lists lane longer) (all_lane_tasks workers (tasks ++ t ∷ []))
     (long ∙ sym (length-all_lane_tasks workers (tasks ++ t ∷ [])))
     (λ k d h. elim (cases_eq k lane) [

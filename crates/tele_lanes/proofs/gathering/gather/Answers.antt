@@ -18,7 +18,8 @@ pub returns : goal.returns
 returns g c = record {
   gathered = IfOk-both c.merge_lanes.result _ _ _
       (λ v same rising. record {
-        same = subst (λ l. IsPermutation l v.items) (sym (flat_map-map (λ l. l.answers.list) c.args.lanes.now)) same;
+        same = subst (λ l. IsPermutation l v.items)
+            (sym (flat_map-map (λ l. l.answers.list) c.args.lanes.now)) same;
         rising = IsStrictlyIncreasing-merged (λ l. l.answers.list) c.args.lanes.now v.items
             (λ k d h. IsStrictlyIncreasing-answers _ _ (c.requires.answers k d h)
             (All-from_map (λ ts. IsStrictlyIncreasing (task_lines ts)) (λ l. l.tasks) c.args.lanes.now c.requires.rising k d h))

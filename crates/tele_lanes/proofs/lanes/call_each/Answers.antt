@@ -6,8 +6,10 @@ use Rattle.tele_lanes.proofs.lanes.call_each.Goals as goal
 -- one more call, which was answered: its command and its answer's line are those of the next task
 pub loop-index-preserved : goal.loop-index-preserved
 loop-index-preserved g c = record {
-  called = rw c.in-Ok.ensures.recorded (length_push _ _ ∙ ap (λ n. n + 1) c.loop-index.invariant.called);
-  answered = rw c.keep.ensures.kept (length_push _ _ ∙ ap (λ n. n + 1) c.loop-index.invariant.answered);
+  called = rw c.in-Ok.ensures.recorded
+      (length_push _ _ ∙ ap (λ n. n + 1) c.loop-index.invariant.called);
+  answered = rw c.keep.ensures.kept
+      (length_push _ _ ∙ ap (λ n. n + 1) c.loop-index.invariant.answered);
   room = omega arith;
   unrefused = c.in-Ok.ensures.unrefused ∙ c.loop-index.invariant.unrefused;
   tie = c.call-outcome.ensures.same_tie ∙ c.loop-index.invariant.tie;
