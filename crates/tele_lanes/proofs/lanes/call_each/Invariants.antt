@@ -1,0 +1,15 @@
+use Rattle.std.proofs.Common.{◌≡◌, ◌≤◌, length, None}
+use Rattle.tele_lanes.specs.Lines.{AnswerInOrder, CallInOrder, TellReplies}
+use Rattle.tele_lanes.proofs.lanes.call_each.Given as goal
+
+abbrev pub invariant-loop-index : goal.invariant-loop-index
+invariant-loop-index g l = record {
+  called : length (g.P.Port.calls l.port) ≡ l.index;
+  answered : length l.answers.list ≡ l.index;
+  room : length l.tasks ≤ l.answers.room;
+  unrefused : g.P.Port.refused l.port ≡ None;
+  tie : g.P.Port.tie l.port ≡ g.P.Port.tie l.initial.port;
+  calls : CallInOrder l.tasks (g.P.Port.calls l.port);
+  answers : AnswerInOrder l.tasks l.answers.list;
+  replies : TellReplies (g.P.Port.calls l.port) l.answers.list;
+}

@@ -1,0 +1,4 @@
+-- what the public contracts rest on, in the order to read them
+pub mod Rooms
+pub mod Lines
+pub mod Lanes

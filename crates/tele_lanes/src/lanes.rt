@@ -1,0 +1,154 @@
+//! Lanes: the tasks of one worker with the port that they go through, and what they came to.
+ghost use Rattle.std.specs.Prelude.{◌≡◌, ◌+◌, ◌<◌, ◌≤◌, ℕ, [], List, length, map, All, Some, None, IfSome, IfNone, slice_get, option_map};
+ghost use Rattle.tele_lanes.specs.Lines.{commands_of, AnswerInOrder, CallInOrder, TellReplies};
+
+use crate::answer_lists::{Answer, Answers};
+use crate::gates::Gate;
+use crate::task_lists::{Task, Tasks};
+use ist_core::{Full, Port};
+use std::sync::Wait;
+use std::thread;
+use std::thread::Threads;
+
+/// One worker's share of a round: its tasks, the port that they go through, and what they came to.
+#[derive(Drop)]
+pub struct Lane<P: Port> {
+    /// The number of the lane, which its gate is told.
+    pub number: u32,
+    pub tasks: Tasks,
+    pub answers: Answers,
+    pub port: P,
+    /// The refusal that ended the lane, if one did.
+    pub stopped: Option<Full>,
+}
+
+impl<P: Port> Lane<P> {
+    /// A lane that wasn't run. Takes no memory.
+    pub fn new(number: u32, tasks: Tasks, answers: Answers, port: P) -> Lane<P>
+        requires empty { answers.list ≡ [] }
+        requires room { length tasks ≤ answers.room }
+        ensures number { result.number ≡ number }
+        ensures tasks { result.tasks ≡ tasks }
+        ensures answers { result.answers ≡ answers }
+        ensures port { result.port ≡ port }
+        ensures stopped { result.stopped ≡ None }
+    {
+        Lane {
+            number,
+            tasks,
+            answers,
+            port,
+            stopped: None,
+        }
+    }
+
+    // Makes the calls of this lane's tasks, until one is refused.
+    fn run<R: Wait, G: Gate>(&mut self, rt: &R, gate: &G)
+        requires empty { self.old.answers.list ≡ [] }
+        requires room { length self.old.tasks ≤ self.old.answers.room }
+        requires no_calls { P.calls self.old.port ≡ [] }
+        requires unrefused { P.refused self.old.port ≡ None }
+
+        ensures number { self.new.number ≡ self.old.number }
+        ensures tasks { self.new.tasks ≡ self.old.tasks }
+        ensures tie { P.tie self.new.port ≡ P.tie self.old.port }
+
+        ensures calls { CallInOrder self.new.tasks (P.calls self.new.port) }
+        ensures answers { AnswerInOrder self.new.tasks self.new.answers.list }
+        ensures replies { TellReplies (P.calls self.new.port) self.new.answers.list }
+
+        ensures stopped { self.new.stopped ≡ option_map (λ r. r.full) (P.refused self.new.port) }
+        ensures refused { IfSome (P.refused self.new.port) (λ r.
+            slice_get (commands_of self.new.tasks) (length (P.calls self.new.port))
+            ≡ Some r.command) }
+        ensures whole { IfNone self.new.stopped
+            (length (P.calls self.new.port) ≡ length self.new.tasks) }
+    {
+        self.stopped = call_each(
+            rt,
+            gate,
+            self.number,
+            self.tasks.as_slice(),
+            &mut self.answers,
+            &mut self.port,
+        );
+    }
+}
+
+// Makes the calls of the tasks in order, until one is refused, and keeps the answers. Gives the
+// refusal.
+fn call_each<R: Wait, G: Gate, P: Port>(
+    rt: &R,
+    gate: &G,
+    number: u32,
+    tasks: &[Task],
+    answers: &mut Answers,
+    port: &mut P,
+) -> Option<Full>
+    requires empty { answers.old.list ≡ [] }
+    requires room { length tasks.now ≤ answers.old.room }
+    requires no_calls { P.calls port.old ≡ [] }
+    requires unrefused { P.refused port.old ≡ None }
+
+    ensures tie { P.tie port.new ≡ P.tie port.old }
+    ensures calls { CallInOrder tasks.now (P.calls port.new) }
+    ensures answers { AnswerInOrder tasks.now answers.new.list }
+    ensures replies { TellReplies (P.calls port.new) answers.new.list }
+
+    ensures stopped { result ≡ option_map (λ r. r.full) (P.refused port.new) }
+    ensures refused { IfSome (P.refused port.new) (λ r.
+        slice_get (commands_of tasks.now) (length (P.calls port.new)) ≡ Some r.command) }
+    ensures whole { IfNone result (length (P.calls port.new) ≡ length tasks.now) }
+{
+    for (index, task) in tasks.iter().enumerate() {
+        gate.before(number, index as u64);
+        let outcome = port.call(rt, task.command);
+        gate.after(number, index as u64);
+        match outcome {
+            Ok(reply) => answers.keep(Answer {
+                line: task.line,
+                reply,
+            }),
+            Err(full) => return Some(full),
+        }
+    }
+    None
+}
+
+/// Runs the lanes side by side, each in a thread of its own where one can be started, and returns
+/// once all have ended. Where none can be started, the caller runs that lane itself.
+///
+/// A lane makes the calls of its tasks in order, until one is refused. It waits for what its port
+/// and its gate wait for. Takes no memory, and is never refused.
+#[tactic(auto, using(crate::proofs::OrderLemmas::map_same))]
+pub fn run_lanes<R: Threads + Wait + Sync, P: Port + Send, G: Gate + Sync>(
+    rt: &R,
+    gate: &G,
+    lanes: &mut [Lane<P>],
+)
+    requires empty { All (λ l. l.answers.list ≡ []) lanes.old }
+    requires room { All (λ l. length l.tasks ≤ l.answers.room) lanes.old }
+    requires no_calls { All (λ l. P.calls l.port ≡ []) lanes.old }
+    requires unrefused { All (λ l. P.refused l.port ≡ None) lanes.old }
+
+    ensures numbers { map (λ l. l.number) lanes.new ≡ map (λ l. l.number) lanes.old }
+    ensures tasks { map (λ l. l.tasks) lanes.new ≡ map (λ l. l.tasks) lanes.old }
+    ensures ties { map (λ l. P.tie l.port) lanes.new ≡ map (λ l. P.tie l.port) lanes.old }
+
+    // What was done is a first part of the tasks, in order, and each call has its answer.
+    ensures calls { All (λ l. CallInOrder l.tasks (P.calls l.port)) lanes.new }
+    ensures answers { All (λ l. AnswerInOrder l.tasks l.answers.list) lanes.new }
+    ensures replies { All (λ l. TellReplies (P.calls l.port) l.answers.list) lanes.new }
+
+    // A lane stops where its port refuses the first task without an answer, and nowhere else.
+    ensures stopped { All (λ l. l.stopped ≡ option_map (λ r. r.full) (P.refused l.port)) lanes.new }
+    ensures refused { All (λ l. IfSome (P.refused l.port) (λ r.
+        slice_get (commands_of l.tasks) (length (P.calls l.port)) ≡ Some r.command)) lanes.new }
+    ensures whole { All (λ l. IfNone l.stopped
+        (length (P.calls l.port) ≡ length l.tasks)) lanes.new }
+{
+    if !lanes.is_empty() {
+        let count = lanes.len();
+        thread::for_each_mut(rt, lanes, count, &|_, lane| lane.run(rt, gate));
+    }
+}

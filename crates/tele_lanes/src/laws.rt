@@ -1,0 +1,32 @@
+//! Laws over the definitions. The functions take no steps and answer nothing: contracts are laws.
+ghost use Rattle.std.specs.Prelude.{◌≡◌, ◌<◌, ◌%◌, ◌↔◌, ℕ, List, All, AllPairs};
+ghost use Rattle.std.specs.List.Sorted.{IsStrictlyIncreasing};
+ghost use Rattle.std.specs.FinMap as fin;
+ghost use Rattle.ist_core.specs.declared.commands.Command.{Command};
+ghost use Rattle.ist_core.specs.Map.{Map, replay};
+ghost use Rattle.tele_lanes.specs.declared.task_lists.Task.{Task};
+ghost use Rattle.tele_lanes.specs.declared.answer_lists.Answer.{Answer};
+ghost use Rattle.tele_lanes.specs.Lines.{task_lines, ShareNoLine};
+ghost use Rattle.tele_lanes.specs.Lanes.{lane_commands, all_lane_tasks, ArePlainAnswers, AnswerAlone, InLineOrder};
+
+/// Lanes that answer alone, each from the same map, answer together as one thread does: their
+/// answers put back in line order are those of all tasks in order, and no others. Each key has at
+/// the end the value that its lane leaves.
+pub fn lanes_answer_as_one()
+    ensures answers { (m : Map) (workers : ℕ) (tasks : List Task) → 0 < workers
+        → IsStrictlyIncreasing (task_lines tasks)
+        → (lanes : List (List Answer)) (all : List Answer) → AnswerAlone m workers tasks lanes
+        → (InLineOrder lanes all ↔ ArePlainAnswers m tasks all) }
+    ensures values { (m : Map) (workers : ℕ) (commands : List Command) (key : ℕ)
+        → fin.get (replay m commands) key
+        ≡ fin.get (replay m (lane_commands workers (key % workers) commands)) key }
+{}
+
+/// Lanes that were split from tasks whose lines rise can be gathered: the lines of each rise, and
+/// no two have a task with the same line.
+pub fn lanes_can_be_gathered()
+    ensures rising { (workers : ℕ) (tasks : List Task) → IsStrictlyIncreasing (task_lines tasks)
+        → All (λ lane. IsStrictlyIncreasing (task_lines lane)) (all_lane_tasks workers tasks) }
+    ensures apart { (workers : ℕ) (tasks : List Task) → IsStrictlyIncreasing (task_lines tasks)
+        → AllPairs ShareNoLine (all_lane_tasks workers tasks) }
+{}

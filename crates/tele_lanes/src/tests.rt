@@ -1,0 +1,411 @@
+//! What no clause says: that lanes run beside each other, and small rounds whole.
+ghost use Rattle.std.specs.Prelude.{◌≡◌, [], All, List, ◌∷◌, ◌++◌, Option, None, ◌≤◌, length, map, vec_len, vec_capacity, IfOk};
+ghost use Rattle.std.specs.List.Sorted.{IsStrictlyIncreasing};
+ghost use Rattle.tele_lanes.specs.Lines.{task_lines};
+ghost use Rattle.tele_lanes.specs.Lanes.{all_lane_tasks};
+ghost use Rattle.std.specs.Option.{option_to_list, option_map};
+ghost use Rattle.ist_core.specs.Replies.{Answered, Refused};
+
+use crate::laws::lanes_can_be_gathered;
+use crate::{Answer, Answers, Gate, Lane, NoGate, Task, Tasks, gather, lane_of, run_lanes, split};
+use ist_core::{Command, Full, Port, Reply};
+use std::alloc::{AllocError, Global};
+use std::sync::Wait;
+use std::sync::atomic::{AtomicU64, Ordering};
+use std::thread::Threads;
+
+const FULL: Full = Full {
+    next: 1,
+    asked: 1,
+    words: 1,
+};
+
+// replies to each get with its key and to all else with nothing, until its room is used
+#[derive(Drop)]
+struct Recorder {
+    told: Vec<(Command, Reply)>,
+    refused: Option<Command>,
+}
+
+impl Port for Recorder {
+    type Tie = ();
+
+    ghost calls = { λ p. map (λ e. record { command = e.0; reply = e.1 }) p.told.items };
+
+    ghost refused = { λ p. option_map (λ c. record {
+      command = c;
+      full = record { next = 1; asked = 1; words = 1 };
+    }) p.refused };
+
+    ghost tie = { λ p. tt };
+
+    fn call<R: Wait>(&mut self, rt: &R, command: Command) -> Result<Reply, Full> {
+        if self.told.len() == self.told.capacity() {
+            self.refused = Some(command);
+            return Err(FULL);
+        }
+        let reply = match command {
+            Command::Get { key } => Some(key),
+            Command::Put { .. } | Command::Remove { .. } => None,
+        };
+        self.told.push_reserved((command, reply));
+        Ok(reply)
+    }
+}
+
+// adds the number of each call, counted from 1, before it, and a thousand times that after it
+#[derive(Drop)]
+struct Counter {
+    told: AtomicU64,
+}
+
+impl Gate for Counter {
+    fn before(&self, lane: u32, index: u64) {
+        self.told.fetch_add(index.wrapping_add(1), Ordering::SeqCst);
+    }
+
+    fn after(&self, lane: u32, index: u64) {
+        self.told
+            .fetch_add(index.wrapping_add(1).wrapping_mul(1000), Ordering::SeqCst);
+    }
+}
+
+// raises its own flag at its one call, and then waits for the other's
+#[derive(Drop)]
+struct Meeting<'a> {
+    mine: &'a AtomicU64,
+    theirs: &'a AtomicU64,
+    missed: bool,
+    told: Option<Command>,
+    refused: Option<Command>,
+}
+
+impl Port for Meeting<'_> {
+    type Tie = ();
+
+    ghost calls = { λ p. option_to_list
+        (option_map (λ c. record { command = c; reply = None }) p.told) };
+
+    ghost refused = { λ p. option_map (λ c. record {
+      command = c;
+      full = record { next = 1; asked = 1; words = 1 };
+    }) p.refused };
+
+    ghost tie = { λ p. tt };
+
+    fn call<R: Wait>(&mut self, rt: &R, command: Command) -> Result<Reply, Full> {
+        if self.told.is_some() {
+            self.refused = Some(command);
+            return Err(FULL);
+        }
+        self.told = Some(command);
+        self.missed = misses(self.mine, self.theirs);
+        Ok(None)
+    }
+}
+
+// raises one flag, and gives whether the other stays down for 100,000,000 turns
+fn misses(mine: &AtomicU64, theirs: &AtomicU64) -> bool {
+    mine.store(1, Ordering::SeqCst);
+    for turn in 0..100_000_000u32 {
+        if theirs.load(Ordering::SeqCst) == 1 {
+            return false;
+        }
+    }
+    true
+}
+
+// a lane with one task and room for its answer
+fn with_one_task<P: Port + Drop>(alloc: Global, number: u32, port: P) -> Result<Lane<P>, AllocError>
+    ensures empty { IfOk result (λ l. l.answers.list ≡ []) }
+    ensures room { IfOk result (λ l. length l.tasks ≤ l.answers.room) }
+    ensures port { IfOk result (λ l. l.port ≡ port) }
+{
+    let mut tasks = Tasks::new(alloc);
+    tasks.push(Task {
+        line: 1,
+        command: Command::Get { key: 1 },
+    })?;
+    Ok(Lane::new(number, tasks, Answers::with_room(alloc, 1)?, port))
+}
+
+// lanes of these tasks, each with a recorder for so many calls
+fn idle_lanes(
+    alloc: Global,
+    tasks: &[Task],
+    workers: u32,
+    calls: usize,
+) -> Result<Vec<Lane<Recorder>>, AllocError>
+    requires some { 1 ≤ workers }
+    requires at_most { workers ≤ 64 }
+    ensures tasks { IfOk result (λ v.
+        map (λ l. l.tasks) v.items ≡ all_lane_tasks workers tasks.now) }
+    ensures empty { IfOk result (λ v. All (λ l. l.answers.list ≡ []) v.items) }
+    ensures room { IfOk result (λ v. All (λ l. length l.tasks ≤ l.answers.room) v.items) }
+    ensures no_calls { IfOk result (λ v. All (λ l. l.port.told.items ≡ []) v.items) }
+    ensures unrefused { IfOk result (λ v. All (λ l. l.port.refused ≡ None) v.items) }
+{
+    let mut lanes = Vec::new(alloc);
+    let mut number = 0u32;
+    for mine in split(alloc, tasks, workers)? {
+        let answers = Answers::with_room(alloc, mine.as_slice().len())?;
+        let port = Recorder {
+            told: Vec::with_capacity(alloc, calls)?,
+            refused: None,
+        };
+        lanes.push(Lane::new(number, mine, answers, port))?;
+        number = number.wrapping_add(1);
+    }
+    Ok(lanes)
+}
+
+// the answers of a round, in line order
+fn round<R: Threads + Wait + Sync>(
+    rt: &R,
+    alloc: Global,
+    tasks: &[Task],
+    workers: u32,
+) -> Result<Vec<Answer>, AllocError>
+    requires some { 1 ≤ workers }
+    requires at_most { workers ≤ 64 }
+    requires rising { IsStrictlyIncreasing (task_lines tasks.now) }
+{
+    let mut lanes = idle_lanes(alloc, tasks, workers, tasks.len())?;
+    let lanes = lanes.as_mut_slice();
+    run_lanes(rt, &NoGate, lanes);
+    lanes_can_be_gathered();
+    gather(alloc, lanes)
+}
+
+#[test]
+fn equal_timestamps_go_to_one_lane(rt: HostRuntime) -> Result<(), AllocError> {
+    let tasks = [
+        Task {
+            line: 1,
+            command: Command::Put { key: 2, value: 1 },
+        },
+        Task {
+            line: 2,
+            command: Command::Put { key: 3, value: 1 },
+        },
+        Task {
+            line: 3,
+            command: Command::Put { key: 2, value: 5 },
+        },
+        Task {
+            line: 4,
+            command: Command::Get { key: 2 },
+        },
+    ];
+    let lanes = split(rt.alloc(), &tasks, 2)?;
+    assert_eq!(rt; lanes.len(), 2);
+    assert_eq!(rt;
+        lanes[0].as_slice(),
+        [tasks[0], tasks[2], tasks[3]].as_slice()
+    );
+    assert_eq!(rt; lanes[1].as_slice(), [tasks[1]].as_slice());
+    Ok(())
+}
+
+#[test]
+fn lanes_are_remainders(rt: HostRuntime) {
+    // the timestamp, the workers, the lane
+    let cases = [
+        (0, 1, 0),
+        (7, 1, 0),
+        (63, 64, 63),
+        (64, 64, 0),
+        (u64::MAX, 64, 63),
+        (u64::MAX - 63, 64, 0),
+        (u64::MAX, 2, 1),
+        (u64::MAX - 1, 2, 0),
+        (u64::MAX, 3, 0),
+        (u64::MAX, 7, 1),
+        (u64::MAX, u32::MAX, 0),
+    ];
+    for (timestamp, workers, lane) in cases {
+        assert!(rt; workers >= 1);
+        assert_eq!(rt;
+            lane_of(timestamp, workers),
+            lane,
+            "{timestamp} of {workers}"
+        );
+    }
+}
+
+#[test]
+fn lanes_run_beside_each_other(rt: HostRuntime) -> Result<(), AllocError> {
+    let (one, two) = (AtomicU64::new(0), AtomicU64::new(0));
+    let left = Meeting {
+        mine: &one,
+        theirs: &two,
+        missed: false,
+        told: None,
+        refused: None,
+    };
+    let right = Meeting {
+        mine: &two,
+        theirs: &one,
+        missed: false,
+        told: None,
+        refused: None,
+    };
+    let mut lanes = [
+        with_one_task(rt.alloc(), 0, left)?,
+        with_one_task(rt.alloc(), 1, right)?,
+    ];
+    run_lanes(&rt, &NoGate, &mut lanes);
+    for lane in &lanes {
+        assert_eq!(rt; lane.answers.as_slice().len(), 1, "lane {}", lane.number);
+        assert_eq!(rt; lane.stopped, None, "lane {}", lane.number);
+        assert!(rt; !lane.port.missed, "lane {}", lane.number);
+    }
+    Ok(())
+}
+
+#[test]
+fn a_lane_stops_at_the_refused_task(rt: HostRuntime) -> Result<(), AllocError> {
+    let tasks = [
+        Task {
+            line: 1,
+            command: Command::Get { key: 5 },
+        },
+        Task {
+            line: 2,
+            command: Command::Put { key: 5, value: 9 },
+        },
+        Task {
+            line: 3,
+            command: Command::Get { key: 5 },
+        },
+        Task {
+            line: 4,
+            command: Command::Get { key: 5 },
+        },
+    ];
+    let mut lanes = idle_lanes(rt.alloc(), &tasks, 1, 2)?;
+    let gate = Counter {
+        told: AtomicU64::new(0),
+    };
+    run_lanes(&rt, &gate, &mut lanes);
+    // two answered calls and the refused one: 1 + 2 + 3
+    assert_eq!(rt; gate.told.load(Ordering::SeqCst), 6006);
+    for lane in &lanes {
+        let answers = [
+            Answer {
+                line: 1,
+                reply: Some(5),
+            },
+            Answer {
+                line: 2,
+                reply: None,
+            },
+        ];
+        assert_eq!(rt; lane.answers.as_slice(), answers.as_slice());
+        assert_eq!(rt; lane.stopped, Some(FULL));
+        assert_eq!(rt; lane.port.refused, Some(Command::Get { key: 5 }));
+    }
+    Ok(())
+}
+
+#[test]
+fn no_tasks_give_no_answers(rt: HostRuntime) -> Result<(), AllocError> {
+    let mut lanes = idle_lanes(rt.alloc(), &[], 3, 0)?;
+    assert_eq!(rt; lanes.len(), 3);
+    run_lanes(&rt, &NoGate, &mut lanes);
+    for lane in &lanes {
+        assert_eq!(rt; lane.answers.as_slice().len(), 0, "lane {}", lane.number);
+        assert_eq!(rt; lane.stopped, None, "lane {}", lane.number);
+    }
+    assert_eq!(rt; gather::<Recorder>(rt.alloc(), &[])?.len(), 0);
+    let mut none: [Lane<Recorder>; 0] = [];
+    run_lanes(&rt, &NoGate, &mut none);
+    Ok(())
+}
+
+#[test]
+fn answers_come_back_in_line_order(rt: HostRuntime) -> Result<(), AllocError> {
+    let tasks = [
+        Task {
+            line: 1,
+            command: Command::Get { key: 200 },
+        },
+        Task {
+            line: 2,
+            command: Command::Get { key: 7 },
+        },
+        Task {
+            line: 4,
+            command: Command::Remove { key: 64 },
+        },
+        Task {
+            line: 5,
+            command: Command::Get { key: u64::MAX },
+        },
+        Task {
+            line: 9,
+            command: Command::Get { key: 0 },
+        },
+        Task {
+            line: 10,
+            command: Command::Put { key: 7, value: 1 },
+        },
+        Task {
+            line: 12,
+            command: Command::Get { key: 1 },
+        },
+    ];
+    let answers = [
+        Answer {
+            line: 1,
+            reply: Some(200),
+        },
+        Answer {
+            line: 2,
+            reply: Some(7),
+        },
+        Answer {
+            line: 4,
+            reply: None,
+        },
+        Answer {
+            line: 5,
+            reply: Some(u64::MAX),
+        },
+        Answer {
+            line: 9,
+            reply: Some(0),
+        },
+        Answer {
+            line: 10,
+            reply: None,
+        },
+        Answer {
+            line: 12,
+            reply: Some(1),
+        },
+    ];
+    for workers in [1u32, 2, 3, 7, 64] {
+        assert!(rt; workers >= 1 && workers <= 64);
+        let all = round(&rt, rt.alloc(), &tasks, workers)?;
+        assert_eq!(rt; all.as_slice(), answers.as_slice(), "{workers} workers");
+    }
+    Ok(())
+}
+
+#[test]
+fn lists_come_back_as_they_went_in(rt: HostRuntime) -> Result<(), AllocError> {
+    let task = Task {
+        line: 3,
+        command: Command::Remove { key: 8 },
+    };
+    let tasks = Tasks::from_vec(vec![in rt.alloc(); task]?).into_vec();
+    assert_eq!(rt; tasks.as_slice(), [task].as_slice());
+    let answer = Answer {
+        line: 3,
+        reply: Some(6),
+    };
+    let answers = Answers::from_vec(vec![in rt.alloc(); answer]?).into_vec();
+    assert_eq!(rt; answers.as_slice(), [answer].as_slice());
+    Ok(())
+}
