@@ -16,6 +16,8 @@ pub mod PublishingLemmas
 pub mod InstallLemmas
 pub mod MoveLemmas
 pub mod PublishMoveLemmas
+pub mod EventMoveLemmas
+pub mod SoundLemmas
 pub mod SpendingLemmas
 pub mod RefusalLemmas
 pub mod PutExampleLemmas

@@ -1,0 +1,103 @@
+-- Behind a lawful log rows lie soundly, and each that was reserved is known. Serves `laws.rows_are_known`.
+use Rattle.std.proofs.Common.{◌≡◌, ℕ, ◌+◌, ◌<◌, ◌≤◌, ◌⊎◌, List, [], ◌∷◌, ◌++◌, Option, Some, None, refl, sym, ap, ◌∙◌, subst, inl, inr, ⊎_elim, arith}
+use Rattle.ist_core.specs.declared.lists.HeldRow.{HeldRow}
+use Rattle.ist_core.specs.declared.events.Event.{Event}
+use Rattle.ist_core.specs.declared.events.Event.TheVariants.{Enter, Reserve, Install, Okay, Decide, Resolve, Count, Mark, Pass, Finish, Root, Draw, Place, Lose}
+use Rattle.ist_core.specs.Elements.{Among}
+use Rattle.ist_core.specs.Pieces.{Piece, size_of}
+use Rattle.ist_core.specs.Snapshots.{Snapshot, HoldsRow}
+use Rattle.ist_core.specs.After.{after}
+use Rattle.ist_core.specs.Logs.{Log, state, Happened, Reserves, Loses}
+use Rattle.ist_core.specs.Enabled.{Enabled, CanReserve}
+use Rattle.ist_core.specs.Lawful.{EachEnabled}
+use Rattle.ist_core.specs.Spending.{reserved_by}
+use Rattle.ist_core.proofs.ElementLemmas.{among-append, among_left, among_right}
+use Rattle.ist_core.proofs.MoveLemmas.{IsSound, Moves, StandsWith}
+use Rattle.ist_core.proofs.EventMoveLemmas.{reserve_positive, moves}
+
+sound_moves : (t u : Snapshot) (event : Event) → IsSound t → Moves t u event → IsSound u
+sound_moves t u event s m =
+    record {
+      below = λ base p e.
+          let under = ⊎_elim (λ w. s.below base w.0 w.1) (λ w. subst (λ b. b < t.next) w.2 (s.held_below w.0 w.1)) (m.from base p e) in
+          subst (λ n. base < n) (sym m.next) under;
+      held_below = λ h i. subst (λ n. h.base < n) (sym m.next) (s.held_below h (m.kept h i));
+      unpublished = λ h i. m.unpublished h i (s.unpublished h (m.kept h i));
+      once = λ g h i j e. s.once g h (m.kept g i) (m.kept h j) e;
+    }
+
+module _ (t : Snapshot) (caller base size : ℕ) (h : CanReserve t caller base size) (s : IsSound t) where
+  -- the row that is reserved
+  new_row : HeldRow
+  new_row = record { caller = caller; base = base; size = size }
+
+  positive : 0 < size
+  positive = reserve_positive t caller base size h
+
+  -- what is held behind it was held, or is the new row
+  held_or_new : (g : HeldRow) → Among g (after t (Reserve caller base size)).held → Among g t.held ⊎ (g ≡ new_row)
+  unfolding new_row
+  held_or_new g i = ⊎_elim (λ k. inl k) (λ k. ⊎_elim (λ e. inr e) (λ e. absurd e) k) (among-append g t.held (new_row ∷ []) i)
+
+  -- no row lies at the first free word
+  free_there : t.pieces base ≡ None
+  free_there = at (t.pieces base) refl
+    where
+      at : (o : Option Piece) → t.pieces base ≡ o → t.pieces base ≡ None
+      at None e = e
+      at (Some p) e = let low = s.below base p e in let is = h.base_is in absurd (omega arith)
+
+  sound_reserve : IsSound (after t (Reserve caller base size))
+  unfolding new_row
+  sound_reserve =
+      record {
+        below = λ at p e. let low = s.below at p e in let is = h.base_is in omega arith;
+        held_below = λ g i.
+            ⊎_elim
+              (λ k. let low = s.held_below g k in let is = h.base_is in let lower : g.base < base + size = omega arith in lower)
+              (λ e. let some = positive in let same : g.base ≡ base = ap (λ x. x.base) e in let lower : g.base < base + size = omega arith in lower)
+              (held_or_new g i);
+        unpublished = λ g i. ⊎_elim (λ k. s.unpublished g k) (λ e. subst (λ x. t.pieces x.base ≡ None) (sym e) free_there) (held_or_new g i);
+        once = λ f g i j e. both f g e (held_or_new f i) (held_or_new g j);
+      }
+    where
+      both : (f g : HeldRow) → f.base ≡ g.base → Among f t.held ⊎ (f ≡ new_row) → Among g t.held ⊎ (g ≡ new_row) → f ≡ g
+      both f g e (inl i) (inl j) = s.once f g i j e
+      both f g e (inl i) (inr d) = let low = s.held_below f i in let is = h.base_is in let at : g.base ≡ base = ap (λ x. x.base) d in absurd (omega arith)
+      both f g e (inr d) (inl j) = let low = s.held_below g j in let is = h.base_is in let at : f.base ≡ base = ap (λ x. x.base) d in absurd (omega arith)
+      both f g e (inr c) (inr d) = c ∙ sym d
+
+-- an enabled event leaves rows sound
+sound_step : (first : Snapshot) (log : Log) (event : Event) → Enabled first log event → IsSound (state first log) → IsSound (state first (event ∷ log))
+sound_step first log (Reserve caller base size) h s = sound_reserve (state first log) caller base size h s
+sound_step first log (Enter caller) h s = sound_moves _ _ (Enter caller) s (moves first log (Enter caller) refl h s)
+sound_step first log (Install caller change rows) h s = sound_moves _ _ (Install caller change rows) s (moves first log (Install caller change rows) refl h s)
+sound_step first log (Okay caller change) h s = sound_moves _ _ (Okay caller change) s (moves first log (Okay caller change) refl h s)
+sound_step first log (Decide caller change said) h s = sound_moves _ _ (Decide caller change said) s (moves first log (Decide caller change said) refl h s)
+sound_step first log (Resolve caller change) h s = sound_moves _ _ (Resolve caller change) s (moves first log (Resolve caller change) refl h s)
+sound_step first log (Count caller node) h s = sound_moves _ _ (Count caller node) s (moves first log (Count caller node) refl h s)
+sound_step first log (Mark caller node) h s = sound_moves _ _ (Mark caller node) s (moves first log (Mark caller node) refl h s)
+sound_step first log (Pass caller node i word) h s = sound_moves _ _ (Pass caller node i word) s (moves first log (Pass caller node i word) refl h s)
+sound_step first log (Finish caller node keys) h s = sound_moves _ _ (Finish caller node keys) s (moves first log (Finish caller node keys) refl h s)
+sound_step first log (Root caller rebuild word rows) h s = sound_moves _ _ (Root caller rebuild word rows) s (moves first log (Root caller rebuild word rows) refl h s)
+sound_step first log (Draw caller rebuild part) h s = sound_moves _ _ (Draw caller rebuild part) s (moves first log (Draw caller rebuild part) refl h s)
+sound_step first log (Place caller rebuild i word rows) h s = sound_moves _ _ (Place caller rebuild i word rows) s (moves first log (Place caller rebuild i word rows) refl h s)
+sound_step first log (Lose caller bases) h s = sound_moves _ _ (Lose caller bases) s (moves first log (Lose caller bases) refl h s)
+
+-- rows lie soundly behind a log from a sound state
+pub sound : (first : Snapshot) (log : Log) → IsSound first → EachEnabled first log → IsSound (state first log)
+sound first [] s h = s
+sound first (event ∷ log) s h = sound_step first log event h.1 (sound first log s h.0)
+
+-- ---- the fate of a reserved row
+
+-- the row is held by the caller, or stands published, or was lost
+abbrev pub Known : Snapshot → Log → ℕ → ℕ → ℕ → Type 0
+Known t log caller base size = (HoldsRow t caller base size ⊎ StandsWith t.pieces base size) ⊎ Happened (Loses base) log
+
+-- a known row stays known
+known_moves : (t u : Snapshot) (log : Log) (event : Event) (caller base size : ℕ) → Moves t u event → Known t log caller base size → Known u (event ∷ log) caller base size
+known_moves t u log event caller base size m (inl (inl held)) =
+    ⊎_elim (λ k. inl k) (λ lost. inr (inl lost)) (m.fate record { caller = caller; base = base; size = size } held)
+known_moves t u log event caller base size m (inl (inr stands)) = inl (inr (subst (λ n. StandsWith u.pieces base n) stands.2 (m.stays base stands.0 stands.1)))
+known_moves t u log event caller base size m (inr lost) = inr (inr lost)
