@@ -19,6 +19,10 @@ pub mod PublishMoveLemmas
 pub mod EventMoveLemmas
 pub mod SoundLemmas
 pub mod SpendingLemmas
+pub mod GrowingLemmas
+pub mod FreshLemmas
+pub mod AddingLemmas
+pub mod StepLemmas
 pub mod RefusalLemmas
 pub mod PutExampleLemmas
 pub mod StartExampleLemmas

@@ -27,6 +27,7 @@ pub mod Building
 pub mod Enabled
 pub mod Lawful
 pub mod Spending
+pub mod Growing
 pub mod Changes
 pub mod Standing
 pub mod Histories
