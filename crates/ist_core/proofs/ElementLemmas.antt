@@ -1,8 +1,5 @@
 -- Elements of lists. Serves each law that speaks of held rows, of logs or of leaves.
-use Rattle.std.proofs.Common.{◌≡◌, ℕ, ◌⊎◌, ◌==◌, Bool, true, false, not, if◌then◌else◌, List, [], ◌∷◌, ◌++◌, map, filter, refl, sym, subst, inl, inr, ⊎_elim}
-use Rattle.std.specs.List.{list_any}
-use Rattle.std.proofs.lemmas.Bool.Decides.{nat_tests}
-use Rattle.std.proofs.Common.{arith}
+use Rattle.std.proofs.Common.{◌≡◌, ◌⊎◌, Bool, true, false, if◌then◌else◌, List, [], ◌∷◌, ◌++◌, filter, refl, sym, subst, inl, inr, ⊎_elim}
 use Rattle.ist_core.specs.Elements.{Among, Each}
 
 module _ {A : Type 0} where
@@ -40,21 +37,26 @@ module _ {A : Type 0} where
   each-append P (x ∷ xs) ys h = let rest = each-append P xs ys h.1 in ((h.0, rest.0), rest.1)
 
   -- an element that the test keeps was an element, and passes the test
-  pub among-filter : (test : A → Bool) (x : A) (xs : List A) → Among x (filter test xs) → Among x xs × (test x ≡ true)
+  pub among-filter : (test : A → Bool) (x : A) (xs : List A) → Among x (filter test xs)
+      → Among x xs × (test x ≡ true)
   among-filter test x [] h = absurd h
   among-filter test x (y ∷ ys) h = at (among-filter test x ys) (test y) refl h
     where
-      at : (Among x (filter test ys) → Among x ys × (test x ≡ true)) → (b : Bool) → test y ≡ b → Among x (if b then y ∷ filter test ys else filter test ys) → Among x (y ∷ ys) × (test x ≡ true)
+      at : (Among x (filter test ys) → Among x ys × (test x ≡ true)) → (b : Bool) → test y ≡ b
+          → Among x (if b then y ∷ filter test ys else filter test ys)
+          → Among x (y ∷ ys) × (test x ≡ true)
       at again true e (inl i) = (inl i, subst (λ z. test z ≡ true) (sym i) e)
       at again true e (inr i) = let rest = again i in (inr rest.0, rest.1)
       at again false e i = let rest = again i in (inr rest.0, rest.1)
 
   -- an element that passes the test is kept
-  pub among_filter : (test : A → Bool) (x : A) (xs : List A) → Among x xs → test x ≡ true → Among x (filter test xs)
+  pub among_filter : (test : A → Bool) (x : A) (xs : List A) → Among x xs → test x ≡ true
+      → Among x (filter test xs)
   among_filter test x [] h e = h
   among_filter test x (y ∷ ys) h e = at (among_filter test x ys) (test y) refl h
     where
-      at : (Among x ys → test x ≡ true → Among x (filter test ys)) → (b : Bool) → test y ≡ b → Among x (y ∷ ys) → Among x (if b then y ∷ filter test ys else filter test ys)
+      at : (Among x ys → test x ≡ true → Among x (filter test ys)) → (b : Bool) → test y ≡ b
+          → Among x (y ∷ ys) → Among x (if b then y ∷ filter test ys else filter test ys)
       at again true f (inl i) = inl i
       at again true f (inr i) = inr (again i e)
       at again false f (inl i) = absurd (clash (subst (λ z. test z ≡ true) i e) f)

@@ -22,7 +22,8 @@ skip x y xs h (suc k) e =
     subst (λ n. slice_index xs k < slice_index (x ∷ xs) n) (sym place) (behind y xs (behind x (y ∷ xs) h) k (omega arith))
 
 module _ {X : Type 0} where
-  above : (x : ℕ) (v : X) (es : List (ℕ × X)) → IsStrictlyIncreasing (x ∷ map (λ e. e.0) es) → fin.is_sorted nat_cmp ((x, v) ∷ es) ≡ true
+  above : (x : ℕ) (v : X) (es : List (ℕ × X)) → IsStrictlyIncreasing (x ∷ map (λ e. e.0) es)
+      → fin.is_sorted nat_cmp ((x, v) ∷ es) ≡ true
   above x v [] h = refl
   above x v (e ∷ es) h =
       let first : x < e.0 = h 0 (omega arith) in
@@ -31,10 +32,12 @@ module _ {X : Type 0} where
       grind (arith, nat_tests)
 
   -- rising bases are sorted keys
-  pub is_sorted-rising : (es : List (ℕ × X)) → IsStrictlyIncreasing (map (λ e. e.0) es) → fin.is_sorted nat_cmp es ≡ true
+  pub is_sorted-rising : (es : List (ℕ × X)) → IsStrictlyIncreasing (map (λ e. e.0) es)
+      → fin.is_sorted nat_cmp es ≡ true
   is_sorted-rising [] h = refl
   is_sorted-rising (e ∷ es) h = above e.0 e.1 es h
 
   -- the map of sorted entries has these entries
-  pub entries-from_sorted : (es : List (ℕ × X)) → fin.is_sorted nat_cmp es ≡ true → fin.entries (fin.from_sorted {R = nat_cmp} es) ≡ es
+  pub entries-from_sorted : (es : List (ℕ × X)) → fin.is_sorted nat_cmp es ≡ true
+      → fin.entries (fin.from_sorted {R = nat_cmp} es) ≡ es
   entries-from_sorted es h = fin.entries-from_sorted nat_cmp es (subst T (sym h) tt)

@@ -77,7 +77,8 @@ none_unset zero word e = λ k. let is : ◌≡◌ {A = ℕ} 89 word = cc in omeg
 none_unset (suc zero) word e = λ k. let is : ◌≡◌ {A = ℕ} 105 word = cc in omega arith
 none_unset (suc (suc i)) word e = absurd (cc)
 
-root_whole : (base i word : ℕ) → ref_of 234 ≡ Some (InnerAt base) → SlotHolds (state two finish_held) base i word → word ≢ 7
+root_whole : (base i word : ℕ) → ref_of 234 ≡ Some (InnerAt base)
+    → SlotHolds (state two finish_held) base i word → word ≢ 7
 unfolding ref_of
 root_whole base i word e (in_anchor at _ _) = let is : ◌≡◌ {A = ℕ} 29 base = cc in absurd (omega arith)
 root_whole base i word e (in_row r published holds) =

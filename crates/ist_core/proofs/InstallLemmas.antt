@@ -1,10 +1,10 @@
 -- Rows that an Install publishes. Serves `laws.rows_are_known`.
-use Rattle.std.proofs.Common.{◌≡◌, ℕ, ◌⊎◌, ◌==◌, nat_lt, true, false, if◌then◌else◌, List, [], ◌∷◌, length, Option, Some, None, refl, sym, ap, ◌∙◌, subst, inl, inr, ⊎_elim}
+use Rattle.std.proofs.Common.{◌≡◌, ℕ, ◌⊎◌, ◌==◌, nat_lt, true, false, if◌then◌else◌, List, [], ◌∷◌, length, Option, Some, refl, sym, ap, ◌∙◌, subst, inl, inr, ⊎_elim}
 use Rattle.ist_core.specs.declared.lists.Row.{Row}
 use Rattle.ist_core.specs.declared.states.ChangeRow.{ChangeRow}
-use Rattle.ist_core.specs.Statuses.{put_kind, start_kind}
+use Rattle.ist_core.specs.Statuses.{start_kind}
 use Rattle.ist_core.specs.Elements.{Among}
-use Rattle.ist_core.specs.Pieces.{Pieces, Piece, Leaf, Inner, Change, Rebuild, size_of, words_of, row_at, leaf_of, inner_of, rebuild_of, change_of, with_row}
+use Rattle.ist_core.specs.Pieces.{Pieces, Piece, Leaf, Change, Rebuild, size_of, words_of, row_at, leaf_of, inner_of, rebuild_of, with_row}
 use Rattle.ist_core.specs.Snapshots.{Snapshot, bases_of}
 use Rattle.ist_core.specs.Logs.{Log}
 use Rattle.ist_core.specs.After.{with_fresh}
@@ -21,7 +21,8 @@ size_of-leaf_of (a ∷ b ∷ []) p e = let is : Leaf record { key = a; value = b
 size_of-leaf_of (a ∷ b ∷ c ∷ words) p e = absurd (cc)
 
 -- a rebuild has as many words as it was read from
-size_of-rebuild_of : (words : List ℕ) (p : Piece) → rebuild_of words ≡ Some p → size_of p ≡ length words
+size_of-rebuild_of : (words : List ℕ) (p : Piece) → rebuild_of words ≡ Some p
+    → size_of p ≡ length words
 size_of-rebuild_of [] p e = absurd (cc)
 size_of-rebuild_of (a ∷ []) p e = absurd (cc)
 size_of-rebuild_of (a ∷ b ∷ []) p e = absurd (cc)
@@ -35,7 +36,8 @@ size_of-rebuild_of (a ∷ b ∷ c ∷ d ∷ f ∷ g ∷ words) p e = absurd (cc)
 fresh_of : ChangeRow → List ℕ → Option Piece
 fresh_of change words = if change.kind == start_kind then rebuild_of words else leaf_of words
 
-size_of-fresh_of : (change : ChangeRow) (words : List ℕ) (p : Piece) → fresh_of change words ≡ Some p → size_of p ≡ length words
+size_of-fresh_of : (change : ChangeRow) (words : List ℕ) (p : Piece)
+    → fresh_of change words ≡ Some p → size_of p ≡ length words
 unfolding fresh_of
 size_of-fresh_of change words p e =
     elim (change.kind == start_kind) as (λ v. (if v then rebuild_of words else leaf_of words) ≡ Some p → size_of p ≡ length words) [
@@ -44,7 +46,8 @@ size_of-fresh_of change words p e =
     ] e
 
 -- what stands behind the fresh rows stood there, or is one of them
-fresh-some : (ps : Pieces) (change : ChangeRow) (rows : List Row) (base : ℕ) (q : Piece) → with_fresh ps change rows base ≡ Some q
+fresh-some : (ps : Pieces) (change : ChangeRow) (rows : List Row) (base : ℕ) (q : Piece)
+    → with_fresh ps change rows base ≡ Some q
     → (ps base ≡ Some q) ⊎ ((row : Row) × Among row rows × (row.base ≡ base) × (size_of q ≡ length row.words))
 unfolding fresh_of
 fresh-some ps change [] base q e = inl e
@@ -52,23 +55,25 @@ fresh-some ps change (row ∷ []) base q e =
     ⊎_elim (λ h. inr (row, inl refl, sym h.0, size_of-fresh_of change row.words q h.1)) (λ h. inl h) (with_row-some ps row.base base (fresh_of change row.words) q e)
 fresh-some ps change (pair ∷ leaf ∷ []) base q e =
     ⊎_elim
-      (λ h. inr (pair, inl refl, sym h.0, size_of-inner_of pair.words q h.1))
-      (λ h. ⊎_elim (λ k. inr (leaf, inr (inl refl), sym k.0, size_of-leaf_of leaf.words q k.1)) (λ k. inl k) (with_row-some ps leaf.base base (leaf_of leaf.words) q h))
-      (with_row-some (with_row ps leaf.base (leaf_of leaf.words)) pair.base base (inner_of pair.words) q e)
+    (λ h. inr (pair, inl refl, sym h.0, size_of-inner_of pair.words q h.1))
+    (λ h. ⊎_elim (λ k. inr (leaf, inr (inl refl), sym k.0, size_of-leaf_of leaf.words q k.1)) (λ k. inl k) (with_row-some ps leaf.base base (leaf_of leaf.words) q h))
+    (with_row-some (with_row ps leaf.base (leaf_of leaf.words)) pair.base base (inner_of pair.words) q e)
 fresh-some ps change (a ∷ b ∷ c ∷ rows) base q e = inl e
 
 -- where no fresh row lies, what stood there stands there
-fresh-other : (ps : Pieces) (change : ChangeRow) (rows : List Row) (base : ℕ) → ¬ (Among base (bases_of rows)) → with_fresh ps change rows base ≡ ps base
+fresh-other : (ps : Pieces) (change : ChangeRow) (rows : List Row) (base : ℕ)
+    → ¬ (Among base (bases_of rows)) → with_fresh ps change rows base ≡ ps base
 unfolding fresh_of
 fresh-other ps change [] base out = refl
 fresh-other ps change (row ∷ []) base out = with_row-other ps row.base base (fresh_of change row.words) (λ e. out (inl e))
 fresh-other ps change (pair ∷ leaf ∷ []) base out =
     with_row-other (with_row ps leaf.base (leaf_of leaf.words)) pair.base base (inner_of pair.words) (λ e. out (inl e))
-      ∙ with_row-other ps leaf.base base (leaf_of leaf.words) (λ e. out (inr (inl e)))
+    ∙ with_row-other ps leaf.base base (leaf_of leaf.words) (λ e. out (inr (inl e)))
 fresh-other ps change (a ∷ b ∷ c ∷ rows) base out = refl
 
 -- a pair row is read from its words
-pub inner_of-pair_row : (key base other_key other : ℕ) → inner_of (words_of (pair_row key base other_key other)) ≡ Some (pair_row key base other_key other)
+pub inner_of-pair_row : (key base other_key other : ℕ)
+    → inner_of (words_of (pair_row key base other_key other)) ≡ Some (pair_row key base other_key other)
 inner_of-pair_row key base other_key other =
     elim (nat_lt other_key key) as (λ v. inner_of (words_of (if v then pair_over key other base else pair_over other_key base other)) ≡ Some (if v then pair_over key other base else pair_over other_key base other)) [
       | true ↦ refl
@@ -76,36 +81,40 @@ inner_of-pair_row key base other_key other =
     ]
 
 -- each fresh row of a change stands behind it
-fresh_named : (ps : Pieces) (first : Snapshot) (log : Log) (change : ChangeRow) (fresh : List Row) → FitsKind first log change fresh
+fresh_named : (ps : Pieces) (first : Snapshot) (log : Log) (change : ChangeRow) (fresh : List Row)
+    → FitsKind first log change fresh
     → (row : Row) → Among row fresh → Stands (with_fresh ps change fresh) row.base
 unfolding fresh_of
 fresh_named ps first log change fresh (a_put h) =
     let read = ap (λ k. if k == start_kind then rebuild_of (words_of (new_leaf change)) else leaf_of (words_of (new_leaf change))) h.kind in
     subst (λ rows. (row : Row) → Among row rows → Stands (with_fresh ps change rows) row.base) (sym h.fresh_are) (λ row i. one h.leaf read row i)
   where
-    one : (leaf : ℕ) → fresh_of change (words_of (new_leaf change)) ≡ Some (new_leaf change) → (row : Row) → Among row (row_at leaf (new_leaf change) ∷ [])
+    one : (leaf : ℕ) → fresh_of change (words_of (new_leaf change)) ≡ Some (new_leaf change)
+        → (row : Row) → Among row (row_at leaf (new_leaf change) ∷ [])
         → Stands (with_row ps leaf (fresh_of change (words_of (new_leaf change)))) row.base
     one leaf read row (inl e) =
         subst (λ b. Stands (with_row ps leaf (fresh_of change (words_of (new_leaf change)))) b) (sym (ap (λ r. r.base) e)) (stands_here ps leaf (fresh_of change (words_of (new_leaf change))) (new_leaf change) read)
     one leaf read row (inr i) = absurd i
 fresh_named ps first log change fresh (a_pair h) =
     subst (λ rows. (row : Row) → Among row rows → Stands (with_fresh ps change rows) row.base) (sym h.fresh_are)
-      (λ row i. two (pair_row change.key h.leaf h.other_key h.other) h.pair h.leaf (inner_of-pair_row change.key h.leaf h.other_key h.other) row i)
+    (λ row i. two (pair_row change.key h.leaf h.other_key h.other) h.pair h.leaf (inner_of-pair_row change.key h.leaf h.other_key h.other) row i)
   where
-    two : (p : Piece) (pair leaf : ℕ) → inner_of (words_of p) ≡ Some p → (row : Row) → Among row (row_at pair p ∷ row_at leaf (new_leaf change) ∷ [])
+    two : (p : Piece) (pair leaf : ℕ) → inner_of (words_of p) ≡ Some p → (row : Row)
+        → Among row (row_at pair p ∷ row_at leaf (new_leaf change) ∷ [])
         → Stands (with_row (with_row ps leaf (Some (new_leaf change))) pair (inner_of (words_of p))) row.base
     two p pair leaf read row (inl e) =
         subst (λ b. Stands (with_row (with_row ps leaf (Some (new_leaf change))) pair (inner_of (words_of p))) b) (sym (ap (λ r. r.base) e)) (stands_here (with_row ps leaf (Some (new_leaf change))) pair (inner_of (words_of p)) p read)
     two p pair leaf read row (inr (inl e)) =
         subst (λ b. Stands (with_row (with_row ps leaf (Some (new_leaf change))) pair (inner_of (words_of p))) b) (sym (ap (λ r. r.base) e))
-          (stands-with_row (with_row ps leaf (Some (new_leaf change))) pair leaf (inner_of (words_of p)) (stands_here ps leaf (Some (new_leaf change)) (new_leaf change) refl))
+        (stands-with_row (with_row ps leaf (Some (new_leaf change))) pair leaf (inner_of (words_of p)) (stands_here ps leaf (Some (new_leaf change)) (new_leaf change) refl))
     two p pair leaf read row (inr (inr i)) = absurd i
 fresh_named ps first log change fresh (a_remove h) = λ row i. absurd (subst (λ rows. Among row rows) h.fresh_are i)
 fresh_named ps first log change fresh (a_start h) =
     let read = ap (λ k. if k == start_kind then rebuild_of (words_of (new_rebuild change h.target)) else leaf_of (words_of (new_rebuild change h.target))) h.kind in
     subst (λ rows. (row : Row) → Among row rows → Stands (with_fresh ps change rows) row.base) (sym h.fresh_are) (λ row i. one (new_rebuild change h.target) h.rebuild read row i)
   where
-    one : (p : Piece) (base : ℕ) → fresh_of change (words_of p) ≡ Some p → (row : Row) → Among row (row_at base p ∷ [])
+    one : (p : Piece) (base : ℕ) → fresh_of change (words_of p) ≡ Some p → (row : Row)
+        → Among row (row_at base p ∷ [])
         → Stands (with_row ps base (fresh_of change (words_of p))) row.base
     one p base read row (inl e) = subst (λ b. Stands (with_row ps base (fresh_of change (words_of p))) b) (sym (ap (λ r. r.base) e)) (stands_here ps base (fresh_of change (words_of p)) p read)
     one p base read row (inr i) = absurd i
@@ -116,15 +125,16 @@ abbrev pub with_installed : Pieces → ℕ → ChangeRow → List Row → Pieces
 with_installed ps base change fresh = with_row (with_fresh ps change fresh) base (Some (Change change))
 
 -- an Install publishes the change and its fresh rows
-pub publishes_install : (ps : Pieces) (first : Snapshot) (log : Log) (base : ℕ) (change : ChangeRow) (fresh : List Row) → FitsKind first log change fresh
+pub publishes_install : (ps : Pieces) (first : Snapshot) (log : Log) (base : ℕ) (change : ChangeRow) (fresh : List Row)
+    → FitsKind first log change fresh
     → Publishes ps (row_at base (Change change) ∷ fresh) (with_installed ps base change fresh)
 publishes_install ps first log base change fresh fits =
     record {
       from = λ at q e.
           ⊎_elim
-            (λ h. inr (row_at base (Change change), inl refl, sym h.0, size h.1))
-            (λ h. ⊎_elim (λ k. inl k) (λ k. inr (k.0, inr k.1, k.2, k.3)) (fresh-some ps change fresh at q h))
-            (with_row-some (with_fresh ps change fresh) base at (Some (Change change)) q e);
+          (λ h. inr (row_at base (Change change), inl refl, sym h.0, size h.1))
+          (λ h. ⊎_elim (λ k. inl k) (λ k. inr (k.0, inr k.1, k.2, k.3)) (fresh-some ps change fresh at q h))
+          (with_row-some (with_fresh ps change fresh) base at (Some (Change change)) q e);
       others = λ at out.
           with_row-other (with_fresh ps change fresh) base at (Some (Change change)) (λ e. out (inl e)) ∙ fresh-other ps change fresh at (λ i. out (inr i));
       named = λ row i. each row i;
@@ -133,6 +143,7 @@ publishes_install ps first log base change fresh fits =
     size : {q : Piece} → Some (Change change) ≡ Some q → size_of q ≡ 9
     size {q = q} e = let is : Change change ≡ q = cc in subst (λ p. size_of p ≡ 9) is refl
 
-    each : (row : Row) → Among row (row_at base (Change change) ∷ fresh) → Stands (with_installed ps base change fresh) row.base
+    each : (row : Row) → Among row (row_at base (Change change) ∷ fresh)
+        → Stands (with_installed ps base change fresh) row.base
     each row (inl e) = subst (λ b. Stands (with_installed ps base change fresh) b) (sym (ap (λ r. r.base) e)) (stands_here (with_fresh ps change fresh) base (Some (Change change)) (Change change) refl)
     each row (inr i) = stands-with_row (with_fresh ps change fresh) base row.base (Some (Change change)) (fresh_named ps first log change fresh fits row i)

@@ -16,7 +16,8 @@ Reached ps (Some (LeafAt base)) leaves = (r : LeafRow) × (ps base ≡ Some (Lea
 Reached ps (Some (InnerAt base)) leaves = (r : InnerRow) × (ps base ≡ Some (Inner r)) × SlotsHaveLeaves ps r.slots leaves
 Reached ps _ leaves = ⊥
 
-reached : (ps : Pieces) (ref : Option Ref) (leaves : List PlacedLeaf) → HasLeaves ps ref leaves → Reached ps ref leaves
+reached : (ps : Pieces) (ref : Option Ref) (leaves : List PlacedLeaf) → HasLeaves ps ref leaves
+    → Reached ps ref leaves
 reached ps _ _ none_here = refl
 reached ps _ _ (leaf_here r e) = (r, e, refl)
 reached ps _ _ (row_here r e below) = (r, e, below)
@@ -27,7 +28,8 @@ SlotsReached ps [] leaves = leaves ≡ []
 SlotsReached ps (word ∷ words) leaves =
     (here : List PlacedLeaf) × (rest : List PlacedLeaf) × HasLeaves ps (logical ps word) here × SlotsHaveLeaves ps words rest × (leaves ≡ here ++ rest)
 
-slots_reached : (ps : Pieces) (words : List ℕ) (leaves : List PlacedLeaf) → SlotsHaveLeaves ps words leaves → SlotsReached ps words leaves
+slots_reached : (ps : Pieces) (words : List ℕ) (leaves : List PlacedLeaf)
+    → SlotsHaveLeaves ps words leaves → SlotsReached ps words leaves
 slots_reached ps _ _ no_slot = refl
 slots_reached ps _ _ (one_slot {here = here} {rest = rest} h s) = (here, rest, h, s, refl)
 
@@ -38,7 +40,8 @@ same_inner : (x : Option Piece) (r s : InnerRow) → x ≡ Some (Inner r) → x 
 same_inner x r s e f = cc
 
 mutual
-  same_leaves : (ps : Pieces) (ref : Option Ref) (xs ys : List PlacedLeaf) → HasLeaves ps ref xs → HasLeaves ps ref ys → xs ≡ ys
+  same_leaves : (ps : Pieces) (ref : Option Ref) (xs ys : List PlacedLeaf) → HasLeaves ps ref xs
+      → HasLeaves ps ref ys → xs ≡ ys
   same_leaves ps _ _ ys none_here other = sym (reached ps (Some Empty) ys other)
   same_leaves ps _ _ ys (leaf_here {base = base} r e) other =
       let it = reached ps (Some (LeafAt base)) ys other in
@@ -49,7 +52,8 @@ mutual
       let same : r ≡ it.0 = same_inner (ps base) r it.0 e it.1 in
       same_slots ps r.slots _ ys below (subst (λ x. SlotsHaveLeaves ps x.slots ys) (sym same) it.2)
 
-  same_slots : (ps : Pieces) (words : List ℕ) (xs ys : List PlacedLeaf) → SlotsHaveLeaves ps words xs → SlotsHaveLeaves ps words ys → xs ≡ ys
+  same_slots : (ps : Pieces) (words : List ℕ) (xs ys : List PlacedLeaf)
+      → SlotsHaveLeaves ps words xs → SlotsHaveLeaves ps words ys → xs ≡ ys
   same_slots ps _ _ ys no_slot other = sym (slots_reached ps [] ys other)
   same_slots ps _ _ ys (one_slot {word = word} {words = words} h s) other =
       let it = slots_reached ps (word ∷ words) ys other in
@@ -58,6 +62,7 @@ mutual
       (λ i. first i ++ rest i) ∙ sym it.4
 
 -- a table has one list of contents
-pub contents_are_one : (t : Snapshot) (xs ys : List Pair) → HasContents t xs → HasContents t ys → xs ≡ ys
+pub contents_are_one : (t : Snapshot) (xs ys : List Pair) → HasContents t xs → HasContents t ys
+    → xs ≡ ys
 contents_are_one t xs ys x y =
     x.pairs_are ∙ ap (map pair_of) (same_leaves t.pieces (logical t.pieces t.anchor) x.leaves y.leaves x.reached y.reached) ∙ sym y.pairs_are

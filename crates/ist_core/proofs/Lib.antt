@@ -18,6 +18,7 @@ pub mod MoveLemmas
 pub mod PublishMoveLemmas
 pub mod EventMoveLemmas
 pub mod SoundLemmas
+pub mod StartLemmas
 pub mod SpendingLemmas
 pub mod GrowingLemmas
 pub mod FreshLemmas

@@ -1,17 +1,15 @@
 -- What one event does to rows: none vanishes, and what is held stays held, is published or is lost. Serves `laws.rows_are_known`.
-use Rattle.std.proofs.Common.{◌≡◌, ◌≢◌, ℕ, ◌+◌, ◌<◌, ◌⊎◌, ◌==◌, Bool, true, false, not, if◌then◌else◌, List, [], ◌∷◌, ◌++◌, length, Option, Some, None, option_map, refl, sym, ap, ◌∙◌, subst, inl, inr, ⊎_elim, arith}
+use Rattle.std.proofs.Common.{◌≡◌, ℕ, ◌<◌, ◌⊎◌, ◌==◌, Bool, true, false, not, if◌then◌else◌, List, Some, None, option_map, refl, sym, ap, subst, inl, inr, ⊎_elim}
 use Rattle.std.specs.List.{list_any}
-use Rattle.std.proofs.lemmas.Bool.Decides.{nat_tests}
-use Rattle.ist_core.specs.declared.lists.Row.{Row}
 use Rattle.ist_core.specs.declared.lists.HeldRow.{HeldRow}
 use Rattle.ist_core.specs.declared.events.Event.{Event}
-use Rattle.ist_core.specs.Elements.{Among, Each}
+use Rattle.ist_core.specs.Elements.{Among}
 use Rattle.ist_core.specs.Pieces.{Pieces, Piece, size_of, changed_at}
-use Rattle.ist_core.specs.Snapshots.{Snapshot, bases_of, without, HoldsRow, HoldsRows}
+use Rattle.ist_core.specs.Snapshots.{Snapshot, without}
 use Rattle.ist_core.specs.Logs.{Loses}
-use Rattle.ist_core.proofs.ElementLemmas.{each-among, among-filter, among_filter}
-use Rattle.ist_core.proofs.RowLemmas.{changed_at-same, changed_at-other, changed_at-none, changed_at-some}
-use Rattle.ist_core.proofs.PublishingLemmas.{among_bases, tests_base, row_among, base_among, Stands, Publishes}
+use Rattle.ist_core.proofs.ElementLemmas.{among-filter, among_filter}
+use Rattle.ist_core.proofs.RowLemmas.{changed_at-none, changed_at-some}
+use Rattle.ist_core.proofs.PublishingLemmas.{among_bases, tests_base, Stands}
 
 -- rows lie below the first free word, and what is held is not published, and is held once
 pub record IsSound (t : Snapshot) : Type 0 where
@@ -27,16 +25,19 @@ StandsWith ps base size = (p : Piece) × (ps base ≡ Some p) × (size_of p ≡ 
 -- an event that reserves nothing
 pub record Moves (t u : Snapshot) (event : Event) : Type 0 where
   pub next : u.next ≡ t.next
-  pub from : (base : ℕ) (p : Piece) → u.pieces base ≡ Some p → Stands t.pieces base ⊎ ((h : HeldRow) × Among h t.held × (h.base ≡ base))
+  pub from : (base : ℕ) (p : Piece) → u.pieces base ≡ Some p
+      → Stands t.pieces base ⊎ ((h : HeldRow) × Among h t.held × (h.base ≡ base))
   pub kept : (h : HeldRow) → Among h u.held → Among h t.held
   pub unpublished : (h : HeldRow) → Among h u.held → t.pieces h.base ≡ None → u.pieces h.base ≡ None
   pub stays : (base : ℕ) (p : Piece) → t.pieces base ≡ Some p → StandsWith u.pieces base (size_of p)
-  pub fate : (h : HeldRow) → Among h t.held → (Among h u.held ⊎ StandsWith u.pieces h.base h.size) ⊎ Loses h.base event
+  pub fate : (h : HeldRow) → Among h t.held
+      → (Among h u.held ⊎ StandsWith u.pieces h.base h.size) ⊎ Loses h.base event
 
 -- ---- what is given up
 
 -- what is held still was held, and isn't at these bases
-pub without-kept : (bases : List ℕ) (held : List HeldRow) (h : HeldRow) → Among h (without bases held) → Among h held × ¬ (Among h.base bases)
+pub without-kept : (bases : List ℕ) (held : List HeldRow) (h : HeldRow)
+    → Among h (without bases held) → Among h held × ¬ (Among h.base bases)
 without-kept bases held h i =
     let it = among-filter (λ x. not (list_any (λ base. base == x.base) bases)) h held i in
     (it.0, λ k. let named = tests_base h.base bases k in clash (list_any (λ base. base == h.base) bases) it.1 named)
@@ -46,17 +47,20 @@ without-kept bases held h i =
     clash false e f = cc
 
 -- what was held is held still, or is at one of these bases
-pub without-fate : (bases : List ℕ) (held : List HeldRow) (h : HeldRow) → Among h held → Among h (without bases held) ⊎ Among h.base bases
+pub without-fate : (bases : List ℕ) (held : List HeldRow) (h : HeldRow) → Among h held
+    → Among h (without bases held) ⊎ Among h.base bases
 without-fate bases held h i = at (list_any (λ base. base == h.base) bases) refl
   where
-    at : (b : Bool) → list_any (λ base. base == h.base) bases ≡ b → Among h (without bases held) ⊎ Among h.base bases
+    at : (b : Bool) → list_any (λ base. base == h.base) bases ≡ b
+        → Among h (without bases held) ⊎ Among h.base bases
     at true e = inr (among_bases h.base bases e)
     at false e = inl (among_filter (λ x. not (list_any (λ base. base == x.base) bases)) h held i (ap not e))
 
 -- ---- the shapes of events
 
 -- an event that touches no row
-pub moves_same : (t u : Snapshot) (event : Event) → u.next ≡ t.next → u.held ≡ t.held → u.pieces ≡ t.pieces → Moves t u event
+pub moves_same : (t u : Snapshot) (event : Event) → u.next ≡ t.next → u.held ≡ t.held
+    → u.pieces ≡ t.pieces → Moves t u event
 moves_same t u event next held pieces =
     record {
       next = next;
@@ -68,7 +72,8 @@ moves_same t u event next held pieces =
     }
 
 -- a changed row stands, with as many words
-pub stays-changed_at : (ps : Pieces) (at : ℕ) (f : Piece → Piece) → ((p : Piece) → size_of (f p) ≡ size_of p) → (base : ℕ) (p : Piece) → ps base ≡ Some p
+pub stays-changed_at : (ps : Pieces) (at : ℕ) (f : Piece → Piece)
+    → ((p : Piece) → size_of (f p) ≡ size_of p) → (base : ℕ) (p : Piece) → ps base ≡ Some p
     → StandsWith (changed_at ps at f) base (size_of p)
 stays-changed_at ps at f same base p e = here (base == at)
   where
@@ -77,7 +82,8 @@ stays-changed_at ps at f same base p e = here (base == at)
     here false = (p, e, refl)
 
 -- an event that changes one row
-pub moves_changed : (t u : Snapshot) (event : Event) (at : ℕ) (f : Piece → Piece) → ((p : Piece) → size_of (f p) ≡ size_of p) → u.next ≡ t.next → u.held ≡ t.held
+pub moves_changed : (t u : Snapshot) (event : Event) (at : ℕ) (f : Piece → Piece)
+    → ((p : Piece) → size_of (f p) ≡ size_of p) → u.next ≡ t.next → u.held ≡ t.held
     → u.pieces ≡ changed_at t.pieces at f → Moves t u event
 moves_changed t u event at f same next held pieces =
     record {
@@ -90,7 +96,9 @@ moves_changed t u event at f same next held pieces =
     }
 
 -- an event that gives up held rows
-pub moves_lost : (t u : Snapshot) (event : Event) (bases : List ℕ) → ((base : ℕ) → Among base bases → Loses base event) → u.next ≡ t.next → u.held ≡ without bases t.held
+pub moves_lost : (t u : Snapshot) (event : Event) (bases : List ℕ)
+    → ((base : ℕ) → Among base bases → Loses base event) → u.next ≡ t.next
+    → u.held ≡ without bases t.held
     → u.pieces ≡ t.pieces → Moves t u event
 moves_lost t u event bases loses next held pieces =
     record {

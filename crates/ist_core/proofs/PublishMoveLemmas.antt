@@ -1,5 +1,5 @@
 -- What an event that publishes rows does to the others. Serves `laws.rows_are_known`.
-use Rattle.std.proofs.Common.{◌≡◌, ℕ, ◌⊎◌, length, List, Option, Some, None, refl, sym, ap, ◌∙◌, subst, inl, inr, ⊎_elim}
+use Rattle.std.proofs.Common.{◌≡◌, ℕ, length, List, Option, Some, None, sym, ap, ◌∙◌, subst, inl, inr, ⊎_elim}
 use Rattle.ist_core.specs.declared.lists.Row.{Row}
 use Rattle.ist_core.specs.declared.lists.HeldRow.{HeldRow}
 use Rattle.ist_core.specs.declared.events.Event.{Event}
@@ -34,16 +34,19 @@ module _ (t : Snapshot) (caller : ℕ) (rows : List Row) (holds : HoldsRows t ca
       clash o a b = cc
 
   -- a row that is published has the size with which it was held
-  same_size : (qs : Pieces) → Publishes t.pieces rows qs → (h : HeldRow) → Among h t.held → (p : Piece) → qs h.base ≡ Some p → Among h.base (bases_of rows) → size_of p ≡ h.size
+  same_size : (qs : Pieces) → Publishes t.pieces rows qs → (h : HeldRow) → Among h t.held
+      → (p : Piece) → qs h.base ≡ Some p → Among h.base (bases_of rows) → size_of p ≡ h.size
   unfolding held_row
   same_size qs publishes h i p e k =
       ⊎_elim
-        (λ stood. absurd (stood_elsewhere h.base p stood k))
-        (λ it. it.3 ∙ ap (λ x. x.size) (sound.once (held_row it.0) h (is_held it.0 it.1) i it.2))
-        (publishes.from h.base p e)
+      (λ stood. absurd (stood_elsewhere h.base p stood k))
+      (λ it. it.3 ∙ ap (λ x. x.size) (sound.once (held_row it.0) h (is_held it.0 it.1) i it.2))
+      (publishes.from h.base p e)
 
-  pub moves_published : (u : Snapshot) (event : Event) (qs : Pieces) (at : ℕ) (f : Piece → Piece) → ((p : Piece) → size_of (f p) ≡ size_of p) → Publishes t.pieces rows qs
-      → u.next ≡ t.next → u.held ≡ without (bases_of rows) t.held → u.pieces ≡ changed_at qs at f → Moves t u event
+  pub moves_published : (u : Snapshot) (event : Event) (qs : Pieces) (at : ℕ) (f : Piece → Piece)
+      → ((p : Piece) → size_of (f p) ≡ size_of p) → Publishes t.pieces rows qs
+      → u.next ≡ t.next → u.held ≡ without (bases_of rows) t.held → u.pieces ≡ changed_at qs at f
+      → Moves t u event
   unfolding held_row
   moves_published u event qs at f same publishes next held pieces =
       record {
@@ -59,11 +62,11 @@ module _ (t : Snapshot) (caller : ℕ) (rows : List Row) (holds : HoldsRows t ca
             subst (λ ps. StandsWith ps base (size_of p)) (sym pieces) (stays-changed_at qs at f same base p (publishes.others base (stood_elsewhere base p e) ∙ e));
         fate = λ h i.
             ⊎_elim
-              (λ k. inl (inl (subst (λ hs. Among h hs) (sym held) k)))
-              (λ k.
-                let row = row_among h.base rows k in
-                let there = subst (λ b. (p : Piece) × (qs b ≡ Some p)) row.2 (publishes.named row.0 row.1) in
-                let size = same_size qs publishes h i there.0 there.1 k in
-                inl (inr (subst (λ ps. StandsWith ps h.base h.size) (sym pieces) (subst (λ n. StandsWith (changed_at qs at f) h.base n) size (stays-changed_at qs at f same h.base there.0 there.1)))))
-              (without-fate (bases_of rows) t.held h i);
+            (λ k. inl (inl (subst (λ hs. Among h hs) (sym held) k)))
+            (λ k.
+            let row = row_among h.base rows k in
+            let there = subst (λ b. (p : Piece) × (qs b ≡ Some p)) row.2 (publishes.named row.0 row.1) in
+            let size = same_size qs publishes h i there.0 there.1 k in
+            inl (inr (subst (λ ps. StandsWith ps h.base h.size) (sym pieces) (subst (λ n. StandsWith (changed_at qs at f) h.base n) size (stays-changed_at qs at f same h.base there.0 there.1)))))
+            (without-fate (bases_of rows) t.held h i);
       }

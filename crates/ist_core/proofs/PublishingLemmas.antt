@@ -1,42 +1,41 @@
 -- Rows that an event publishes. Serves `laws.rows_are_known`.
-use Rattle.std.proofs.Common.{◌≡◌, ◌≢◌, ℕ, ◌⊎◌, ◌==◌, Bool, true, false, ◌||◌, if◌then◌else◌, List, [], ◌∷◌, length, Option, Some, None, option_map, refl, sym, ap, ◌∙◌, subst, inl, inr, ⊎_elim, arith}
+use Rattle.std.proofs.Common.{◌≡◌, ℕ, ◌⊎◌, ◌==◌, Bool, true, false, ◌||◌, if◌then◌else◌, List, [], ◌∷◌, length, Option, Some, None, refl, sym, ap, subst, inl, inr, ⊎_elim, arith}
 use Rattle.std.specs.List.{list_any}
 use Rattle.std.proofs.lemmas.Bool.Decides.{nat_tests}
 use Rattle.ist_core.specs.declared.lists.Row.{Row}
-use Rattle.ist_core.specs.declared.lists.HeldRow.{HeldRow}
-use Rattle.ist_core.specs.declared.states.ChangeRow.{ChangeRow}
 use Rattle.ist_core.specs.References.{Ref}
-use Rattle.ist_core.specs.Statuses.{put_kind, start_kind}
 use Rattle.ist_core.specs.Elements.{Among, Each}
-use Rattle.ist_core.specs.Pieces.{Pieces, Piece, Leaf, Inner, Change, Rebuild, size_of, row_at, leaf_of, inner_of, change_of, rebuild_of, with_row, changed_at, with_inners}
-use Rattle.ist_core.specs.Snapshots.{Snapshot, bases_of, without, HoldsRow, HoldsRows}
-use Rattle.ist_core.specs.After.{with_fresh}
+use Rattle.ist_core.specs.Pieces.{Pieces, Piece, Inner, size_of, with_row, with_inners}
+use Rattle.ist_core.specs.Snapshots.{bases_of}
 use Rattle.ist_core.specs.Leaves.{PlacedLeaf}
 use Rattle.ist_core.specs.Ideals.{IsIdeal, AreIdeal, of_none, of_one, of_more, no_part, one_part}
-use Rattle.ist_core.specs.Installing.{pair_row, pair_over}
-use Rattle.ist_core.proofs.ElementLemmas.{each_append, each-among, among-filter, among_filter}
-use Rattle.ist_core.proofs.RowLemmas.{with_row-same, with_row-other, with_row-some, changed_at-same, changed_at-other, with_inners-some, with_inners-other}
+use Rattle.ist_core.proofs.ElementLemmas.{each_append, each-among}
+use Rattle.ist_core.proofs.RowLemmas.{with_row-same, with_inners-some, with_inners-other}
 use Rattle.ist_core.proofs.SizeLemmas.{size_of-inner_of}
 
 -- ---- bases
 
 -- a base that is tested for is among the bases
-pub among_bases : (base : ℕ) (bases : List ℕ) → list_any (λ b. b == base) bases ≡ true → Among base bases
+pub among_bases : (base : ℕ) (bases : List ℕ) → list_any (λ b. b == base) bases ≡ true
+    → Among base bases
 among_bases base [] e = absurd (cc)
 among_bases base (b ∷ bases) e = at (λ g. among_bases base bases g) (b == base) refl e
   where
-    at : (list_any (λ x. x == base) bases ≡ true → Among base bases) → (v : Bool) → (b == base) ≡ v → (v || list_any (λ x. x == base) bases) ≡ true → Among base (b ∷ bases)
+    at : (list_any (λ x. x == base) bases ≡ true → Among base bases) → (v : Bool) → (b == base) ≡ v
+        → (v || list_any (λ x. x == base) bases) ≡ true → Among base (b ∷ bases)
     at again true f g = let same : base ≡ b = grind (arith, nat_tests) in inl same
     at again false f g = inr (again g)
 
 -- a base among the bases is tested for
-pub tests_base : (base : ℕ) (bases : List ℕ) → Among base bases → list_any (λ b. b == base) bases ≡ true
+pub tests_base : (base : ℕ) (bases : List ℕ) → Among base bases
+    → list_any (λ b. b == base) bases ≡ true
 tests_base base [] i = absurd i
 tests_base base (b ∷ bases) (inl e) = grind (arith, nat_tests)
 tests_base base (b ∷ bases) (inr i) = grind (arith, nat_tests, tests_base base bases i)
 
 -- the row of a base among the bases of rows
-pub row_among : (base : ℕ) (rows : List Row) → Among base (bases_of rows) → (row : Row) × Among row rows × (row.base ≡ base)
+pub row_among : (base : ℕ) (rows : List Row) → Among base (bases_of rows)
+    → (row : Row) × Among row rows × (row.base ≡ base)
 row_among base [] i = absurd i
 row_among base (row ∷ rows) (inl e) = (row, inl refl, sym e)
 row_among base (row ∷ rows) (inr i) = let it = row_among base rows i in (it.0, inr it.1, it.2)
@@ -53,24 +52,29 @@ base_among row (x ∷ rows) (inr i) = inr (base_among row rows i)
 abbrev pub Stands : Pieces → ℕ → Type 0
 Stands ps base = (p : Piece) × (ps base ≡ Some p)
 
-pub stands-with_row : (ps : Pieces) (base at : ℕ) (o : Option Piece) → Stands ps at → Stands (with_row ps base o) at
+pub stands-with_row : (ps : Pieces) (base at : ℕ) (o : Option Piece) → Stands ps at
+    → Stands (with_row ps base o) at
 stands-with_row ps base at None h = h
 stands-with_row ps base at (Some p) h =
     elim (at == base) as (λ v. Stands (λ b. if v then Some p else ps at) at) [ true ↦ (p, refl) | false ↦ h ]
 
-pub stands_here : (ps : Pieces) (base : ℕ) (o : Option Piece) (p : Piece) → o ≡ Some p → Stands (with_row ps base o) base
+pub stands_here : (ps : Pieces) (base : ℕ) (o : Option Piece) (p : Piece) → o ≡ Some p
+    → Stands (with_row ps base o) base
 stands_here ps base o p e = subst (λ x. Stands (with_row ps base x) base) (sym e) (p, with_row-same ps base p)
 
 -- ---- publishing
 
 -- the rows are published: what stands behind that stood there or is one of them, and each of them stands there
 pub record Publishes (ps : Pieces) (rows : List Row) (qs : Pieces) : Type 0 where
-  pub from : (base : ℕ) (q : Piece) → qs base ≡ Some q → (ps base ≡ Some q) ⊎ ((row : Row) × Among row rows × (row.base ≡ base) × (size_of q ≡ length row.words))
+  pub from : (base : ℕ) (q : Piece) → qs base ≡ Some q
+      → (ps base ≡ Some q) ⊎ ((row : Row) × Among row rows × (row.base ≡ base) × (size_of q ≡ length row.words))
   pub others : (base : ℕ) → ¬ (Among base (bases_of rows)) → qs base ≡ ps base
   pub named : (row : Row) → Among row rows → Stands qs row.base
 
 -- inner rows are published where each of them is found afterwards
-pub publishes-with_inners : (ps : Pieces) (rows : List Row) → Each (λ base. Stands (with_inners ps rows) base) (bases_of rows) → Publishes ps rows (with_inners ps rows)
+pub publishes-with_inners : (ps : Pieces) (rows : List Row)
+    → Each (λ base. Stands (with_inners ps rows) base) (bases_of rows)
+    → Publishes ps rows (with_inners ps rows)
 publishes-with_inners ps rows all =
     record {
       from = λ base q e.
@@ -81,12 +85,14 @@ publishes-with_inners ps rows all =
 
 -- the inner rows of an ideal subtree stand
 mutual
-  pub ideal_stands : (ps : Pieces) (ref : Ref) (leaves : List PlacedLeaf) (above : ℕ) (rows : List ℕ) → IsIdeal ps ref leaves above rows → Each (λ base. Stands ps base) rows
+  pub ideal_stands : (ps : Pieces) (ref : Ref) (leaves : List PlacedLeaf) (above : ℕ) (rows : List ℕ)
+      → IsIdeal ps ref leaves above rows → Each (λ base. Stands ps base) rows
   ideal_stands ps _ _ _ _ of_none = tt
   ideal_stands ps _ _ _ _ (of_one same e) = tt
   ideal_stands ps _ _ _ _ (of_more {base = base} {rows = rows} r top below) = ((Inner r, top.published), parts_stand ps r.slots _ base rows below)
 
-  parts_stand : (ps : Pieces) (words : List ℕ) (parts : List (List PlacedLeaf)) (above : ℕ) (rows : List ℕ) → AreIdeal ps words parts above rows → Each (λ base. Stands ps base) rows
+  parts_stand : (ps : Pieces) (words : List ℕ) (parts : List (List PlacedLeaf)) (above : ℕ) (rows : List ℕ)
+      → AreIdeal ps words parts above rows → Each (λ base. Stands ps base) rows
   parts_stand ps _ _ _ _ no_part = tt
   parts_stand ps _ _ _ _ (one_part {word = word} {above = above} {words = words} {here = here} {rest = rest} {part = part} {behind = behind} ref e first more) =
       each_append (λ base. Stands ps base) here rest (ideal_stands ps ref part above here first) (parts_stand ps words behind above rest more)

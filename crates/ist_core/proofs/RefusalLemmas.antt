@@ -12,18 +12,22 @@ NotRefused _ = Unit {0}
 abbrev pub NoneRefused : Pieces → Type 0
 NoneRefused ps = (base : ℕ) (p : Piece) → ps base ≡ Some p → NotRefused p
 
-pub none_refused-with_row : (ps : Pieces) (at : ℕ) (p : Piece) → NotRefused p → NoneRefused ps → NoneRefused (with_row ps at (Some p))
+pub none_refused-with_row : (ps : Pieces) (at : ℕ) (p : Piece) → NotRefused p → NoneRefused ps
+    → NoneRefused (with_row ps at (Some p))
 none_refused-with_row ps at p h all base q e =
     elim (base == at) as (λ b. (if b then Some p else ps base) ≡ Some q → NotRefused q) [
       | true ↦ λ found. let same : p ≡ q = cc in subst NotRefused same h
       | false ↦ λ found. all base q found
     ] e
 
-mapped : (f : Piece → Piece) (o : Option Piece) (q : Piece) → option_map f o ≡ Some q → (p : Piece) × (o ≡ Some p) × (f p ≡ q)
+mapped : (f : Piece → Piece) (o : Option Piece) (q : Piece) → option_map f o ≡ Some q
+    → (p : Piece) × (o ≡ Some p) × (f p ≡ q)
 mapped f None q e = absurd (cc)
 mapped f (Some p) q e = (p, refl, (cc))
 
-pub none_refused-changed_at : (ps : Pieces) (at : ℕ) (f : Piece → Piece) → ((p : Piece) → NotRefused p → NotRefused (f p)) → NoneRefused ps → NoneRefused (changed_at ps at f)
+pub none_refused-changed_at : (ps : Pieces) (at : ℕ) (f : Piece → Piece)
+    → ((p : Piece) → NotRefused p → NotRefused (f p)) → NoneRefused ps
+    → NoneRefused (changed_at ps at f)
 none_refused-changed_at ps at f keeps all base q e =
     elim (base == at) as (λ b. (if b then option_map f (ps base) else ps base) ≡ Some q → NotRefused q) [
       | true ↦ λ found. let it = mapped f (ps base) q found in subst NotRefused it.2 (keeps it.0 (all base it.0 it.1))

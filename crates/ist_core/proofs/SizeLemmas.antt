@@ -1,12 +1,11 @@
 -- A row keeps its length, and each reserved row has a word. Serves `laws.rows_are_known`.
-use Rattle.std.proofs.Common.{◌≡◌, ℕ, zero, suc, ◌+◌, ◌-◌, ◌<◌, List, [], ◌∷◌, ◌++◌, length, take, drop, slice_set, Option, Some, None, refl, ap, arith, length-append}
+use Rattle.std.proofs.Common.{◌≡◌, ℕ, zero, suc, ◌-◌, ◌<◌, List, [], ◌∷◌, ◌++◌, length, slice_set, Option, Some, None, refl, ap, arith, length-append}
 use Rattle.std.proofs.lemmas.List.{length-set, take-append-drop}
 use Rattle.std.specs.List.{flat_map}
 use Rattle.ist_core.specs.Arithmetic.{degree, part_len, part_lens}
-use Rattle.ist_core.specs.RowLayout.{inner_words}
 use Rattle.ist_core.specs.Shapes.{shape, shape_within}
 use Rattle.ist_core.specs.Elements.{Among, Each}
-use Rattle.ist_core.specs.Pieces.{Piece, Leaf, Inner, Change, Rebuild, size_of, leaf_of, inner_of, rebuild_of, with_slot, with_status, with_decision, with_root, counted, drawn}
+use Rattle.ist_core.specs.Pieces.{Piece, Leaf, Inner, Change, Rebuild, size_of, inner_of, with_slot, with_status, with_decision, with_root, counted, drawn}
 use Rattle.ist_core.specs.Snapshots.{Snapshot}
 use Rattle.ist_core.specs.Fairness.{IsFair, AreBuilds, no_build, last_build, stuck_build, IsBuild, build_whole, build_top, build_part, IsMerge, at_end, from_left, from_right, spare_sizes}
 use Rattle.ist_core.proofs.ElementLemmas.{each_append, each-append, each-among}
@@ -26,7 +25,8 @@ size_of-with_status status (Inner r) = refl
 size_of-with_status status (Change r) = refl
 size_of-with_status status (Rebuild r) = refl
 
-pub size_of-with_decision : (decision : ℕ) (p : Piece) → size_of (with_decision decision p) ≡ size_of p
+pub size_of-with_decision : (decision : ℕ) (p : Piece)
+    → size_of (with_decision decision p) ≡ size_of p
 size_of-with_decision decision (Leaf r) = refl
 size_of-with_decision decision (Inner r) = refl
 size_of-with_decision decision (Change r) = refl
@@ -58,7 +58,8 @@ size_in (Some p) = size_of p
 size_in None = 0
 
 -- an inner row has as many words as it was read from
-pub size_of-inner_of : (words : List ℕ) (p : Piece) → inner_of words ≡ Some p → size_of p ≡ length words
+pub size_of-inner_of : (words : List ℕ) (p : Piece) → inner_of words ≡ Some p
+    → size_of p ≡ length words
 unfolding size_in
 size_of-inner_of [] p e = absurd (cc)
 size_of-inner_of (a ∷ []) p e = absurd (cc)
@@ -74,7 +75,8 @@ size_of-inner_of (status ∷ count ∷ degree ∷ size ∷ rest) p e =
 abbrev Positive : List ℕ → Type 0
 Positive sizes = Each (λ size. 0 < size) sizes
 
-flat_positive : (f : ℕ → List ℕ) → ((n : ℕ) → Positive (f n)) → (ns : List ℕ) → Positive (flat_map f ns)
+flat_positive : (f : ℕ → List ℕ) → ((n : ℕ) → Positive (f n)) → (ns : List ℕ)
+    → Positive (flat_map f ns)
 flat_positive f h [] = tt
 flat_positive f h (n ∷ ns) = each_append (λ size. 0 < size) (f n) (flat_map f ns) (h n) (flat_positive f h ns)
 
@@ -99,7 +101,8 @@ builds_positive t _ (stuck_build {sizes = sizes} {more = more} s h) =
     let whole = build_positive s.building.k (sizes ++ s.next_size ∷ s.rest) s.building.build in
     each_append (λ size. 0 < size) sizes more (each-append (λ size. 0 < size) sizes (s.next_size ∷ s.rest) whole).0 (builds_positive t more h)
 
-merge_positive : (sizes left right : List ℕ) → IsMerge sizes left right → Positive left → Positive right → Positive sizes
+merge_positive : (sizes left right : List ℕ) → IsMerge sizes left right → Positive left
+    → Positive right → Positive sizes
 merge_positive _ _ _ at_end l r = tt
 merge_positive _ _ _ (from_left {sizes = s} {left = a} {right = b} size h) l r = (l.0, merge_positive s a b h l.1 r)
 merge_positive _ _ _ (from_right {sizes = s} {left = a} {right = b} size h) l r = (r.0, merge_positive s a b h l r.1)

@@ -8,7 +8,8 @@ use Rattle.ist_core.specs.Pieces.{Piece, Leaf, Inner, Change, Rebuild, as_leaf, 
 use Rattle.ist_core.specs.Snapshots.{Snapshot, Shows}
 
 -- maps that answer alike are equal
-same_rows : {X : Type 0} (m n : fin.FinMap nat_cmp X) → ((base : ℕ) → fin.get m base ≡ fin.get n base) → m ≡ n
+same_rows : {X : Type 0} (m n : fin.FinMap nat_cmp X)
+    → ((base : ℕ) → fin.get m base ≡ fin.get n base) → m ≡ n
 same_rows m n alike = fin.same_map nat_cmp_total fin.nat_cmp-IsAntisymmetric m n alike
 
 -- two states that show one snapshot are equal
@@ -36,7 +37,8 @@ one_state s u t a b =
     }
 
 -- rows that are the same by each kind are the same
-same_piece : (p q : Option Piece) → as_leaf p ≡ as_leaf q → as_inner p ≡ as_inner q → as_change p ≡ as_change q → as_rebuild p ≡ as_rebuild q → p ≡ q
+same_piece : (p q : Option Piece) → as_leaf p ≡ as_leaf q → as_inner p ≡ as_inner q
+    → as_change p ≡ as_change q → as_rebuild p ≡ as_rebuild q → p ≡ q
 same_piece None None l i c r = refl
 same_piece (Some (Leaf x)) (Some (Leaf y)) l i c r = cc
 same_piece (Some (Inner x)) (Some (Inner y)) l i c r = cc
@@ -52,7 +54,8 @@ same_piece (Some (Change x)) _ l i c r = absurd (cc)
 same_piece (Some (Rebuild x)) _ l i c r = absurd (cc)
 
 -- one state shows the rows of one snapshot
-pub one_snapshot : (s : State) (t u : Snapshot) → Shows s t → Shows s u → (base : ℕ) → t.pieces base ≡ u.pieces base
+pub one_snapshot : (s : State) (t u : Snapshot) → Shows s t → Shows s u → (base : ℕ)
+    → t.pieces base ≡ u.pieces base
 one_snapshot s t u a b base =
     same_piece (t.pieces base) (u.pieces base)
     (sym (a.leaves base) ∙ b.leaves base)

@@ -1,16 +1,15 @@
 -- Behind a lawful log rows lie soundly, and each that was reserved is known. Serves `laws.rows_are_known`.
-use Rattle.std.proofs.Common.{◌≡◌, ℕ, ◌+◌, ◌<◌, ◌≤◌, ◌⊎◌, List, [], ◌∷◌, ◌++◌, Option, Some, None, refl, sym, ap, ◌∙◌, subst, inl, inr, ⊎_elim, arith}
+use Rattle.std.proofs.Common.{◌≡◌, ℕ, ◌+◌, ◌<◌, ◌⊎◌, [], ◌∷◌, Option, Some, None, refl, sym, ap, ◌∙◌, subst, inl, inr, ⊎_elim, arith}
 use Rattle.ist_core.specs.declared.lists.HeldRow.{HeldRow}
 use Rattle.ist_core.specs.declared.events.Event.{Event}
 use Rattle.ist_core.specs.declared.events.Event.TheVariants.{Enter, Reserve, Install, Okay, Decide, Resolve, Count, Mark, Pass, Finish, Root, Draw, Place, Lose}
 use Rattle.ist_core.specs.Elements.{Among}
-use Rattle.ist_core.specs.Pieces.{Piece, size_of}
+use Rattle.ist_core.specs.Pieces.{Piece}
 use Rattle.ist_core.specs.Snapshots.{Snapshot, HoldsRow}
 use Rattle.ist_core.specs.After.{after}
 use Rattle.ist_core.specs.Logs.{Log, state, Happened, Reserves, Loses}
 use Rattle.ist_core.specs.Enabled.{Enabled, CanReserve}
 use Rattle.ist_core.specs.Lawful.{EachEnabled}
-use Rattle.ist_core.specs.Spending.{reserved_by}
 use Rattle.ist_core.proofs.ElementLemmas.{among-append, among_left, among_right}
 use Rattle.ist_core.proofs.MoveLemmas.{IsSound, Moves, StandsWith}
 use Rattle.ist_core.proofs.EventMoveLemmas.{reserve_positive, moves}
@@ -35,7 +34,8 @@ module _ (t : Snapshot) (caller base size : ℕ) (h : CanReserve t caller base s
   positive = reserve_positive t caller base size h
 
   -- what is held behind it was held, or is the new row
-  held_or_new : (g : HeldRow) → Among g (after t (Reserve caller base size)).held → Among g t.held ⊎ (g ≡ new_row)
+  held_or_new : (g : HeldRow) → Among g (after t (Reserve caller base size)).held
+      → Among g t.held ⊎ (g ≡ new_row)
   unfolding new_row
   held_or_new g i = ⊎_elim (λ k. inl k) (λ k. ⊎_elim (λ e. inr e) (λ e. absurd e) k) (among-append g t.held (new_row ∷ []) i)
 
@@ -54,38 +54,59 @@ module _ (t : Snapshot) (caller base size : ℕ) (h : CanReserve t caller base s
         below = λ at p e. let low = s.below at p e in let is = h.base_is in omega arith;
         held_below = λ g i.
             ⊎_elim
-              (λ k. let low = s.held_below g k in let is = h.base_is in let lower : g.base < base + size = omega arith in lower)
-              (λ e. let some = positive in let same : g.base ≡ base = ap (λ x. x.base) e in let lower : g.base < base + size = omega arith in lower)
-              (held_or_new g i);
+            (λ k. let low = s.held_below g k in let is = h.base_is in let lower : g.base < base + size = omega arith in lower)
+            (λ e. let some = positive in let same : g.base ≡ base = ap (λ x. x.base) e in let lower : g.base < base + size = omega arith in lower)
+            (held_or_new g i);
         unpublished = λ g i. ⊎_elim (λ k. s.unpublished g k) (λ e. subst (λ x. t.pieces x.base ≡ None) (sym e) free_there) (held_or_new g i);
         once = λ f g i j e. both f g e (held_or_new f i) (held_or_new g j);
       }
     where
-      both : (f g : HeldRow) → f.base ≡ g.base → Among f t.held ⊎ (f ≡ new_row) → Among g t.held ⊎ (g ≡ new_row) → f ≡ g
+      both : (f g : HeldRow) → f.base ≡ g.base → Among f t.held ⊎ (f ≡ new_row)
+          → Among g t.held ⊎ (g ≡ new_row) → f ≡ g
       both f g e (inl i) (inl j) = s.once f g i j e
       both f g e (inl i) (inr d) = let low = s.held_below f i in let is = h.base_is in let at : g.base ≡ base = ap (λ x. x.base) d in absurd (omega arith)
       both f g e (inr d) (inl j) = let low = s.held_below g j in let is = h.base_is in let at : f.base ≡ base = ap (λ x. x.base) d in absurd (omega arith)
       both f g e (inr c) (inr d) = c ∙ sym d
 
+-- the event reserves a row
+record IsReserve (first : Snapshot) (log : Log) (event : Event) : Type 0 where
+  caller : ℕ
+  base : ℕ
+  size : ℕ
+  is : event ≡ Reserve caller base size
+  can : CanReserve (state first log) caller base size
+
+-- each enabled event moves rows, or reserves one
+moves_or_reserves : (first : Snapshot) (log : Log) (event : Event) → Enabled first log event
+    → IsSound (state first log)
+    → Moves (state first log) (state first (event ∷ log)) event ⊎ IsReserve first log event
+moves_or_reserves first log (Reserve caller base size) h s = inr record { caller = caller; base = base; size = size; is = refl; can = h }
+moves_or_reserves first log (Enter caller) h s = inl (moves first log (Enter caller) refl h s)
+moves_or_reserves first log (Install caller change rows) h s = inl (moves first log (Install caller change rows) refl h s)
+moves_or_reserves first log (Okay caller change) h s = inl (moves first log (Okay caller change) refl h s)
+moves_or_reserves first log (Decide caller change said) h s = inl (moves first log (Decide caller change said) refl h s)
+moves_or_reserves first log (Resolve caller change) h s = inl (moves first log (Resolve caller change) refl h s)
+moves_or_reserves first log (Count caller node) h s = inl (moves first log (Count caller node) refl h s)
+moves_or_reserves first log (Mark caller node) h s = inl (moves first log (Mark caller node) refl h s)
+moves_or_reserves first log (Pass caller node i word) h s = inl (moves first log (Pass caller node i word) refl h s)
+moves_or_reserves first log (Finish caller node keys) h s = inl (moves first log (Finish caller node keys) refl h s)
+moves_or_reserves first log (Root caller rebuild word rows) h s = inl (moves first log (Root caller rebuild word rows) refl h s)
+moves_or_reserves first log (Draw caller rebuild part) h s = inl (moves first log (Draw caller rebuild part) refl h s)
+moves_or_reserves first log (Place caller rebuild i word rows) h s = inl (moves first log (Place caller rebuild i word rows) refl h s)
+moves_or_reserves first log (Lose caller bases) h s = inl (moves first log (Lose caller bases) refl h s)
+
 -- an enabled event leaves rows sound
-sound_step : (first : Snapshot) (log : Log) (event : Event) → Enabled first log event → IsSound (state first log) → IsSound (state first (event ∷ log))
-sound_step first log (Reserve caller base size) h s = sound_reserve (state first log) caller base size h s
-sound_step first log (Enter caller) h s = sound_moves _ _ (Enter caller) s (moves first log (Enter caller) refl h s)
-sound_step first log (Install caller change rows) h s = sound_moves _ _ (Install caller change rows) s (moves first log (Install caller change rows) refl h s)
-sound_step first log (Okay caller change) h s = sound_moves _ _ (Okay caller change) s (moves first log (Okay caller change) refl h s)
-sound_step first log (Decide caller change said) h s = sound_moves _ _ (Decide caller change said) s (moves first log (Decide caller change said) refl h s)
-sound_step first log (Resolve caller change) h s = sound_moves _ _ (Resolve caller change) s (moves first log (Resolve caller change) refl h s)
-sound_step first log (Count caller node) h s = sound_moves _ _ (Count caller node) s (moves first log (Count caller node) refl h s)
-sound_step first log (Mark caller node) h s = sound_moves _ _ (Mark caller node) s (moves first log (Mark caller node) refl h s)
-sound_step first log (Pass caller node i word) h s = sound_moves _ _ (Pass caller node i word) s (moves first log (Pass caller node i word) refl h s)
-sound_step first log (Finish caller node keys) h s = sound_moves _ _ (Finish caller node keys) s (moves first log (Finish caller node keys) refl h s)
-sound_step first log (Root caller rebuild word rows) h s = sound_moves _ _ (Root caller rebuild word rows) s (moves first log (Root caller rebuild word rows) refl h s)
-sound_step first log (Draw caller rebuild part) h s = sound_moves _ _ (Draw caller rebuild part) s (moves first log (Draw caller rebuild part) refl h s)
-sound_step first log (Place caller rebuild i word rows) h s = sound_moves _ _ (Place caller rebuild i word rows) s (moves first log (Place caller rebuild i word rows) refl h s)
-sound_step first log (Lose caller bases) h s = sound_moves _ _ (Lose caller bases) s (moves first log (Lose caller bases) refl h s)
+sound_step : (first : Snapshot) (log : Log) (event : Event) → Enabled first log event
+    → IsSound (state first log) → IsSound (state first (event ∷ log))
+sound_step first log event h s =
+    ⊎_elim
+    (λ m. sound_moves (state first log) (state first (event ∷ log)) event s m)
+    (λ r. subst (λ e. IsSound (after (state first log) e)) (sym r.is) (sound_reserve (state first log) r.caller r.base r.size r.can s))
+    (moves_or_reserves first log event h s)
 
 -- rows lie soundly behind a log from a sound state
-pub sound : (first : Snapshot) (log : Log) → IsSound first → EachEnabled first log → IsSound (state first log)
+pub sound : (first : Snapshot) (log : Log) → IsSound first → EachEnabled first log
+    → IsSound (state first log)
 sound first [] s h = s
 sound first (event ∷ log) s h = sound_step first log event h.1 (sound first log s h.0)
 
@@ -96,8 +117,56 @@ abbrev pub Known : Snapshot → Log → ℕ → ℕ → ℕ → Type 0
 Known t log caller base size = (HoldsRow t caller base size ⊎ StandsWith t.pieces base size) ⊎ Happened (Loses base) log
 
 -- a known row stays known
-known_moves : (t u : Snapshot) (log : Log) (event : Event) (caller base size : ℕ) → Moves t u event → Known t log caller base size → Known u (event ∷ log) caller base size
+known_moves : (t u : Snapshot) (log : Log) (event : Event) (caller base size : ℕ) → Moves t u event
+    → Known t log caller base size → Known u (event ∷ log) caller base size
 known_moves t u log event caller base size m (inl (inl held)) =
     ⊎_elim (λ k. inl k) (λ lost. inr (inl lost)) (m.fate record { caller = caller; base = base; size = size } held)
 known_moves t u log event caller base size m (inl (inr stands)) = inl (inr (subst (λ n. StandsWith u.pieces base n) stands.2 (m.stays base stands.0 stands.1)))
 known_moves t u log event caller base size m (inr lost) = inr (inr lost)
+
+known_reserve : (t : Snapshot) (log : Log) (c b z caller base size : ℕ)
+    → Known t log caller base size
+    → Known (after t (Reserve c b z)) (Reserve c b z ∷ log) caller base size
+known_reserve t log c b z caller base size (inl (inl held)) =
+    inl (inl (among_left record { caller = caller; base = base; size = size } t.held (record { caller = c; base = b; size = z } ∷ []) held))
+known_reserve t log c b z caller base size (inl (inr stands)) = inl (inr stands)
+known_reserve t log c b z caller base size (inr lost) = inr (inr lost)
+
+known_step : (first : Snapshot) (log : Log) (event : Event) (caller base size : ℕ)
+    → Enabled first log event → IsSound (state first log)
+    → Known (state first log) log caller base size
+    → Known (state first (event ∷ log)) (event ∷ log) caller base size
+known_step first log event caller base size h s k =
+    ⊎_elim
+    (λ m. known_moves (state first log) (state first (event ∷ log)) log event caller base size m k)
+    (λ r. subst (λ e. Known (after (state first log) e) (e ∷ log) caller base size) (sym r.is) (known_reserve (state first log) log r.caller r.base r.size caller base size k))
+    (moves_or_reserves first log event h s)
+
+-- the row that an event reserves is held behind it
+held_now : (t : Snapshot) (event : Event) (caller base size : ℕ) → Reserves caller base size event
+    → HoldsRow (after t event) caller base size
+held_now t (Reserve c b z) caller base size h =
+    let it = among_right record { caller = c; base = b; size = z } t.held (record { caller = c; base = b; size = z } ∷ []) (inl refl) in
+    subst (λ x. Among x (after t (Reserve c b z)).held) (λ i. record { caller = h.0 i; base = h.1 i; size = h.2 i }) it
+held_now t (Enter caller) c b z h = absurd h
+held_now t (Install caller change rows) c b z h = absurd h
+held_now t (Okay caller change) c b z h = absurd h
+held_now t (Decide caller change said) c b z h = absurd h
+held_now t (Resolve caller change) c b z h = absurd h
+held_now t (Count caller node) c b z h = absurd h
+held_now t (Mark caller node) c b z h = absurd h
+held_now t (Pass caller node i word) c b z h = absurd h
+held_now t (Finish caller node keys) c b z h = absurd h
+held_now t (Root caller rebuild word rows) c b z h = absurd h
+held_now t (Draw caller rebuild part) c b z h = absurd h
+held_now t (Place caller rebuild i word rows) c b z h = absurd h
+held_now t (Lose caller bases) c b z h = absurd h
+
+-- each row that was reserved is known
+pub known : (first : Snapshot) (log : Log) (caller base size : ℕ) → IsSound first
+    → EachEnabled first log → Happened (Reserves caller base size) log
+    → Known (state first log) log caller base size
+known first [] caller base size s h r = absurd r
+known first (event ∷ log) caller base size s h (inl now) = inl (inl (held_now (state first log) event caller base size now))
+known first (event ∷ log) caller base size s h (inr before) =
+    known_step first log event caller base size h.1 (sound first log s h.0) (known first log caller base size s h.0 before)

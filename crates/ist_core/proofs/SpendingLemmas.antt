@@ -14,7 +14,8 @@ use Rattle.ist_core.specs.Enabled.{Enabled}
 use Rattle.ist_core.specs.Lawful.{Lawful, EachEnabled, state_of}
 use Rattle.ist_core.specs.Spending.{reserved_by, spent}
 
-next-with_change : (t : Snapshot) (base : ℕ) (fresh : List Row) (change : Option ChangeRow) → (with_change t base fresh change).next ≡ t.next
+next-with_change : (t : Snapshot) (base : ℕ) (fresh : List Row) (change : Option ChangeRow)
+    → (with_change t base fresh change).next ≡ t.next
 next-with_change t base fresh None = refl
 next-with_change t base fresh (Some change) = refl
 
@@ -27,7 +28,8 @@ next-resolved t None = refl
 next-resolved t (Some change) = refl
 
 -- an enabled event takes what it reserves from the free words
-next-state : (first : Snapshot) (log : Log) (event : Event) → Enabled first log event → (state first (event ∷ log)).next ≡ (state first log).next + reserved_by event
+next-state : (first : Snapshot) (log : Log) (event : Event) → Enabled first log event
+    → (state first (event ∷ log)).next ≡ (state first log).next + reserved_by event
 next-state first log (Enter caller) h = omega arith
 next-state first log (Reserve caller base size) h = ap (λ n. n + size) h.base_is
 next-state first log (Install caller change rows) h = let same = next-installed (state first log) change rows in omega (arith, same)
@@ -43,11 +45,13 @@ next-state first log (Draw caller rebuild part) h = omega arith
 next-state first log (Place caller rebuild part word rows) h = omega arith
 next-state first log (Lose caller bases) h = omega arith
 
-spent-state : (pairs : List Pair) (words : ℕ) (log : Log) → EachEnabled (start pairs words) log → (state_of pairs words log).next ≡ spent pairs log
+spent-state : (pairs : List Pair) (words : ℕ) (log : Log) → EachEnabled (start pairs words) log
+    → (state_of pairs words log).next ≡ spent pairs log
 spent-state pairs words [] h = refl
 spent-state pairs words (event ∷ log) h =
     next-state (start pairs words) log event h.1 ∙ ap (λ n. n + reserved_by event) (spent-state pairs words log h.0)
 
 -- next is what was spent
-pub words_are_spent : (pairs : List Pair) (words : ℕ) (log : Log) → Lawful pairs words log → (state_of pairs words log).next ≡ spent pairs log
+pub words_are_spent : (pairs : List Pair) (words : ℕ) (log : Log) → Lawful pairs words log
+    → (state_of pairs words log).next ≡ spent pairs log
 words_are_spent pairs words log h = spent-state pairs words log h.enabled

@@ -26,7 +26,8 @@ use Rattle.ist_core.specs.RowLayout.{first_row}
 use Rattle.ist_core.proofs.PieceLemmas.{among-pieces_of, slice_get-drop, stands_by}
 
 -- each row of the new table stands among its words
-rows_stand : (base : ℕ) (p : Piece) → Among (base, p) (rows_from first_row two_pairs) → StandsAt two_pairs_words base p
+rows_stand : (base : ℕ) (p : Piece) → Among (base, p) (rows_from first_row two_pairs)
+    → StandsAt two_pairs_words base p
 unfolding ideal_words ideal_words_within rows_within degree square_root root_up_to part_len part_lens
 rows_stand base p (inl e) = subst (λ row. StandsAt two_pairs_words row.0 row.1) (sym e) (stands_by two_pairs_words 4 (top_row first_row two_pairs) refl)
 rows_stand base p (inr (inl e)) = subst (λ row. StandsAt two_pairs_words row.0 row.1) (sym e) (stands_by two_pairs_words 11 (Leaf record { key = 5; value = 7 }) refl)
@@ -127,7 +128,8 @@ NoChange (Change r) = ⊥
 NoChange _ = Unit {0}
 
 -- no change lies in the new table
-unchanged : (base : ℕ) (change : ChangeRow) → Among (base, Change change) (rows_from first_row start_pairs) → ⊥
+unchanged : (base : ℕ) (change : ChangeRow)
+    → Among (base, Change change) (rows_from first_row start_pairs) → ⊥
 unfolding NoChange ideal_words ideal_words_within rows_within degree square_root root_up_to part_len part_lens
 unchanged base change (inl e) = subst (λ row. NoChange row.1) (sym e) tt
 unchanged base change (inr (inl e)) = subst (λ row. NoChange row.1) (sym e) tt

@@ -21,10 +21,12 @@ use Rattle.ist_core.specs.Fairness.{IsBuilding}
 -- the word is the root for a target with k keys and these leaves: where k is small the whole ideal subtree above the target,
 -- and otherwise its top row alone, with every slot Unset. `rows` are the bases of its inner rows
 pub data IsRoot (ps : Pieces) (word k : ℕ) (leaves : List PlacedLeaf) (target : ℕ) (rows : List ℕ) : Type 0 where
-  root_whole : (ref : Ref) → k < share_from → ref_of word ≡ Some ref → IsIdeal ps ref leaves target rows
+  root_whole : (ref : Ref) → k < share_from → ref_of word ≡ Some ref
+      → IsIdeal ps ref leaves target rows
       → IsRoot ps word k leaves target rows
   root_top : (base : ℕ) (row : InnerRow) → share_from ≤ k → ref_of word ≡ Some (InnerAt base)
-      → IsTop ps base row leaves target → row.slots ≡ replicate (degree (length leaves)) unset_word → rows ≡ base ∷ []
+      → IsTop ps base row leaves target → row.slots ≡ replicate (degree (length leaves)) unset_word
+      → rows ≡ base ∷ []
       → IsRoot ps word k leaves target rows
 
 -- a started rebuild without a root, whose target is finished, may get one: its inner rows are exactly these, which the

@@ -36,7 +36,8 @@ pub record IsStuck (t : Snapshot) (sizes : List ℕ) : Type 0 where
 pub data AreBuilds (t : Snapshot) : List ℕ → Type 0 where
   no_build : AreBuilds t []
   last_build : {sizes : List ℕ} (rest : List ℕ) → IsBuilding t (sizes ++ rest) → AreBuilds t sizes
-  stuck_build : {sizes more : List ℕ} → IsStuck t sizes → AreBuilds t more → AreBuilds t (sizes ++ more)
+  stuck_build : {sizes more : List ℕ} → IsStuck t sizes → AreBuilds t more
+      → AreBuilds t (sizes ++ more)
 
 -- the sizes are those of the second list and those of the third, each in its order
 pub data IsMerge : List ℕ → List ℕ → List ℕ → Type 0 where

@@ -25,15 +25,19 @@ mutual
   -- these bases, a row first, then part by part
   pub data IsIdeal (ps : Pieces) : Ref → List PlacedLeaf → ℕ → List ℕ → Type 0 where
     of_none : {above : ℕ} → IsIdeal ps Empty [] above []
-    of_one : {base above : ℕ} {leaf : PlacedLeaf} → leaf.base ≡ base → ps base ≡ Some (Leaf leaf.row)
+    of_one : {base above : ℕ} {leaf : PlacedLeaf} → leaf.base ≡ base
+        → ps base ≡ Some (Leaf leaf.row)
         → IsIdeal ps (LeafAt base) (leaf ∷ []) above []
-    of_more : {base above : ℕ} {leaves : List PlacedLeaf} {rows : List ℕ} (r : InnerRow) → IsTop ps base r leaves above
-        → AreIdeal ps r.slots (parts leaves) base rows → IsIdeal ps (InnerAt base) leaves above (base ∷ rows)
+    of_more : {base above : ℕ} {leaves : List PlacedLeaf} {rows : List ℕ} (r : InnerRow)
+        → IsTop ps base r leaves above
+        → AreIdeal ps r.slots (parts leaves) base rows
+        → IsIdeal ps (InnerAt base) leaves above (base ∷ rows)
 
   -- each word is the ideal subtree over its part
   pub data AreIdeal (ps : Pieces) : List ℕ → List (List PlacedLeaf) → ℕ → List ℕ → Type 0 where
     no_part : {above : ℕ} → AreIdeal ps [] [] above []
     one_part : {word above : ℕ} {words here rest : List ℕ} {part : List PlacedLeaf}
         {behind : List (List PlacedLeaf)} (ref : Ref)
-        → ref_of word ≡ Some ref → IsIdeal ps ref part above here → AreIdeal ps words behind above rest
+        → ref_of word ≡ Some ref → IsIdeal ps ref part above here
+        → AreIdeal ps words behind above rest
         → AreIdeal ps (word ∷ words) (part ∷ behind) above (here ++ rest)

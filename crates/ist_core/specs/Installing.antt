@@ -58,7 +58,8 @@ pub record IsLeafOf (t : Snapshot) (base key : ℕ) : Type 0 where
 -- the word leaves room for a leaf of the key: it is Empty, or a leaf of this key
 pub data HasRoomFor (t : Snapshot) (key word : ℕ) : Type 0 where
   nothing : ref_of word ≡ Some Empty → HasRoomFor t key word
-  same_key : (leaf : ℕ) → ref_of word ≡ Some (LeafAt leaf) → IsLeafOf t leaf key → HasRoomFor t key word
+  same_key : (leaf : ℕ) → ref_of word ≡ Some (LeafAt leaf) → IsLeafOf t leaf key
+      → HasRoomFor t key word
 
 -- a put or remove comes to its slot by its key: each row on the node's chain leads on by the child for it, and so does the node
 pub record ComesByKey (first : Snapshot) (log : Log) (change : ChangeRow) : Type 0 where

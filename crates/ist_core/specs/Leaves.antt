@@ -29,7 +29,8 @@ mutual
   -- these are the leaves that are reached from slots with these words, slot by slot
   pub data SlotsHaveLeaves (ps : Pieces) : List ℕ → List PlacedLeaf → Type 0 where
     no_slot : SlotsHaveLeaves ps [] []
-    one_slot : {word : ℕ} {words : List ℕ} {here rest : List PlacedLeaf} → HasLeaves ps (logical ps word) here
+    one_slot : {word : ℕ} {words : List ℕ} {here rest : List PlacedLeaf}
+        → HasLeaves ps (logical ps word) here
         → SlotsHaveLeaves ps words rest → SlotsHaveLeaves ps (word ∷ words) (here ++ rest)
 
 -- the contents of the tree: the pairs of the leaves from the anchor on, child by child

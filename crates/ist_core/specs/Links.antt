@@ -27,7 +27,8 @@ pub data Chain (t : Snapshot) : ℕ → List ℕ → Type 0 where
 -- the node is reached from the anchor by the children for the key
 pub data Leads (t : Snapshot) (key : ℕ) : ℕ → Type 0 where
   from_anchor : Leads t key anchor
-  down : {node child : ℕ} (i : ℕ) → Leads t key node → IsChildFor t node key i → IsChild t node i child
+  down : {node child : ℕ} (i : ℕ) → Leads t key node → IsChildFor t node key i
+      → IsChild t node i child
       → Leads t key child
 
 -- ---- over a log

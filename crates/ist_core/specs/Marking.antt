@@ -19,7 +19,8 @@ pub record HasTarget (t : Snapshot) (rebuild target : ℕ) : Type 0 where
 -- row, or the target of a rebuild that was passed so
 pub data IsCalled (t : Snapshot) (log : Log) (node : ℕ) : Type 0 where
   as_target : (rebuild : ℕ) → HasTarget t rebuild node → IsStarted t rebuild → IsCalled t log node
-  as_child : (above i word : ℕ) → Happened (Passes above i word) log → ref_of word ≡ Some (InnerAt node)
+  as_child : (above i word : ℕ) → Happened (Passes above i word) log
+      → ref_of word ≡ Some (InnerAt node)
       → IsCalled t log node
   behind_rebuild : (above i word rebuild : ℕ) → Happened (Passes above i word) log
       → ref_of word ≡ Some (RebuildAt rebuild)
@@ -62,7 +63,8 @@ pub data CountsFor (t : Snapshot) : Option Ref → ℕ → Type 0 where
 -- name one word, so that one of each slot is asked for
 pub data ArePassed (t : Snapshot) (log : Log) (node : ℕ) : ℕ → List ℕ → ℕ → Type 0 where
   past_end : {i : ℕ} → ArePassed t log node i [] 0
-  one_passed : {i here rest slot : ℕ} {slots : List ℕ} (word : ℕ) → Happened (Passes node i word) log
+  one_passed : {i here rest slot : ℕ} {slots : List ℕ} (word : ℕ)
+      → Happened (Passes node i word) log
       → CountsFor t (ref_of word) here → ArePassed t log node (i + 1) slots rest
       → ArePassed t log node i (slot ∷ slots) (here + rest)
 

@@ -44,4 +44,5 @@ pub record IsReplaced (t : Snapshot) (rebuild : ℕ) : Type 0 where
 -- the root is built: the word is set, and no slot of its row is left to be set
 pub record IsBuilt (t : Snapshot) (root : ℕ) : Type 0 where
   pub set : root ≢ unset_word
-  pub whole : (base i word : ℕ) → ref_of root ≡ Some (InnerAt base) → SlotHolds t base i word → word ≢ unset_word
+  pub whole : (base i word : ℕ) → ref_of root ≡ Some (InnerAt base) → SlotHolds t base i word
+      → word ≢ unset_word

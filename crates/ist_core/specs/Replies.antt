@@ -8,7 +8,15 @@ pub record Answered : Type 0 where
   pub command : Command
   pub reply : Option ℕ
 
+-- the command with this reply
+abbrev pub told : Command → Option ℕ → Answered
+told command reply = record { command = command; reply = reply }
+
 -- a command, and the numbers with which it was refused
 pub record Refused : Type 0 where
   pub command : Command
   pub full : Full
+
+-- the command with these numbers
+abbrev pub refusal : Command → Full → Refused
+refusal command full = record { command = command; full = full }

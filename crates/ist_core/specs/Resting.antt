@@ -17,7 +17,8 @@ use Rattle.ist_core.specs.Standing.{StandsIn}
 
 -- each linked inner row is open, and has a count below its limit
 pub record IsSettled (t : Snapshot) : Type 0 where
-  pub all_open : (node : ℕ) (row : InnerRow) → Linked t node → t.pieces node ≡ Some (Inner row) → row.status ≡ open_word
+  pub all_open : (node : ℕ) (row : InnerRow) → Linked t node → t.pieces node ≡ Some (Inner row)
+      → row.status ≡ open_word
   pub none_due : (node : ℕ) (row : InnerRow) → Linked t node → t.pieces node ≡ Some (Inner row)
       → row.count < limit row.size
 

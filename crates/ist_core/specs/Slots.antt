@@ -12,7 +12,8 @@ use Rattle.ist_core.specs.After.{side_of}
 -- slot i of the node holds the word. The anchor is a node with slot 0 alone
 pub data SlotHolds (t : Snapshot) (node i word : ℕ) : Type 0 where
   in_anchor : node ≡ anchor → i ≡ 0 → t.anchor ≡ word → SlotHolds t node i word
-  in_row : (r : InnerRow) → t.pieces node ≡ Some (Inner r) → slice_get r.slots i ≡ Some word → SlotHolds t node i word
+  in_row : (r : InnerRow) → t.pieces node ≡ Some (Inner r) → slice_get r.slots i ≡ Some word
+      → SlotHolds t node i word
 
 -- the node is open: updates of its slots may take effect. The anchor always is
 pub data IsOpen (t : Snapshot) (node : ℕ) : Type 0 where
@@ -22,7 +23,8 @@ pub data IsOpen (t : Snapshot) (node : ℕ) : Type 0 where
 -- child i of the node is the one for the key
 pub data IsChildFor (t : Snapshot) (node key i : ℕ) : Type 0 where
   of_anchor : node ≡ anchor → i ≡ 0 → IsChildFor t node key i
-  of_row : (r : InnerRow) → t.pieces node ≡ Some (Inner r) → i ≡ child_count r.keys key → IsChildFor t node key i
+  of_row : (r : InnerRow) → t.pieces node ≡ Some (Inner r) → i ≡ child_count r.keys key
+      → IsChildFor t node key i
 
 -- ---- logical slots
 

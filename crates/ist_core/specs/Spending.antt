@@ -1,11 +1,13 @@
--- The words of a table that are used: they only grow, by what is reserved.
-use Rattle.std.specs.Prelude.{ℕ, ◌+◌, List, [], ◌∷◌, length}
+-- The words of a table that are used: they only grow, by what is reserved; and what became of each reserved row.
+use Rattle.std.specs.Prelude.{◌≡◌, ℕ, ◌+◌, List, [], ◌∷◌, length, Some}
 use Rattle.ist_core.specs.declared.pairs.Pair.{Pair}
 use Rattle.ist_core.specs.declared.events.Event.{Event}
 use Rattle.ist_core.specs.declared.events.Event.TheVariants.{Reserve}
 use Rattle.ist_core.specs.RowLayout.{first_row}
 use Rattle.ist_core.specs.Shapes.{ideal_words}
-use Rattle.ist_core.specs.Logs.{Log}
+use Rattle.ist_core.specs.Pieces.{Piece, size_of}
+use Rattle.ist_core.specs.Snapshots.{Snapshot, HoldsRow}
+use Rattle.ist_core.specs.Logs.{Log, Happened, Loses}
 
 -- the words that an event takes from the free ones
 abbrev pub reserved_by : Event → ℕ
@@ -16,3 +18,9 @@ reserved_by _ = 0
 abbrev pub spent : List Pair → Log → ℕ
 spent pairs [] = first_row + ideal_words (length pairs)
 spent pairs (event ∷ log) = spent pairs log + reserved_by event
+
+-- a row of this size that the caller reserved at the base is held by it, or published, or was lost
+pub data IsKnown (t : Snapshot) (log : Log) (caller base size : ℕ) : Type 0 where
+  still_held : HoldsRow t caller base size → IsKnown t log caller base size
+  is_published : (p : Piece) → t.pieces base ≡ Some p → size_of p ≡ size → IsKnown t log caller base size
+  was_lost : Happened (Loses base) log → IsKnown t log caller base size

@@ -36,8 +36,10 @@ pub fn a_put_is_lawful()
 
 /// A change in a slot reads as what stood there, and once it is decided yes as what it puts there.
 pub fn a_change_is_read()
-    ensures undecided { logical (state_of [] 15 put_installed).pieces (word_of (ChangeAt 6)) ≡ Some Empty }
-    ensures decided { logical (state_of [] 15 put_decided).pieces (word_of (ChangeAt 6)) ≡ Some (LeafAt 4) }
+    ensures undecided { logical (state_of [] 15 put_installed).pieces (word_of (ChangeAt 6))
+        ≡ Some Empty }
+    ensures decided { logical (state_of [] 15 put_decided).pieces (word_of (ChangeAt 6))
+        ≡ Some (LeafAt 4) }
 {}
 
 /// The start of a rebuild of the anchor's child is lawful where that child isn't due, and a rebuild
@@ -57,8 +59,8 @@ pub fn a_rebuild_is_lawful()
     ensures contents { HasContents (state_of start_pairs 100 rebuild_replaced) start_pairs }
 {}
 
-/// A put of (20, 9) in the target of a rebuild, whose node was seen open before the mark and which is
-/// decided yes behind it: it takes effect, is counted, and its leaf is what is passed.
+/// A put of (20, 9) in the target of a rebuild, whose node was seen open before the mark and which
+/// is decided yes behind it: it takes effect, is counted, and its leaf is what is passed.
 ///
 /// Where it is installed only behind the mark, nobody can have seen the node open, and yes isn't
 /// lawful.

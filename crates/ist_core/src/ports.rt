@@ -1,6 +1,7 @@
 //! What the program asks of a map that callers share.
-ghost use Rattle.std.specs.Prelude.{◌≡◌, ℕ, ◌+◌, ◌<◌, List, [], ◌∷◌, ◌++◌, Option, Some, IfOk, IfErr, OnOk, OnErr};
-ghost use Rattle.ist_core.specs.Replies.{Answered, Refused};
+ghost use Rattle.std.specs.Prelude.{◌≡◌, ℕ, ◌+◌, ◌<◌, List, [], ◌∷◌, ◌++◌, Option, Some};
+ghost use Rattle.std.specs.Prelude.{IfOk, IfErr, OnOk, OnErr};
+ghost use Rattle.ist_core.specs.Replies.{Answered, Refused, told, refusal};
 
 use crate::commands::{Command, Reply};
 use std::sync::Wait;
@@ -30,11 +31,12 @@ pub trait Port {
     ///
     /// `Full` where no row is left for it. The call didn't happen then.
     fn call<R: Wait>(&mut self, rt: &R, command: Command) -> Result<Reply, Full>
-        ensures recorded { IfOk result (λ r. calls self.new ≡ calls self.old ++ record { command = command; reply = r } ∷ []) }
+        ensures recorded { IfOk result (λ r.
+            calls self.new ≡ calls self.old ++ told command r ∷ []) }
         ensures unrefused { OnOk result (refused self.new ≡ refused self.old) }
 
         ensures full { IfErr result (λ f. f.words < f.next + f.asked) }
-        ensures refused { IfErr result (λ f. refused self.new ≡ Some record { command = command; full = f }) }
+        ensures refused { IfErr result (λ f. refused self.new ≡ Some (refusal command f)) }
         ensures unchanged { OnErr result (calls self.new ≡ calls self.old) }
 
         ensures same_tie { tie self.new ≡ tie self.old };

@@ -1,7 +1,7 @@
 //! A port can be met, and rows come back as they went in.
 ghost use Rattle.std.specs.Prelude.{[], List, ◌∷◌, Option, None, option_map};
 ghost use Rattle.std.specs.Option.{option_to_list};
-ghost use Rattle.ist_core.specs.Replies.{Answered, Refused};
+ghost use Rattle.ist_core.specs.Replies.{told, refusal};
 
 use crate::{Command, Full, LeafRow, Leaves, Port, Reply, Words};
 use std::alloc::AllocError;
@@ -23,9 +23,10 @@ const FULL: Full = Full {
 impl Port for OneCall {
     type Tie = ();
 
-    ghost calls = { λ p. option_to_list (option_map (λ c. record { command = c; reply = None }) p.told) };
+    ghost calls = { λ p. option_to_list (option_map (λ c. told c None) p.told) };
 
-    ghost refused = { λ p. option_map (λ c. record { command = c; full = record { next = 1; asked = 1; words = 1 } }) p.refused };
+    ghost refused = { λ p. option_map
+        (λ c. refusal c record { next = 1; asked = 1; words = 1 }) p.refused };
 
     ghost tie = { λ p. tt };
 
