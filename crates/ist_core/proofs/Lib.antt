@@ -20,10 +20,13 @@ pub mod EventMoveLemmas
 pub mod SoundLemmas
 pub mod StartLemmas
 pub mod SpendingLemmas
+pub mod LayoutLemmas
+pub mod PlaceLemmas
 pub mod GrowingLemmas
 pub mod FreshLemmas
 pub mod AddingLemmas
 pub mod StepLemmas
+pub mod FateLemmas
 pub mod RefusalLemmas
 pub mod PutExampleLemmas
 pub mod StartExampleLemmas

@@ -27,10 +27,12 @@ pub mod Building
 pub mod Enabled
 pub mod Lawful
 pub mod Spending
+pub mod Rows
 pub mod Growing
 pub mod Changes
 pub mod Standing
 pub mod Histories
 pub mod Resting
+pub mod Laws
 pub mod ExampleTables
 pub mod ExampleLogs

@@ -7,6 +7,8 @@ ghost use Rattle.ist_core.specs.Leaves.{HasContents};
 ghost use Rattle.ist_core.specs.Logs.{Log, Happened, Reserves};
 ghost use Rattle.ist_core.specs.Lawful.{Lawful, state_of};
 ghost use Rattle.ist_core.specs.Spending.{spent, IsKnown};
+ghost use Rattle.ist_core.specs.Laws.{PublishedRowsAreSetAside, HeldRowsAreSetAside, RowsLieWithin, RowsLieApart, RowsHaveOneSize};
+ghost use Rattle.ist_core.specs.Laws.{HeldRowsAreUnpublished, RowsAreHeldOnce, LostRowsAreUnpublished, LostRowsAreFree, RowsGrow};
 
 /// A snapshot is shown by one state, and a state shows the rows of one snapshot.
 pub fn states_are_shown()
@@ -34,4 +36,30 @@ pub fn rows_are_known()
     ensures known { (pairs : List Pair) (words : ℕ) (log : Log) → Lawful pairs words log
         → (caller base size : ℕ) → Happened (Reserves caller base size) log
         → IsKnown (state_of pairs words log) log caller base size }
+{}
+
+/// A reserved row has one fate: what is held is held once and isn't published, and what was lost is
+/// neither held nor published, ever again.
+pub fn fates_are_one()
+    ensures held_unpublished { HeldRowsAreUnpublished }
+    ensures held_once { RowsAreHeldOnce }
+    ensures lost_unpublished { LostRowsAreUnpublished }
+    ensures lost_unheld { LostRowsAreFree }
+{}
+
+/// Rows share no word. Each published or held row has the words that were set aside for it, in the
+/// new table or by a caller, and they lie behind the fixed words and below the first free one.
+pub fn rows_lie_apart()
+    ensures published { PublishedRowsAreSetAside }
+    ensures held { HeldRowsAreSetAside }
+    ensures within { RowsLieWithin }
+    ensures apart { RowsLieApart }
+    ensures one_size { RowsHaveOneSize }
+{}
+
+/// A published row stays a row of its kind, and only its status, count, slots, decision, root and
+/// draw change: a status goes from open to marked to finished, a change is decided once, a rebuild
+/// gets its root once, and counts never fall.
+pub fn rows_grow()
+    ensures grow { RowsGrow }
 {}
