@@ -27,6 +27,10 @@ pub mod FreshLemmas
 pub mod AddingLemmas
 pub mod StepLemmas
 pub mod FateLemmas
+pub mod RoomLemmas
+pub mod SlotLemmas
+pub mod NamingLemmas
+pub mod TreeLemmas
 pub mod RefusalLemmas
 pub mod PutExampleLemmas
 pub mod StartExampleLemmas
