@@ -158,7 +158,7 @@ among_parts n x [] i = absurd i
 among_parts n x (j ∷ js) (inl e) = (j, e)
 among_parts n x (j ∷ js) (inr i) = among_parts n x js i
 
-among_part_lens : (n x : ℕ) → Among x (part_lens n) → (j : ℕ) × (x ≡ part_len n j)
+pub among_part_lens : (n x : ℕ) → Among x (part_lens n) → (j : ℕ) × (x ≡ part_len n j)
 unfolding part_lens
 among_part_lens n x i = among_parts n x (range_with_len 0 (degree n)) i
 

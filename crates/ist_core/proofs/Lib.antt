@@ -31,6 +31,9 @@ pub mod RoomLemmas
 pub mod SlotLemmas
 pub mod NamingLemmas
 pub mod TreeLemmas
+pub mod InstallNamingLemmas
+pub mod NamingStepLemmas
+pub mod StartTreeLemmas
 pub mod RefusalLemmas
 pub mod PutExampleLemmas
 pub mod StartExampleLemmas

@@ -26,7 +26,7 @@ use Rattle.ist_core.proofs.StartLemmas.{sound_start}
 use Rattle.ist_core.proofs.SpendingLemmas.{next-state}
 use Rattle.ist_core.proofs.LayoutLemmas.{fills_within, fills_apart, fills_rows}
 
-size_positive : (p : Piece) → 0 < size_of p
+pub size_positive : (p : Piece) → 0 < size_of p
 size_positive (Leaf r) = omega arith
 size_positive (Inner r) = omega arith
 size_positive (Change r) = omega arith

@@ -42,7 +42,7 @@ holds_installed first log caller base rows h = subst (λ rs. HoldsRows (state fi
 -- ---- rows grow
 
 -- a row that is known grows so
-known : (P : Piece → Type 0) (o : Option Piece) (p q : Piece) → o ≡ Some p → o ≡ Some q → P q → P p
+pub known : (P : Piece → Type 0) (o : Option Piece) (p q : Piece) → o ≡ Some p → o ≡ Some q → P q → P p
 known P o p q h k x = let same : q ≡ p = cc in subst P same x
 
 grow_install : (first : Snapshot) (log : Log) (caller base : ℕ) (rows : List Row) → CanInstall first log caller base rows → IsSound (state first log)
