@@ -57,8 +57,23 @@ root_side ps node i target (Some (ChangeAt base)) low set h = absurd h
 root_side ps node i target (Some (RebuildAt base)) low set h = absurd h
 root_side ps node i target None low set h = absurd h
 
-same_rebuild : (o : Option Piece) (r s : RebuildRow) → o ≡ Some (Rebuild r) → o ≡ Some (Rebuild s) → r ≡ s
-same_rebuild o r s e f = cc
+-- no change is taken out of a slot
+pub from_plain : (first : Snapshot) (log : Log) (change : ChangeRow) (fresh : List Row) → FitsKind first log change fresh → (base : ℕ) → ref_of change.from ≢ Some (ChangeAt base)
+from_plain first log change fresh (a_put h) base e = at h.from
+  where
+    at : HasRoomFor (state first log) change.key change.from → ⊥
+    at (nothing k) = clash (sym k ∙ e)
+      where
+        clash : Some Empty ≡ Some (ChangeAt base) → ⊥
+        clash x = cc
+    at (same_key leaf k l) = clash (sym k ∙ e)
+      where
+        clash : Some (LeafAt leaf) ≡ Some (ChangeAt base) → ⊥
+        clash x = cc
+from_plain first log change fresh (a_pair h) base e = let x : Some (LeafAt h.other) ≡ Some (ChangeAt base) = sym h.from ∙ e in cc
+from_plain first log change fresh (a_remove h) base e = let x : Some (LeafAt h.leaf) ≡ Some (ChangeAt base) = sym h.from ∙ e in cc
+from_plain first log change fresh (a_start h) base e = let x : Some (InnerAt h.target) ≡ Some (ChangeAt base) = sym h.from ∙ e in cc
+from_plain first log change fresh (a_finish h) base e = let x : Some (RebuildAt h.rebuild) ≡ Some (ChangeAt base) = sym h.from ∙ e in cc
 
 module _ (first : Snapshot) (log : Log) (caller at : ℕ) (change : ChangeRow) (fresh : List Row) (sound : IsSound (state first log))
     (holds : HoldsRows (state first log) caller (row_at at (Change change) ∷ fresh)) (in_slot : SlotHolds (state first log) change.node change.index change.from)

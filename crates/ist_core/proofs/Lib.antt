@@ -34,6 +34,10 @@ pub mod TreeLemmas
 pub mod InstallNamingLemmas
 pub mod NamingStepLemmas
 pub mod StartTreeLemmas
+pub mod OrderLemmas
+pub mod SlotStepLemmas
+pub mod FreezingLemmas
+pub mod FrozenLemmas
 pub mod RefusalLemmas
 pub mod PutExampleLemmas
 pub mod StartExampleLemmas

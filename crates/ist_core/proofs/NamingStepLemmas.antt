@@ -189,7 +189,7 @@ names_place first log caller rebuild i word rows h sound o =
 -- ---- all events
 
 -- an enabled event keeps what words name, where bases are good
-names_step : (first : Snapshot) (log : Log) (event : Event) → Enabled first log event → IsSound (state first log) → (state first log).pieces anchor ≡ None
+pub names_step : (first : Snapshot) (log : Log) (event : Event) → Enabled first log event → IsSound (state first log) → (state first log).pieces anchor ≡ None
     → ((caller base : ℕ) (rows : List Row) (h : CanInstall first log caller base rows) → IsGoodBase base × ((at : ℕ) (p : Piece) → with_installed (state first log).pieces base h.change h.fresh at ≡ Some p → IsGoodBase at))
     → WordsName (state first log) → WordsName (state first (event ∷ log))
 names_step first log (Install caller base rows) h s free good o = let ok = good caller base rows h in names_install first log caller base rows h s free ok.0 ok.1 o

@@ -29,10 +29,12 @@ pub mod Lawful
 pub mod Spending
 pub mod Rows
 pub mod Growing
+pub mod Freezing
 pub mod Changes
 pub mod Standing
 pub mod Histories
 pub mod Resting
 pub mod Laws
+pub mod TreeLaws
 pub mod ExampleTables
 pub mod ExampleLogs

@@ -9,6 +9,7 @@ ghost use Rattle.ist_core.specs.Lawful.{Lawful, state_of};
 ghost use Rattle.ist_core.specs.Spending.{spent, IsKnown};
 ghost use Rattle.ist_core.specs.Laws.{PublishedRowsAreSetAside, HeldRowsAreSetAside, RowsLieWithin, RowsLieApart, RowsHaveOneSize};
 ghost use Rattle.ist_core.specs.Laws.{HeldRowsAreUnpublished, RowsAreHeldOnce, LostRowsAreUnpublished, LostRowsAreFree, RowsGrow};
+ghost use Rattle.ist_core.specs.TreeLaws.{ChildrenLieAbove, FrozenSlotsRead, FrozenSlotsKeep, PassesAgree};
 
 /// A snapshot is shown by one state, and a state shows the rows of one snapshot.
 pub fn states_are_shown()
@@ -62,4 +63,17 @@ pub fn rows_lie_apart()
 /// gets its root once, and counts never fall.
 pub fn rows_grow()
     ensures grow { RowsGrow }
+{}
+
+/// An inner child's base is above its parent's, so that a way down the tree ends.
+pub fn children_lie_above()
+    ensures above { ChildrenLieAbove }
+{}
+
+/// A slot that was passed is frozen. It was passed with one word, reads as this word from then on,
+/// and holds it, or a change that would take it out and can't take effect; its node isn't open.
+pub fn frozen_slots_stay()
+    ensures reads { FrozenSlotsRead }
+    ensures keeps { FrozenSlotsKeep }
+    ensures agree { PassesAgree }
 {}
