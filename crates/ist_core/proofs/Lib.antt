@@ -38,6 +38,7 @@ pub mod OrderLemmas
 pub mod SlotStepLemmas
 pub mod FreezingLemmas
 pub mod FrozenLemmas
+pub mod BranchLemmas
 pub mod RefusalLemmas
 pub mod PutExampleLemmas
 pub mod StartExampleLemmas
