@@ -39,6 +39,8 @@ pub mod SlotStepLemmas
 pub mod FreezingLemmas
 pub mod FrozenLemmas
 pub mod BranchLemmas
+pub mod HomeLemmas
+pub mod HomeStepLemmas
 pub mod RefusalLemmas
 pub mod PutExampleLemmas
 pub mod StartExampleLemmas
