@@ -34,14 +34,14 @@ use Rattle.ist_core.proofs.BranchLemmas.{NamesIn, HangsIn, hangs_among, hangs_on
 use Rattle.ist_core.proofs.HomeLemmas.{Says, Mentions, HasOneHome, slot_mentions, Came, SaysCame, WordCame, AllCame, AreNew, came_old, came_added, came-changed_at, came-with_slot, came-with_root, came-with_status, came-counted, came-drawn, came-with_decision, one_home_from, one_home_same, anchor_came, anchor_old}
 
 -- nothing new
-abbrev NoneNew : ℕ → ℕ → ℕ → Type 0
+abbrev pub NoneNew : ℕ → ℕ → ℕ → Type 0
 NoneNew node i child = ⊥
 
 none_new : (t : Snapshot) → AreNew t NoneNew
 none_new t = record { unpublished = λ node i child h. absurd h; one = λ n i k j child h l. absurd h }
 
 -- a word that names no inner row
-word_of_other : (t : Snapshot) (New : ℕ → ℕ → ℕ → Type 0) (node i : ℕ) (word : Option Ref) (ref : Ref) → word ≡ Some ref → ((child : ℕ) → ref ≢ InnerAt child) → WordCame t New node i word
+pub word_of_other : (t : Snapshot) (New : ℕ → ℕ → ℕ → Type 0) (node i : ℕ) (word : Option Ref) (ref : Ref) → word ≡ Some ref → ((child : ℕ) → ref ≢ InnerAt child) → WordCame t New node i word
 unfolding WordCame
 word_of_other t New node i word ref e other child f = absurd (other child (same word ref (InnerAt child) e f))
   where
@@ -60,7 +60,7 @@ word_new t New node i word h child e = inr (h child e)
 
 -- ---- one row changed
 
-one_home_changed : (t u : Snapshot) (at : ℕ) (f : Piece → Piece) → u.anchor ≡ t.anchor → u.pieces ≡ changed_at t.pieces at f
+pub one_home_changed : (t u : Snapshot) (at : ℕ) (f : Piece → Piece) → u.anchor ≡ t.anchor → u.pieces ≡ changed_at t.pieces at f
     → ((New : ℕ → ℕ → ℕ → Type 0) (p : Piece) → SaysCame t New at p → SaysCame t New at (f p)) → WordsName t → HasOneHome t → HasOneHome u
 one_home_changed t u at f word pieces keeps names home =
     one_home_from t u NoneNew home names (none_new t)
@@ -69,7 +69,7 @@ one_home_changed t u at f word pieces keeps names home =
 
 -- ---- Resolve
 
-one_home_resolve : (t : Snapshot) (caller base : ℕ) → (h : CanResolve t caller base) → t.pieces anchor ≡ None → WordsName t → HasOneHome t → HasOneHome (after t (Resolve caller base))
+pub one_home_resolve : (t : Snapshot) (caller base : ℕ) → (h : CanResolve t caller base) → t.pieces anchor ≡ None → WordsName t → HasOneHome t → HasOneHome (after t (Resolve caller base))
 one_home_resolve t caller base h free names home =
     let change = h.change in
     let side = word_mentioned t NoneNew change.node change.index (ref_of (side_of change)) (λ child e. inr (base, Change change, h.published, (refl, refl, either child e))) in
@@ -105,7 +105,7 @@ tree_says t ps parent at ref rows all base p i e =
           reads = says.3;
         }))
 
-one_home_root : (t : Snapshot) (caller rebuild word : ℕ) (rows : List Row) → (h : CanRoot t caller rebuild word rows) → IsSound t → WordsName t → HasOneHome t → HasOneHome (after t (Root caller rebuild word rows))
+pub one_home_root : (t : Snapshot) (caller rebuild word : ℕ) (rows : List Row) → (h : CanRoot t caller rebuild word rows) → IsSound t → WordsName t → HasOneHome t → HasOneHome (after t (Root caller rebuild word rows))
 one_home_root t caller rebuild word rows h sound names home =
     let u = after t (Root caller rebuild word rows) in
     let qs = with_inners t.pieces rows in
@@ -129,7 +129,7 @@ one_home_root t caller rebuild word rows h sound names home =
     same_ref : (o : Option Ref) (a b : Ref) → o ≡ Some a → o ≡ Some b → a ≡ b
     same_ref o a b e f = cc
 
-one_home_place : (t : Snapshot) (caller rebuild i word : ℕ) (rows : List Row) → (h : CanPlace t caller rebuild i word rows) → IsSound t → WordsName t → HasOneHome t → HasOneHome (after t (Place caller rebuild i word rows))
+pub one_home_place : (t : Snapshot) (caller rebuild i word : ℕ) (rows : List Row) → (h : CanPlace t caller rebuild i word rows) → IsSound t → WordsName t → HasOneHome t → HasOneHome (after t (Place caller rebuild i word rows))
 one_home_place t caller rebuild i word rows h sound names home =
     let u = after t (Place caller rebuild i word rows) in
     let qs = with_inners t.pieces rows in
@@ -155,14 +155,14 @@ one_home_place t caller rebuild i word rows h sound names home =
 -- ---- Install
 
 -- the pair row of a put is named for the change's slot
-abbrev NewPair : (first : Snapshot) (log : Log) (change : ChangeRow) (fresh : List Row) → FitsKind first log change fresh → ℕ → ℕ → ℕ → Type 0
+abbrev pub NewPair : (first : Snapshot) (log : Log) (change : ChangeRow) (fresh : List Row) → FitsKind first log change fresh → ℕ → ℕ → ℕ → Type 0
 NewPair first log change fresh (a_pair h) node i child = (node ≡ change.node) × (i ≡ change.index) × (child ≡ h.pair)
 NewPair first log change fresh _ node i child = ⊥
 
 module _ (first : Snapshot) (log : Log) (caller at : ℕ) (change : ChangeRow) (fresh : List Row) (sound : IsSound (state first log))
     (holds : HoldsRows (state first log) caller (row_at at (Change change) ∷ fresh)) (in_slot : SlotHolds (state first log) change.node change.index change.from) where
   -- it is new
-  pair_new : (fits : FitsKind first log change fresh) → AreNew (state first log) (NewPair first log change fresh fits)
+  pub pair_new : (fits : FitsKind first log change fresh) → AreNew (state first log) (NewPair first log change fresh fits)
   pair_new (a_pair h) =
       record {
         unpublished = λ node i child x.
@@ -223,7 +223,7 @@ module _ (first : Snapshot) (log : Log) (caller at : ℕ) (change : ChangeRow) (
       ]
 
   -- what all rows of an Install name
-  installed_says : (fits : FitsKind first log change fresh) → (leaf_good : (base : ℕ) → IsFresh first log change fresh fits base (new_leaf change) → IsGoodBase base)
+  pub installed_says : (fits : FitsKind first log change fresh) → (leaf_good : (base : ℕ) → IsFresh first log change fresh fits base (new_leaf change) → IsGoodBase base)
       → (other_good : (base : ℕ) → (r : Piece) → (state first log).pieces base ≡ Some r → IsGoodBase base) → (base : ℕ) (p : Piece)
       → IsInstalled first log at change fresh fits base p → SaysCame (state first log) (NewPair first log change fresh fits) base p
   unfolding SaysCame WordCame

@@ -41,6 +41,7 @@ pub mod FrozenLemmas
 pub mod BranchLemmas
 pub mod HomeLemmas
 pub mod HomeStepLemmas
+pub mod ParentLemmas
 pub mod RefusalLemmas
 pub mod PutExampleLemmas
 pub mod StartExampleLemmas

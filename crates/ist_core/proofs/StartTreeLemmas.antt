@@ -11,7 +11,7 @@ use Rattle.ist_core.specs.Arithmetic.{degree, part_len, part_lens}
 use Rattle.ist_core.specs.RowLayout.{first_row, place_limit, inner_words, anchor}
 use Rattle.ist_core.specs.Shapes.{ideal_words}
 use Rattle.ist_core.specs.References.{Ref, Empty, LeafAt, InnerAt, IsGoodBase, IsGoodRef, ref_of, word_of}
-use Rattle.ist_core.specs.Elements.{Among, Each}
+use Rattle.ist_core.specs.Elements.{Among, Each, Distinct}
 use Rattle.ist_core.specs.Parts.{cut, parts}
 use Rattle.ist_core.specs.Pieces.{Pieces, Piece, Leaf, Inner, size_of, with_row}
 use Rattle.ist_core.specs.StartLayout.{start, tree_at, bases_from, placed_parts, top_row, rows_within, rows_from, pieces_of}
@@ -52,16 +52,41 @@ pub data IsLeafRow : Piece → Type 0 where
 abbrev pub GoodFrom : ℕ → ℕ → Type 0
 GoodFrom base words = (first_row ≤ base) × (base + words ≤ place_limit)
 
--- a tree of these rows hangs at the reference
-pub record HangsAs (ps : Pieces) (ref : Ref) (above : ℕ) (listed : List (ℕ × Piece)) : Type 0 where
+-- the bases rise, and lie between the two places
+abbrev pub Between : ℕ → List ℕ → ℕ → Type 0
+Between from [] to = from ≤ to
+Between from (base ∷ bases) to = (from ≤ base) × Between (base + 1) bases to
+
+between_wider : (low from to : ℕ) (bases : List ℕ) → low ≤ from → Between from bases to → Between low bases to
+between_wider low from to [] le h = omega arith
+between_wider low from to (base ∷ bases) le h = let first = h.0 in (omega arith, h.1)
+
+between_append : (from mid to : ℕ) (xs ys : List ℕ) → Between from xs mid → Between mid ys to → Between from (xs ++ ys) to
+between_append from mid to [] ys h k = between_wider from mid to ys h k
+between_append from mid to (x ∷ xs) ys h k = (h.0, between_append (x + 1) mid to xs ys h.1 k)
+
+between_above : (from to base : ℕ) (bases : List ℕ) → Between from bases to → Among base bases → from ≤ base
+between_above from to base [] h i = absurd i
+between_above from to base (b ∷ bases) h (inl e) = let first = h.0 in omega arith
+between_above from to base (b ∷ bases) h (inr i) = let first = h.0 in let rest = between_above (b + 1) to base bases h.1 i in omega arith
+
+-- no base stands twice among rising ones
+pub between_once : (from to : ℕ) (bases : List ℕ) → Between from bases to → Distinct bases
+between_once from to [] h = tt
+between_once from to (base ∷ bases) h = ((λ i. let low = between_above (base + 1) to base bases h.1 i in omega arith), between_once (base + 1) to bases h.1)
+
+-- a tree of these rows, which lie between the two places, hangs at the reference
+pub record HangsAs (ps : Pieces) (ref : Ref) (above : ℕ) (listed : List (ℕ × Piece)) (from to : ℕ) : Type 0 where
   pub rows : List ℕ
   pub tree : IsTree ps ref above rows
+  pub between : Between from rows to
   pub each : (base : ℕ) (p : Piece) → Among (base, p) listed → IsLeafRow p ⊎ Among base rows
 
 -- trees of these rows hang at the words
-record HangAs (ps : Pieces) (words : List ℕ) (above : ℕ) (listed : List (ℕ × Piece)) : Type 0 where
+record HangAs (ps : Pieces) (words : List ℕ) (above : ℕ) (listed : List (ℕ × Piece)) (from to : ℕ) : Type 0 where
   rows : List ℕ
   trees : AreTrees ps words above rows
+  between : Between from rows to
   each : (base : ℕ) (p : Piece) → Among (base, p) listed → IsLeafRow p ⊎ Among base rows
 
 -- a tree lies at a good base where it has a word
@@ -82,9 +107,9 @@ module _ (ps : Pieces) where
   -- trees of parts, where each part is one
   parts_hang : (fuel from above : ℕ) (ns : List ℕ) (xs : List Pair) → sum ns ≤ length xs → above < from → GoodFrom from (sum_by ideal_words ns)
       → Stand (flat_map (λ part. rows_within fuel part.0 part.1) (zip (bases_from from ns) (cut ns xs)))
-      → ((n base : ℕ) (part : List Pair) → Among n ns → length part ≡ n → above < base → GoodFrom base (ideal_words n) → Stand (rows_within fuel base part) → HangsAs ps (tree_at base part) above (rows_within fuel base part))
-      → HangAs ps (map (λ part. word_of (tree_at part.0 part.1)) (zip (bases_from from ns) (cut ns xs))) above (flat_map (λ part. rows_within fuel part.0 part.1) (zip (bases_from from ns) (cut ns xs)))
-  parts_hang fuel from above [] xs fits higher good stand each = record { rows = []; trees = no_tree; each = λ base p i. absurd i }
+      → ((n base : ℕ) (part : List Pair) → Among n ns → length part ≡ n → above < base → GoodFrom base (ideal_words n) → Stand (rows_within fuel base part) → HangsAs ps (tree_at base part) above (rows_within fuel base part) base (base + ideal_words n))
+      → HangAs ps (map (λ part. word_of (tree_at part.0 part.1)) (zip (bases_from from ns) (cut ns xs))) above (flat_map (λ part. rows_within fuel part.0 part.1) (zip (bases_from from ns) (cut ns xs))) from (from + sum_by ideal_words ns)
+  parts_hang fuel from above [] xs fits higher good stand each = record { rows = []; trees = no_tree; between = omega arith; each = λ base p i. absurd i }
   parts_hang fuel from above (n ∷ ns) xs fits higher good stand each =
       let all = sum_by-cons (λ x. x) n ns in
       let words = sum_by-cons ideal_words n ns in
@@ -101,6 +126,8 @@ module _ (ps : Pieces) where
       record {
         rows = first.rows ++ rest.rows;
         trees = one_tree (tree_at from (take n xs)) (ref_of-word_of (tree_at from (take n xs)) (tree_good from (take n xs) (low, omega arith))) first.tree rest.trees;
+        between = between_append from (from + ideal_words n) (from + sum_by ideal_words (n ∷ ns)) first.rows rest.rows first.between
+            (subst (λ to. Between (from + ideal_words n) rest.rows to) (let end : from + ideal_words n + sum_by ideal_words ns ≡ from + sum_by ideal_words (n ∷ ns) = omega arith in end) rest.between);
         each = λ base p i.
             ⊎_elim
               (λ k. ⊎_elim (λ l. inl l) (λ l. inr (among_left base first.rows rest.rows l)) (first.each base p k))
@@ -110,13 +137,14 @@ module _ (ps : Pieces) where
 
   -- the rows of a tree are one
   pub rows_hang : (fuel base above : ℕ) (pairs : List Pair) → length pairs ≤ fuel → above < base → GoodFrom base (ideal_words (length pairs)) → Stand (rows_within fuel base pairs)
-      → HangsAs ps (tree_at base pairs) above (rows_within fuel base pairs)
+      → HangsAs ps (tree_at base pairs) above (rows_within fuel base pairs) base (base + ideal_words (length pairs))
   unfolding rows_within
-  rows_hang fuel base above [] h higher good stand = record { rows = []; tree = tree_none; each = λ b p i. absurd i }
+  rows_hang fuel base above [] h higher good stand = record { rows = []; tree = tree_none; between = omega arith; each = λ b p i. absurd i }
   rows_hang fuel base above (pair ∷ []) h higher good stand =
       record {
         rows = [];
         tree = tree_leaf record { key = pair.key; value = pair.value } (stand base (Leaf record { key = pair.key; value = pair.value }) (inl refl));
+        between = omega arith;
         each = λ b p i. ⊎_elim (λ e. inl (subst IsLeafRow (sym (ap (λ x. x.1) e)) (leaf_row _))) (λ n. absurd n) i;
       }
   rows_hang zero base above (pair ∷ more ∷ pairs) h higher good stand = absurd (omega arith)
@@ -134,15 +162,20 @@ module _ (ps : Pieces) where
             let it = among_part_lens n m i in
             let less = part_len-lt n it.0 (omega arith) in
             let is = it.1 in
-            rows_hang fuel at base part (omega arith) deeper (subst (λ k. GoodFrom at (ideal_words k)) (sym e) ok) stands) in
-      top_hangs base above all higher below (stand base (top_row base all) (inl refl)) hang
+            subst (λ k. HangsAs ps (tree_at at part) base (rows_within fuel at part) at (at + ideal_words k)) e
+              (rows_hang fuel at base part (omega arith) deeper (subst (λ k. GoodFrom at (ideal_words k)) (sym e) ok) stands)) in
+      let end : from + sum_by ideal_words (part_lens n) ≡ base + ideal_words n = omega arith in
+      top_hangs base above all higher below (stand base (top_row base all) (inl refl)) from (base + ideal_words n) (omega arith)
+        (subst (λ to. HangAs ps (map (λ part. word_of (tree_at part.0 part.1)) (placed_parts base all)) base below from to) end hang)
     where
       top_hangs : (base above : ℕ) (all : List Pair) → above < base → (below : List (ℕ × Piece)) → ps base ≡ Some (top_row base all)
-          → HangAs ps (map (λ part. word_of (tree_at part.0 part.1)) (placed_parts base all)) base below → HangsAs ps (InnerAt base) above ((base, top_row base all) ∷ below)
-      top_hangs base above all higher below there hang =
+          → (from to : ℕ) → base + 1 ≤ from → HangAs ps (map (λ part. word_of (tree_at part.0 part.1)) (placed_parts base all)) base below from to
+          → HangsAs ps (InnerAt base) above ((base, top_row base all) ∷ below) base to
+      top_hangs base above all higher below there from to behind hang =
           record {
             rows = base ∷ hang.rows;
             tree = tree_row _ there higher hang.trees;
+            between = (omega arith, between_wider (base + 1) from to hang.rows behind hang.between);
             each = λ b p i. ⊎_elim (λ e. inr (inl (ap (λ x. x.0) e))) (λ k. ⊎_elim (λ l. inl l) (λ l. inr (inr l)) (hang.each b p k)) i;
           }
 
@@ -156,7 +189,7 @@ module _ (pairs : List Pair) (words : ℕ) (opens : CanOpen pairs words) where
   start_good = let room = opens.room in let most = opens.within in (omega arith, omega arith)
 
   -- a new table is one tree
-  pub start_hangs : (above : ℕ) → above < first_row → HangsAs (start pairs words).pieces (tree_at first_row pairs) above (rows_from first_row pairs)
+  pub start_hangs : (above : ℕ) → above < first_row → HangsAs (start pairs words).pieces (tree_at first_row pairs) above (rows_from first_row pairs) first_row (first_row + ideal_words (length pairs))
   start_hangs above low = rows_hang (start pairs words).pieces (length pairs) first_row above pairs (omega arith) low start_good start_stands
 
   -- the word of the anchor leads to it
