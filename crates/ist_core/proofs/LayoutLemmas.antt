@@ -88,23 +88,23 @@ length_zipped (x ∷ xs) [] e = absurd (omega arith)
 length_zipped (x ∷ xs) (y ∷ ys) e = let rest = length_zipped xs ys (omega arith) in omega arith
 
 -- no part is empty, so that each has a first key
-length-first_keys : (ns : List ℕ) (xs : List Pair) → AllSome ns → sum ns ≤ length xs → length (first_keys (λ pair. pair.key) (cut ns xs)) ≡ length ns
-length-first_keys [] xs some fits = refl
-length-first_keys (zero ∷ ns) xs some fits = let none = some.0 in absurd (omega arith)
-length-first_keys (suc n ∷ ns) [] some fits = let all = sum_by-cons (λ x. x) (suc n) ns in absurd (omega arith)
-length-first_keys (suc n ∷ ns) (x ∷ xs) some fits =
+length-first_keys : {A : Type 0} (key : A → ℕ) (ns : List ℕ) (xs : List A) → AllSome ns → sum ns ≤ length xs → length (first_keys key (cut ns xs)) ≡ length ns
+length-first_keys key [] xs some fits = refl
+length-first_keys key (zero ∷ ns) xs some fits = let none = some.0 in absurd (omega arith)
+length-first_keys key (suc n ∷ ns) [] some fits = let all = sum_by-cons (λ x. x) (suc n) ns in absurd (omega arith)
+length-first_keys key (suc n ∷ ns) (x ∷ xs) some fits =
     let all = sum_by-cons (λ x. x) (suc n) ns in
     let less = length-drop (suc n) (x ∷ xs) in
-    let rest = length-first_keys ns (drop (suc n) (x ∷ xs)) some.1 (omega arith) in
+    let rest = length-first_keys key ns (drop (suc n) (x ∷ xs)) some.1 (omega arith) in
     omega arith
 
 -- the same for all but the first part
-keys_behind_first : (ns : List ℕ) (xs : List Pair) → AllSome ns → sum ns ≤ length xs → 1 ≤ length ns → length (first_keys (λ pair. pair.key) (drop 1 (cut ns xs))) + 1 ≡ length ns
-keys_behind_first [] xs some fits one = absurd (omega arith)
-keys_behind_first (n ∷ ns) xs some fits one =
+keys_behind_first : {A : Type 0} (key : A → ℕ) (ns : List ℕ) (xs : List A) → AllSome ns → sum ns ≤ length xs → 1 ≤ length ns → length (first_keys key (drop 1 (cut ns xs))) + 1 ≡ length ns
+keys_behind_first key [] xs some fits one = absurd (omega arith)
+keys_behind_first key (n ∷ ns) xs some fits one =
     let all = sum_by-cons (λ x. x) n ns in
     let less = length-drop n xs in
-    let rest = length-first_keys ns (drop n xs) some.1 (omega arith) in
+    let rest = length-first_keys key ns (drop n xs) some.1 (omega arith) in
     omega arith
 
 mapped_some : (n : ℕ) (js : List ℕ) → 2 ≤ n → AllSome (map (part_len n) js)
@@ -119,18 +119,36 @@ pub length-part_lens : (n : ℕ) → length (part_lens n) ≡ degree n
 unfolding part_lens
 length-part_lens n = length-map-range_with_len (part_len n) 0 (degree n)
 
--- a top row has as many words as its degree says
-size_of-top_row : (base : ℕ) (pairs : List Pair) → 2 ≤ length pairs → size_of (top_row base pairs) ≡ inner_words (degree (length pairs))
-size_of-top_row base pairs two =
+-- a list of two or more has one key less than parts
+pub keys_of_parts : {A : Type 0} (key : A → ℕ) (xs : List A) → 2 ≤ length xs → length (first_keys key (drop 1 (parts xs))) + 1 ≡ degree (length xs)
+keys_of_parts key xs two =
+    let n = length xs in
+    let many = length-part_lens n in
+    let keys = keys_behind_first key (part_lens n) xs (part_lens_some n two) (let whole = sum-part_lens n in omega arith) (let least = least_degree-le n in omega arith) in
+    omega arith
+
+-- and as many parts as its degree says
+pub length-parts : {A : Type 0} (xs : List A) → length (parts xs) ≡ degree (length xs)
+length-parts xs = length-cut (part_lens (length xs)) xs ∙ length-part_lens (length xs)
+
+-- a top row has as many slots as its degree says
+pub slots_of-top_row : (base : ℕ) (pairs : List Pair) → length (map (λ part. word_of (tree_at part.0 part.1)) (placed_parts base pairs)) ≡ degree (length pairs)
+slots_of-top_row base pairs =
     let n = length pairs in
     let lens = part_lens n in
     let many = length-part_lens n in
     let from = base + inner_words (degree n) in
-    let keys = keys_behind_first lens pairs (part_lens_some n two) (let whole = sum-part_lens n in omega arith) (let least = least_degree-le n in omega arith) in
     let starts = length-bases_from from lens in
     let pieces = length-cut lens pairs in
     let placed = length_zipped (bases_from from lens) (parts pairs) (omega arith) in
     let slots = length-map (placed_parts base pairs) (λ part. word_of (tree_at part.0 part.1)) in
+    omega arith
+
+-- a top row has as many words as its degree says
+size_of-top_row : (base : ℕ) (pairs : List Pair) → 2 ≤ length pairs → size_of (top_row base pairs) ≡ inner_words (degree (length pairs))
+size_of-top_row base pairs two =
+    let keys = keys_of_parts (λ pair. pair.key) pairs two in
+    let slots = slots_of-top_row base pairs in
     let both = length-append (first_keys (λ pair. pair.key) (drop 1 (parts pairs))) (map (λ part. word_of (tree_at part.0 part.1)) (placed_parts base pairs)) in
     omega arith
 

@@ -42,6 +42,7 @@ pub mod BranchLemmas
 pub mod HomeLemmas
 pub mod HomeStepLemmas
 pub mod ParentLemmas
+pub mod MentionLemmas
 pub mod RefusalLemmas
 pub mod PutExampleLemmas
 pub mod StartExampleLemmas

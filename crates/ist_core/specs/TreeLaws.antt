@@ -2,7 +2,7 @@
 use Rattle.std.specs.Prelude.{◌≡◌, ℕ, ◌<◌, List}
 use Rattle.ist_core.specs.declared.pairs.Pair.{Pair}
 use Rattle.ist_core.specs.References.{ref_of}
-use Rattle.ist_core.specs.Logs.{Log}
+use Rattle.ist_core.specs.Logs.{Log, GoesOn}
 use Rattle.ist_core.specs.Slots.{SlotHolds, past_rebuild, logical}
 use Rattle.ist_core.specs.Links.{IsChild}
 use Rattle.ist_core.specs.Marking.{IsFrozen}
@@ -16,6 +16,15 @@ abbrev pub ChildrenLieAbove : Type 0
 ChildrenLieAbove =
     (pairs : List Pair) (words : ℕ) (log : Log) → Lawful pairs words log → (node i child : ℕ)
     → IsChild (state_of pairs words log) node i child → node < child
+
+-- ---- one parent
+
+-- an inner row is the logical child of one slot only, ever: of the slot that it is the child of behind any prefix of the log
+abbrev pub ParentsAreOne : Type 0
+ParentsAreOne =
+    (pairs : List Pair) (words : ℕ) (earlier log : Log) → Lawful pairs words log → GoesOn earlier log
+    → (node i other j child : ℕ) → IsChild (state_of pairs words earlier) node i child
+    → IsChild (state_of pairs words log) other j child → (node ≡ other) × (i ≡ j)
 
 -- ---- frozen slots
 

@@ -9,7 +9,7 @@ ghost use Rattle.ist_core.specs.Lawful.{Lawful, state_of};
 ghost use Rattle.ist_core.specs.Spending.{spent, IsKnown};
 ghost use Rattle.ist_core.specs.Laws.{PublishedRowsAreSetAside, HeldRowsAreSetAside, RowsLieWithin, RowsLieApart, RowsHaveOneSize};
 ghost use Rattle.ist_core.specs.Laws.{HeldRowsAreUnpublished, RowsAreHeldOnce, LostRowsAreUnpublished, LostRowsAreFree, RowsGrow};
-ghost use Rattle.ist_core.specs.TreeLaws.{ChildrenLieAbove, FrozenSlotsRead, FrozenSlotsKeep, PassesAgree};
+ghost use Rattle.ist_core.specs.TreeLaws.{ChildrenLieAbove, ParentsAreOne, FrozenSlotsRead, FrozenSlotsKeep, PassesAgree};
 
 /// A snapshot is shown by one state, and a state shows the rows of one snapshot.
 pub fn states_are_shown()
@@ -68,6 +68,11 @@ pub fn rows_grow()
 /// An inner child's base is above its parent's, so that a way down the tree ends.
 pub fn children_lie_above()
     ensures above { ChildrenLieAbove }
+{}
+
+/// An inner row is the logical child of one slot only, ever, whatever changes and rebuilds come.
+pub fn parents_are_one()
+    ensures one { ParentsAreOne }
 {}
 
 /// A slot that was passed is frozen. It was passed with one word, reads as this word from then on,
