@@ -43,6 +43,9 @@ pub mod HomeLemmas
 pub mod HomeStepLemmas
 pub mod ParentLemmas
 pub mod MentionLemmas
+pub mod BornLemmas
+pub mod ShapedLemmas
+pub mod ImageLemmas
 pub mod RefusalLemmas
 pub mod PutExampleLemmas
 pub mod StartExampleLemmas

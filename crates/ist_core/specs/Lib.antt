@@ -30,6 +30,7 @@ pub mod Spending
 pub mod Rows
 pub mod Growing
 pub mod Freezing
+pub mod Writing
 pub mod Changes
 pub mod Standing
 pub mod Histories
