@@ -46,6 +46,9 @@ pub mod MentionLemmas
 pub mod BornLemmas
 pub mod ShapedLemmas
 pub mod ImageLemmas
+pub mod ChainLemmas
+pub mod TouchLemmas
+pub mod ImageStepLemmas
 pub mod RefusalLemmas
 pub mod PutExampleLemmas
 pub mod StartExampleLemmas

@@ -65,7 +65,7 @@ module _ (pairs : List Pair) (words : ℕ) where
       longer (by_caller caller k) = by_caller caller (inr k)
 
   -- the first free word lies behind the fixed ones
-  next_behind_fixed : (log : Log) → EachEnabled (start pairs words) log → first_row ≤ (state_of pairs words log).next
+  pub next_behind_fixed : (log : Log) → EachEnabled (start pairs words) log → first_row ≤ (state_of pairs words log).next
   next_behind_fixed [] h = omega arith
   next_behind_fixed (event ∷ log) h =
       let low = next_behind_fixed log h.0 in

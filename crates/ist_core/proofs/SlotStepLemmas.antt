@@ -69,7 +69,7 @@ resolve_writes t caller base h free =
       }
 
 -- a word that isn't the anchor's
-elsewhere : (node word old : ℕ) → node ≢ anchor → old ≡ (if node == anchor then word else old)
+pub elsewhere : (node word old : ℕ) → node ≢ anchor → old ≡ (if node == anchor then word else old)
 elsewhere node word old ne = at (node == anchor) refl
   where
     at : (v : Bool) → (node == anchor) ≡ v → old ≡ (if v then word else old)

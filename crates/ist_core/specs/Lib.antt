@@ -37,5 +37,6 @@ pub mod Histories
 pub mod Resting
 pub mod Laws
 pub mod TreeLaws
+pub mod ImageLaws
 pub mod ExampleTables
 pub mod ExampleLogs

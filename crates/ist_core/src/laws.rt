@@ -9,6 +9,7 @@ ghost use Rattle.ist_core.specs.Lawful.{Lawful, state_of};
 ghost use Rattle.ist_core.specs.Spending.{spent, IsKnown};
 ghost use Rattle.ist_core.specs.Laws.{PublishedRowsAreSetAside, HeldRowsAreSetAside, RowsLieWithin, RowsLieApart, RowsHaveOneSize};
 ghost use Rattle.ist_core.specs.Laws.{HeldRowsAreUnpublished, RowsAreHeldOnce, LostRowsAreUnpublished, LostRowsAreFree, RowsGrow};
+ghost use Rattle.ist_core.specs.ImageLaws.{WordsAreFound, OneWordIsWritten, SlotsStandInTheImage};
 ghost use Rattle.ist_core.specs.TreeLaws.{ChildrenLieAbove, ParentsAreOne, FrozenSlotsRead, FrozenSlotsKeep, PassesAgree};
 
 /// A snapshot is shown by one state, and a state shows the rows of one snapshot.
@@ -81,4 +82,13 @@ pub fn frozen_slots_stay()
     ensures reads { FrozenSlotsRead }
     ensures keeps { FrozenSlotsKeep }
     ensures agree { PassesAgree }
+{}
+
+/// The step of an event touches one word of the table: it finds there what the event's condition
+/// says, and leaves there what the state behind the event says. No other word of the image changes,
+/// where the rows that the event publishes stood in their words before. A Lose touches no word.
+pub fn one_word_is_written()
+    ensures found { WordsAreFound }
+    ensures written { OneWordIsWritten }
+    ensures slots { SlotsStandInTheImage }
 {}
