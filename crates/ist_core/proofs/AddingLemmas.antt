@@ -1,7 +1,6 @@
 -- Events that publish rows: what stood there stays, and the rest is new. Serves each law that speaks of rows.
-use Rattle.std.proofs.Common.{◌≡◌, ℕ, ◌⊎◌, List, [], ◌∷◌, length, Option, Some, None, refl, sym, ap, ◌∙◌, subst, inl, inr, ⊎_elim}
+use Rattle.std.proofs.Common.{◌≡◌, ℕ, ◌⊎◌, List, ◌∷◌, length, Option, Some, None, ◌∙◌, subst, inl, inr, ⊎_elim}
 use Rattle.ist_core.specs.declared.lists.Row.{Row}
-use Rattle.ist_core.specs.declared.lists.HeldRow.{HeldRow}
 use Rattle.ist_core.specs.declared.states.ChangeRow.{ChangeRow}
 use Rattle.ist_core.specs.Elements.{Among}
 use Rattle.ist_core.specs.Pieces.{Pieces, Piece, Change, row_at, with_inners}
@@ -11,7 +10,7 @@ use Rattle.ist_core.specs.After.{with_fresh}
 use Rattle.ist_core.specs.Installing.{FitsKind}
 use Rattle.ist_core.proofs.ElementLemmas.{each-among}
 use Rattle.ist_core.proofs.RowLemmas.{with_row-some, with_inners-some, with_inners-other}
-use Rattle.ist_core.proofs.PublishingLemmas.{among_bases, base_among, row_among, Publishes}
+use Rattle.ist_core.proofs.PublishingLemmas.{base_among, row_among}
 use Rattle.ist_core.proofs.InstallLemmas.{with_installed, publishes_install}
 use Rattle.ist_core.proofs.MoveLemmas.{IsSound}
 use Rattle.ist_core.proofs.FreshLemmas.{IsFresh, fresh_from}
@@ -26,7 +25,7 @@ pub held_free : (t : Snapshot) (caller : ℕ) (rows : List Row) → HoldsRows t 
 held_free t caller rows holds sound base i =
     let it = row_among base rows i in
     subst (λ b. t.pieces b ≡ None) it.2
-      (sound.unpublished record { caller = caller; base = it.0.base; size = length it.0.words } (each-among (λ x. HoldsRow t caller x.base (length x.words)) it.0 rows holds it.1))
+    (sound.unpublished record { caller = caller; base = it.0.base; size = length it.0.words } (each-among (λ x. HoldsRow t caller x.base (length x.words)) it.0 rows holds it.1))
 
 -- where held rows are published, what stood there stays
 pub held_keeps : (t : Snapshot) (caller : ℕ) (rows : List Row) (qs : Pieces) → HoldsRows t caller rows → IsSound t → ((base : ℕ) → ¬ (Among base (bases_of rows)) → qs base ≡ t.pieces base)
@@ -59,9 +58,9 @@ adds_install first log caller at change fresh fits holds sound =
       keeps = held_keeps t caller (row_at at (Change change) ∷ fresh) (with_installed t.pieces at change fresh) holds sound (publishes_install t.pieces first log at change fresh fits).others;
       from = λ base p e.
           ⊎_elim
-            (λ w. inr (inl (w.0, same p w.1)))
-            (λ w. ⊎_elim (λ v. inr (inr v)) (λ v. inl v) (fresh_from t.pieces first log change fresh fits base p w))
-            (with_row-some (with_fresh t.pieces change fresh) at base (Some (Change change)) p e);
+          (λ w. inr (inl (w.0, same p w.1)))
+          (λ w. ⊎_elim (λ v. inr (inr v)) (λ v. inl v) (fresh_from t.pieces first log change fresh fits base p w))
+          (with_row-some (with_fresh t.pieces change fresh) at base (Some (Change change)) p e);
     }
   where
     same : (p : Piece) → Some (Change change) ≡ Some p → p ≡ Change change

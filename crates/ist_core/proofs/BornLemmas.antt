@@ -1,14 +1,14 @@
 -- Where each row behind an event comes from: it stood there and grew, or is born now. Serves the conjuncts that growing keeps.
-use Rattle.std.proofs.Common.{◌≡◌, ℕ, ◌⊎◌, List, [], ◌∷◌, Option, Some, None, refl, sym, ap, ◌∙◌, subst, inl, inr, ⊎_elim}
+use Rattle.std.proofs.Common.{◌≡◌, ℕ, ◌⊎◌, List, ◌∷◌, Option, Some, refl, sym, ap, subst, inl, inr, ⊎_elim}
 use Rattle.ist_core.specs.declared.lists.Row.{Row}
 use Rattle.ist_core.specs.declared.events.Event.{Event}
 use Rattle.ist_core.specs.declared.events.Event.TheVariants.{Enter, Reserve, Install, Okay, Decide, Resolve, Count, Mark, Pass, Finish, Root, Draw, Place, Lose}
 use Rattle.ist_core.specs.References.{ChangeAt, word_of}
 use Rattle.ist_core.specs.Statuses.{marked_word, finished_word}
 use Rattle.ist_core.specs.Elements.{Among}
-use Rattle.ist_core.specs.Pieces.{Pieces, Piece, Change, Rebuild, row_at, with_inners, changed_at, with_slot, with_status, counted, with_decision, with_root, drawn}
+use Rattle.ist_core.specs.Pieces.{Pieces, Piece, Rebuild, with_inners, changed_at, with_slot, with_status, counted, with_decision, with_root, drawn}
 use Rattle.ist_core.specs.Snapshots.{Snapshot, bases_of}
-use Rattle.ist_core.specs.After.{after, decision_word, side_of, resolved}
+use Rattle.ist_core.specs.After.{after, decision_word, side_of}
 use Rattle.ist_core.specs.Logs.{Log, state}
 use Rattle.ist_core.specs.Installing.{CanInstall}
 use Rattle.ist_core.specs.Enabled.{Enabled}
@@ -76,23 +76,23 @@ comes first log (Install caller change rows) h s base q e = install_comes first 
 comes first log (Resolve caller change) h s base q e =
     let t = state first log in
     changed_comes first log (Resolve caller change) h.change.node (with_slot h.change.index (side_of h.change)) (grow_step first log (Resolve caller change) h s)
-      (ap (λ u. u.pieces) (rows_resolved t caller change h)) base q e
+    (ap (λ u. u.pieces) (rows_resolved t caller change h)) base q e
 comes first log (Root caller rebuild word rows) h s base q e =
     let t = state first log in
     let qs = with_inners t.pieces rows in
     let adds = adds-with_inners t caller rows h.held s in
     let grows : AllGrow qs (changed_at qs rebuild (with_root word)) = all_grow-changed_at qs rebuild (with_root word)
-        (λ p k. known (λ x. Grows x (with_root word x)) (qs rebuild) p (Rebuild h.row) k (adds.keeps rebuild (Rebuild h.row) h.published) (grows-with_root h.row word h.rootless)) in
+    (λ p k. known (λ x. Grows x (with_root word x)) (qs rebuild) p (Rebuild h.row) k (adds.keeps rebuild (Rebuild h.row) h.published) (grows-with_root h.row word h.rootless)) in
     added_comes first log (Root caller rebuild word rows) qs rebuild (with_root word) grows refl
-      (λ b p k. ⊎_elim (λ old. inl old) (λ i. inr (by_root i k)) (adds.from b p k)) base q e
+    (λ b p k. ⊎_elim (λ old. inl old) (λ i. inr (by_root i k)) (adds.from b p k)) base q e
 comes first log (Place caller rebuild i word rows) h s base q e =
     let t = state first log in
     let qs = with_inners t.pieces rows in
     let adds = adds-with_inners t caller rows h.held s in
     let pieces = rows_placed t caller rebuild i word rows h in
     added_comes first log (Place caller rebuild i word rows) qs h.root (with_slot i word)
-      (subst (λ ps. AllGrow qs ps) (sym pieces) (all_grow-changed_at qs h.root (with_slot i word) (λ p _. grows-with_slot i word p))) pieces
-      (λ b p k. ⊎_elim (λ old. inl old) (λ j. inr (by_place j k)) (adds.from b p k)) base q e
+    (subst (λ ps. AllGrow qs ps) (sym pieces) (all_grow-changed_at qs h.root (with_slot i word) (λ p _. grows-with_slot i word p))) pieces
+    (λ b p k. ⊎_elim (λ old. inl old) (λ j. inr (by_place j k)) (adds.from b p k)) base q e
 comes first log (Decide caller change said) h s base q e = changed_comes first log (Decide caller change said) change (with_decision (decision_word said)) (grow_step first log (Decide caller change said) h s) refl base q e
 comes first log (Count caller node) h s base q e = changed_comes first log (Count caller node) node counted (grow_step first log (Count caller node) h s) refl base q e
 comes first log (Mark caller node) h s base q e = changed_comes first log (Mark caller node) node (with_status marked_word) (grow_step first log (Mark caller node) h s) refl base q e

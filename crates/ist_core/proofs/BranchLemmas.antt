@@ -3,7 +3,7 @@ use Rattle.std.proofs.Common.{◌≡◌, ℕ, zero, suc, ◌⊎◌, List, [], �
 use Rattle.ist_core.specs.declared.states.InnerRow.{InnerRow}
 use Rattle.ist_core.specs.References.{Ref, InnerAt, ref_of}
 use Rattle.ist_core.specs.Elements.{Among, Distinct}
-use Rattle.ist_core.specs.Pieces.{Pieces, Piece, Inner}
+use Rattle.ist_core.specs.Pieces.{Pieces, Inner}
 use Rattle.ist_core.proofs.ElementLemmas.{among-append, among_left, among_right}
 use Rattle.ist_core.proofs.SlotLemmas.{same_inner}
 use Rattle.ist_core.proofs.TreeLemmas.{IsTree, AreTrees, tree_none, tree_unset, tree_leaf, tree_row, no_tree, one_tree}
@@ -77,19 +77,19 @@ mutual
   below_first ps _ above _ node i child (tree_leaf r p) h = absurd h.among
   below_first ps _ above _ node i child (tree_row {base = base} {rows = rows} r p higher below) h =
       ⊎_elim
-        (λ here.
-          let same : h.row ≡ r = same_inner (ps base) h.row r (subst (λ x. ps x ≡ Some (Inner h.row)) here h.published) p in
-          slot_among ps r.slots base rows i h.word child below (subst (λ y. slice_get y.slots i ≡ Some h.word) same h.in_slot) h.reads)
-        (λ there. below_all ps r.slots base rows node i child below (within ps (base ∷ rows) rows node i child h there))
-        h.among
+      (λ here.
+      let same : h.row ≡ r = same_inner (ps base) h.row r (subst (λ x. ps x ≡ Some (Inner h.row)) here h.published) p in
+      slot_among ps r.slots base rows i h.word child below (subst (λ y. slice_get y.slots i ≡ Some h.word) same h.in_slot) h.reads)
+      (λ there. below_all ps r.slots base rows node i child below (within ps (base ∷ rows) rows node i child h there))
+      h.among
 
   below_all : (ps : Pieces) (words : List ℕ) (above : ℕ) (rows : List ℕ) (node i child : ℕ) → AreTrees ps words above rows → NamesIn ps rows node i child → Among child rows
   below_all ps _ above _ node i child no_tree h = absurd h.among
   below_all ps _ above _ node i child (one_tree {words = words} {here = here} {rest = rest} ref is first more) h =
       ⊎_elim
-        (λ k. among_left child here rest (among_behind here child (below_first ps ref above here node i child first (within ps (here ++ rest) here node i child h k))))
-        (λ k. among_right child here rest (below_all ps words above rest node i child more (within ps (here ++ rest) rest node i child h k)))
-        (among-append node here rest h.among)
+      (λ k. among_left child here rest (among_behind here child (below_first ps ref above here node i child first (within ps (here ++ rest) here node i child h k))))
+      (λ k. among_right child here rest (below_all ps words above rest node i child more (within ps (here ++ rest) rest node i child h k)))
+      (among-append node here rest h.among)
 
 -- the row that a tree hangs by is named by none of its rows
 first_apart : (ps : Pieces) (ref : Ref) (above : ℕ) (rows : List ℕ) (node i child : ℕ) → IsTree ps ref above rows → Distinct rows → ref ≡ InnerAt child → NamesIn ps rows node i child → ⊥
@@ -106,14 +106,14 @@ slots_apart ps _ above _ zero word node i child (one_tree {word = w} {words = wo
     let same : w ≡ word = cc in
     let named = same_read (ref_of w) (ref_of w) ref child is (ap ref_of same ∙ k) in
     ⊎_elim
-      (λ a. first_apart ps ref above here node i child first (distinct_left here rest d) named (within ps (here ++ rest) here node i child h a))
-      (λ a. distinct_apart here rest child d (named_among ps ref above here child first named) (below_all ps words above rest node i child more (within ps (here ++ rest) rest node i child h a)))
-      (among-append node here rest h.among)
+    (λ a. first_apart ps ref above here node i child first (distinct_left here rest d) named (within ps (here ++ rest) here node i child h a))
+    (λ a. distinct_apart here rest child d (named_among ps ref above here child first named) (below_all ps words above rest node i child more (within ps (here ++ rest) rest node i child h a)))
+    (among-append node here rest h.among)
 slots_apart ps _ above _ (suc j) word node i child (one_tree {words = words} {here = here} {rest = rest} ref is first more) d e k h =
     ⊎_elim
-      (λ a. distinct_apart here rest child d (among_behind here child (below_first ps ref above here node i child first (within ps (here ++ rest) here node i child h a))) (slot_among ps words above rest j word child more e k))
-      (λ a. slots_apart ps words above rest j word node i child more (distinct_right here rest d) e k (within ps (here ++ rest) rest node i child h a))
-      (among-append node here rest h.among)
+    (λ a. distinct_apart here rest child d (among_behind here child (below_first ps ref above here node i child first (within ps (here ++ rest) here node i child h a))) (slot_among ps words above rest j word child more e k))
+    (λ a. slots_apart ps words above rest j word node i child more (distinct_right here rest d) e k (within ps (here ++ rest) rest node i child h a))
+    (among-append node here rest h.among)
 
 -- two slots of the list name different rows
 slots_once : (ps : Pieces) (words : List ℕ) (above : ℕ) (rows : List ℕ) (i w j v child : ℕ) → AreTrees ps words above rows → Distinct rows → slice_get words i ≡ Some w → ref_of w ≡ Some (InnerAt child)
@@ -137,18 +137,18 @@ mutual
   named_once ps _ above _ n i k j child (tree_leaf r p) d h l = absurd h.among
   named_once ps _ above _ n i k j child (tree_row {base = base} {rows = rows} r p higher below) d h l =
       let slot : (x y : ℕ) (g : NamesIn ps (base ∷ rows) x y child) → x ≡ base → slice_get r.slots y ≡ Some g.word =
-          λ x y g here. subst (λ q. slice_get q.slots y ≡ Some g.word) (same_inner (ps base) g.row r (subst (λ q. ps q ≡ Some (Inner g.row)) here g.published) p) g.in_slot in
+      λ x y g here. subst (λ q. slice_get q.slots y ≡ Some g.word) (same_inner (ps base) g.row r (subst (λ q. ps q ≡ Some (Inner g.row)) here g.published) p) g.in_slot in
       let deeper : (x y : ℕ) → NamesIn ps (base ∷ rows) x y child → Among x rows → NamesIn ps rows x y child = λ x y g a. within ps (base ∷ rows) rows x y child g a in
       ⊎_elim
-        (λ a. ⊎_elim
-          (λ b. (a ∙ sym b, slots_once ps r.slots base rows i h.word j l.word child below d.1 (slot n i h a) h.reads (slot k j l b) l.reads))
-          (λ b. absurd (slots_apart ps r.slots base rows i h.word k j child below d.1 (slot n i h a) h.reads (deeper k j l b)))
-          l.among)
-        (λ a. ⊎_elim
-          (λ b. absurd (slots_apart ps r.slots base rows j l.word n i child below d.1 (slot k j l b) l.reads (deeper n i h a)))
-          (λ b. named_once_all ps r.slots base rows n i k j child below d.1 (deeper n i h a) (deeper k j l b))
-          l.among)
-        h.among
+      (λ a. ⊎_elim
+      (λ b. (a ∙ sym b, slots_once ps r.slots base rows i h.word j l.word child below d.1 (slot n i h a) h.reads (slot k j l b) l.reads))
+      (λ b. absurd (slots_apart ps r.slots base rows i h.word k j child below d.1 (slot n i h a) h.reads (deeper k j l b)))
+      l.among)
+      (λ a. ⊎_elim
+      (λ b. absurd (slots_apart ps r.slots base rows j l.word n i child below d.1 (slot k j l b) l.reads (deeper n i h a)))
+      (λ b. named_once_all ps r.slots base rows n i k j child below d.1 (deeper n i h a) (deeper k j l b))
+      l.among)
+      h.among
 
   named_once_all : (ps : Pieces) (words : List ℕ) (above : ℕ) (rows : List ℕ) (n i k j child : ℕ) → AreTrees ps words above rows → Distinct rows → NamesIn ps rows n i child → NamesIn ps rows k j child → (n ≡ k) × (i ≡ j)
   named_once_all ps _ above _ n i k j child no_tree d h l = absurd h.among
@@ -157,15 +157,15 @@ mutual
       let one : (x y : ℕ) → NamesIn ps (here ++ rest) x y child → Among x here → NamesIn ps here x y child = λ x y g a. within ps (here ++ rest) here x y child g a in
       let two : (x y : ℕ) → NamesIn ps (here ++ rest) x y child → Among x rest → NamesIn ps rest x y child = λ x y g a. within ps (here ++ rest) rest x y child g a in
       ⊎_elim
-        (λ a. ⊎_elim
-          (λ b. named_once ps ref above here n i k j child first (distinct_left here rest d) (one n i h a) (one k j l b))
-          (λ b. absurd (distinct_apart here rest child d (left n i (one n i h a)) (below_all ps words above rest k j child more (two k j l b))))
-          (among-append k here rest l.among))
-        (λ a. ⊎_elim
-          (λ b. absurd (distinct_apart here rest child d (left k j (one k j l b)) (below_all ps words above rest n i child more (two n i h a))))
-          (λ b. named_once_all ps words above rest n i k j child more (distinct_right here rest d) (two n i h a) (two k j l b))
-          (among-append k here rest l.among))
-        (among-append n here rest h.among)
+      (λ a. ⊎_elim
+      (λ b. named_once ps ref above here n i k j child first (distinct_left here rest d) (one n i h a) (one k j l b))
+      (λ b. absurd (distinct_apart here rest child d (left n i (one n i h a)) (below_all ps words above rest k j child more (two k j l b))))
+      (among-append k here rest l.among))
+      (λ a. ⊎_elim
+      (λ b. absurd (distinct_apart here rest child d (left k j (one k j l b)) (below_all ps words above rest n i child more (two n i h a))))
+      (λ b. named_once_all ps words above rest n i k j child more (distinct_right here rest d) (two n i h a) (two k j l b))
+      (among-append k here rest l.among))
+      (among-append n here rest h.among)
 
 -- slot i of the node names the row in a tree that hangs on slot `at` of `parent`: it is this slot and the tree's first row, or
 -- a slot of one of its rows

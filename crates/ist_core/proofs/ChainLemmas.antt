@@ -1,10 +1,10 @@
 -- A row on a chain is an inner row, now and later. Serves the image law, at a Count.
-use Rattle.std.proofs.Common.{◌≡◌, ℕ, ◌⊎◌, List, [], ◌∷◌, ◌++◌, Some, refl, sym, subst, inl, inr, ⊎_elim}
+use Rattle.std.proofs.Common.{ℕ, List, [], ◌∷◌, sym, subst, inl, inr, ⊎_elim}
 use Rattle.ist_core.specs.declared.pairs.Pair.{Pair}
 use Rattle.ist_core.specs.Elements.{Among}
 use Rattle.ist_core.specs.Snapshots.{Snapshot}
 use Rattle.ist_core.specs.StartLayout.{start}
-use Rattle.ist_core.specs.Logs.{Log, state, Ever}
+use Rattle.ist_core.specs.Logs.{Log}
 use Rattle.ist_core.specs.Links.{IsChild, Chain, no_row, one_row, WasOnChain}
 use Rattle.ist_core.specs.Lawful.{EachEnabled, CanOpen, state_of}
 use Rattle.ist_core.proofs.ElementLemmas.{among-append}
@@ -21,9 +21,9 @@ chain_child : (t : Snapshot) (node : ℕ) (rows : List ℕ) → Chain t node row
 chain_child t _ _ no_row row k = absurd k
 chain_child t _ _ (one_row {node = node} {child = child} {rows = rows} i chain is) row k =
     ⊎_elim
-      (λ before. chain_child t node rows chain row before)
-      (λ last. ⊎_elim (λ e. (node, i, subst (λ b. IsChild t node i b) (sym e) is)) (λ none. absurd none) last)
-      (among-append row rows (child ∷ []) k)
+    (λ before. chain_child t node rows chain row before)
+    (λ last. ⊎_elim (λ e. (node, i, subst (λ b. IsChild t node i b) (sym e) is)) (λ none. absurd none) last)
+    (among-append row rows (child ∷ []) k)
 
 -- so that it is an inner row
 chain_inner : (t : Snapshot) (node row : ℕ) → WordsName t → (rows : List ℕ) × Chain t node rows × Among row rows → InnerHere t.pieces row
@@ -36,4 +36,4 @@ on_chain_inner pairs words opens [] h node row was = chain_inner (start pairs wo
 on_chain_inner pairs words opens (event ∷ log) h node row (inl now) = chain_inner (state_of pairs words (event ∷ log)) node row (names pairs words opens (event ∷ log) h) now
 on_chain_inner pairs words opens (event ∷ log) h node row (inr before) =
     inner_here_grows (state_of pairs words log).pieces (state_of pairs words (event ∷ log)).pieces
-      (grow_step (start pairs words) log event h.1 (sound (start pairs words) log (sound_start pairs words) h.0)) row (on_chain_inner pairs words opens log h.0 node row before)
+    (grow_step (start pairs words) log event h.1 (sound (start pairs words) log (sound_start pairs words) h.0)) row (on_chain_inner pairs words opens log h.0 node row before)

@@ -1,11 +1,10 @@
 -- A row that was lost is gone for good, and published rows grow. Serves `laws.fates_are_one` and `laws.rows_grow`.
-use Rattle.std.proofs.Common.{◌≡◌, ◌≢◌, ℕ, ◌+◌, ◌<◌, ◌⊎◌, List, [], ◌∷◌, Option, Some, None, refl, sym, ap, ◌∙◌, subst, inl, inr, ⊎_elim, arith}
+use Rattle.std.proofs.Common.{◌≡◌, ◌≢◌, ℕ, ◌<◌, List, [], ◌∷◌, None, refl, sym, ap, subst, inl, inr, ⊎_elim, arith}
 use Rattle.ist_core.specs.declared.pairs.Pair.{Pair}
 use Rattle.ist_core.specs.declared.lists.HeldRow.{HeldRow}
 use Rattle.ist_core.specs.declared.events.Event.{Event}
 use Rattle.ist_core.specs.declared.events.Event.TheVariants.{Enter, Reserve, Install, Okay, Decide, Resolve, Count, Mark, Pass, Finish, Root, Draw, Place, Lose}
 use Rattle.ist_core.specs.Elements.{Among}
-use Rattle.ist_core.specs.Pieces.{Piece}
 use Rattle.ist_core.specs.Snapshots.{Snapshot, HoldsRow}
 use Rattle.ist_core.specs.StartLayout.{start}
 use Rattle.ist_core.specs.After.{after}
@@ -86,9 +85,9 @@ gone_reserve first log event r base g =
       unpublished = g.unpublished;
       unheld = λ h i e.
           ⊎_elim
-            (λ a. g.unheld h a e)
-            (λ a. ⊎_elim (λ f. let here : h.base ≡ r.base = ap (λ x. x.base) f in absurd (omega arith)) (λ n. absurd n) a)
-            (among-append h (state first log).held (record { caller = r.caller; base = r.base; size = r.size } ∷ []) i);
+          (λ a. g.unheld h a e)
+          (λ a. ⊎_elim (λ f. let here : h.base ≡ r.base = ap (λ x. x.base) f in absurd (omega arith)) (λ n. absurd n) a)
+          (among-append h (state first log).held (record { caller = r.caller; base = r.base; size = r.size } ∷ []) i);
       used = omega arith;
     }
 
@@ -98,9 +97,9 @@ gone first (event ∷ log) base s h (inl now) = gone_now first log event base h.
 gone first (event ∷ log) base s h (inr before) =
     let g = gone first log base s h.0 before in
     ⊎_elim
-      (λ m. gone_moves (state first log) (state first (event ∷ log)) event base m g)
-      (λ r. subst (λ e. IsGone (after (state first log) e) base) (sym r.is) (gone_reserve first log event r base g))
-      (moves_or_reserves first log event h.1 (sound first log s h.0))
+    (λ m. gone_moves (state first log) (state first (event ∷ log)) event base m g)
+    (λ r. subst (λ e. IsGone (after (state first log) e) base) (sym r.is) (gone_reserve first log event r base g))
+    (moves_or_reserves first log event h.1 (sound first log s h.0))
 
 pub lost_unpublished : (pairs : List Pair) (words : ℕ) (log : Log) → Lawful pairs words log → (base : ℕ) → Happened (Loses base) log → (state_of pairs words log).pieces base ≡ None
 lost_unpublished pairs words log h base l = (gone (start pairs words) log base (sound_start pairs words) h.enabled l).unpublished
@@ -121,4 +120,4 @@ pub grow_between : (pairs : List Pair) (words : ℕ) (earlier log : Log) → Eac
 grow_between pairs words earlier _ h same_log = all_grow_same _
 grow_between pairs words earlier _ h (one_event {log = log} event g) =
     all_grow_on _ (state_of pairs words log).pieces _ (grow_between pairs words earlier log h.0 g)
-      (grow_step (start pairs words) log event h.1 (sound (start pairs words) log (sound_start pairs words) h.0))
+    (grow_step (start pairs words) log event h.1 (sound (start pairs words) log (sound_start pairs words) h.0))

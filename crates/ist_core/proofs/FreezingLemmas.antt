@@ -1,28 +1,27 @@
 -- A slot that was passed keeps its word: each event keeps that. Serves the frozen-slot law.
-use Rattle.std.proofs.Common.{◌≡◌, ◌≢◌, ℕ, ◌+◌, ◌*◌, ◌⊎◌, ◌==◌, if◌then◌else◌, Bool, true, false, List, [], ◌∷◌, Option, Some, None, option_map, refl, sym, ap, ◌∙◌, subst, inl, inr, ⊎_elim, arith}
+use Rattle.std.proofs.Common.{◌≡◌, ◌≢◌, ℕ, ◌+◌, ◌*◌, Bool, true, false, List, [], ◌∷◌, Option, Some, None, option_map, sym, ap, ◌∙◌, subst, inl, inr, ⊎_elim, arith}
 use Rattle.std.proofs.lemmas.Bool.Decides.{nat_tests, eqb_tells}
 use Rattle.ist_core.specs.declared.pairs.Pair.{Pair}
 use Rattle.ist_core.specs.declared.lists.Row.{Row}
-use Rattle.ist_core.specs.declared.lists.HeldRow.{HeldRow}
 use Rattle.ist_core.specs.declared.states.InnerRow.{InnerRow}
 use Rattle.ist_core.specs.declared.states.ChangeRow.{ChangeRow}
 use Rattle.ist_core.specs.declared.events.Event.{Event}
 use Rattle.ist_core.specs.declared.events.Event.TheVariants.{Enter, Reserve, Install, Okay, Decide, Resolve, Count, Mark, Pass, Finish, Root, Draw, Place, Lose}
 use Rattle.ist_core.specs.RowLayout.{anchor}
-use Rattle.ist_core.specs.References.{Ref, Empty, Unset, LeafAt, InnerAt, ChangeAt, RebuildAt, ref_of, word_of, unset_word}
-use Rattle.ist_core.specs.Statuses.{open_word, marked_word, undecided, decided_yes, decided_no}
-use Rattle.ist_core.specs.Pieces.{Pieces, Piece, Inner, Change, with_decision, changed_at}
+use Rattle.ist_core.specs.References.{ChangeAt, ref_of, word_of, unset_word}
+use Rattle.ist_core.specs.Statuses.{open_word, decided_yes, decided_no}
+use Rattle.ist_core.specs.Pieces.{Piece, Inner, Change, with_decision, changed_at}
 use Rattle.ist_core.specs.Snapshots.{Snapshot, HoldsRow}
 use Rattle.ist_core.specs.StartLayout.{start}
-use Rattle.ist_core.specs.After.{after, decision_word, side_of}
-use Rattle.ist_core.specs.Logs.{Log, state, Happened, Okays, Passes}
-use Rattle.ist_core.specs.Slots.{SlotHolds, IsOpen, anchor_is, row_is, in_row}
+use Rattle.ist_core.specs.After.{side_of}
+use Rattle.ist_core.specs.Logs.{Log, state, Happened, Okays}
+use Rattle.ist_core.specs.Slots.{SlotHolds, IsOpen, anchor_is, row_is}
 use Rattle.ist_core.specs.Installing.{CanInstall}
 use Rattle.ist_core.specs.Deciding.{CanOkay, CanDecide, CanResolve}
 use Rattle.ist_core.specs.Building.{CanPlace}
 use Rattle.ist_core.specs.Enabled.{Enabled}
 use Rattle.ist_core.specs.Lawful.{EachEnabled, CanOpen, state_of}
-use Rattle.ist_core.specs.Growing.{AllGrow, StatusGoesOn, status_stays, is_marked, is_finished, is_closed}
+use Rattle.ist_core.specs.Growing.{StatusGoesOn, status_stays, is_marked, is_finished, is_closed}
 use Rattle.ist_core.specs.Freezing.{HasVainChange, KeepsWord, holds_it, holds_change, IsClosedOver}
 use Rattle.ist_core.proofs.RowLemmas.{changed_at-same, changed_at-other}
 use Rattle.ist_core.proofs.MoveLemmas.{IsSound}
@@ -32,11 +31,11 @@ use Rattle.ist_core.proofs.GrowingLemmas.{inner_there, change_there}
 use Rattle.ist_core.proofs.StepLemmas.{grow_step, holds_installed}
 use Rattle.ist_core.proofs.PlaceLemmas.{anchor_free, no_piece}
 use Rattle.ist_core.proofs.RoomLemmas.{published_good, ref_of-change}
-use Rattle.ist_core.proofs.SlotLemmas.{slot_once, same_inner, no_row}
-use Rattle.ist_core.proofs.NamingLemmas.{SideNames, SlotNames, WordsName, slot_names}
+use Rattle.ist_core.proofs.SlotLemmas.{same_inner, no_row}
+use Rattle.ist_core.proofs.NamingLemmas.{SlotNames, slot_names}
 use Rattle.ist_core.proofs.InstallNamingLemmas.{from_plain}
 use Rattle.ist_core.proofs.OrderLemmas.{names}
-use Rattle.ist_core.proofs.SlotStepLemmas.{WritesSlot, install_stands, install_writes, resolve_writes, place_writes, WritesNoSlot, slot_stays, IsNoDecide, change_stays}
+use Rattle.ist_core.proofs.SlotStepLemmas.{install_stands, install_writes, resolve_writes, place_writes, WritesNoSlot, slot_stays, IsNoDecide, change_stays}
 
 -- ---- words and statuses
 
@@ -89,7 +88,7 @@ keeps_quiet : (first : Snapshot) (log : Log) (event : Event) → Enabled first l
 keeps_quiet first log event h s none still unseen node i word (holds_it k) = holds_it (slot_stays first log event h s none node i word k)
 keeps_quiet first log event h s none still unseen node i word (holds_change v) =
     vain_on (state first log) (state first (event ∷ log)) log event node i word v
-      (change_stays first log event h s still v.base v.change v.published) (slot_stays first log event h s none node i (word_of (ChangeAt v.base)) v.in_slot) (unseen v.base)
+    (change_stays first log event h s still v.base v.change v.published) (slot_stays first log event h s none node i (word_of (ChangeAt v.base)) v.in_slot) (unseen v.base)
 
 -- a change with an Okay is published
 okay_published : (first : Snapshot) (log : Log) (base : ℕ) → IsSound first → EachEnabled first log → Happened (Okays base) log → (r : ChangeRow) × ((state first log).pieces base ≡ Some (Change r))
@@ -143,45 +142,45 @@ module _ (pairs : List Pair) (words : ℕ) (opens : CanOpen pairs words) (log : 
       let none = rows_sound.unpublished record { caller = caller; base = base; size = 9 } held in
       let zero = h.unset in
       ⊎_elim
-        (λ w. holds_change record {
-          base = base;
-          change = h.change;
-          published = install_stands (start pairs words) log caller base rows h;
-          in_slot = subst (λ j. SlotHolds u node j (word_of (ChangeAt base))) (sym w.2) (subst (λ n. SlotHolds u n h.change.index (word_of (ChangeAt base))) (sym w.1) writes.now);
-          from = sym w.0;
-          not_yes = λ e. omega arith;
-          unseen = λ k. ⊎_elim (λ now. now)
-              (λ before. let it = okay_published (start pairs words) log base (sound_start pairs words) enabled before in no_piece ((state_of pairs words log).pieces base) (Change it.0) none it.1) k;
-        })
-        (λ stays. holds_it stays)
-        (writes.others node i word slot)
+      (λ w. holds_change record {
+        base = base;
+        change = h.change;
+        published = install_stands (start pairs words) log caller base rows h;
+        in_slot = subst (λ j. SlotHolds u node j (word_of (ChangeAt base))) (sym w.2) (subst (λ n. SlotHolds u n h.change.index (word_of (ChangeAt base))) (sym w.1) writes.now);
+        from = sym w.0;
+        not_yes = λ e. omega arith;
+        unseen = λ k. ⊎_elim (λ now. now)
+            (λ before. let it = okay_published (start pairs words) log base (sound_start pairs words) enabled before in no_piece ((state_of pairs words log).pieces base) (Change it.0) none it.1) k;
+      })
+      (λ stays. holds_it stays)
+      (writes.others node i word slot)
   keeps_install caller base rows h node i word (holds_change v) =
       let writes = install_writes (start pairs words) log caller base rows h rows_sound free_there in
       ⊎_elim
-        (λ w. absurd (from_plain (start pairs words) log h.change h.fresh h.fits v.base (ap ref_of (sym w.0) ∙ change_read v.base v.change v.published)))
-        (λ stays. vain_stays (Install caller base rows) h tt node i word v (λ n. n) stays)
-        (writes.others node i (word_of (ChangeAt v.base)) v.in_slot)
+      (λ w. absurd (from_plain (start pairs words) log h.change h.fresh h.fits v.base (ap ref_of (sym w.0) ∙ change_read v.base v.change v.published)))
+      (λ stays. vain_stays (Install caller base rows) h tt node i word v (λ n. n) stays)
+      (writes.others node i (word_of (ChangeAt v.base)) v.in_slot)
 
   keeps_resolve : (caller base : ℕ) → CanResolve (state_of pairs words log) caller base → (node i word : ℕ) → ((change : ℕ) → ref_of word ≢ Some (ChangeAt change))
       → Keeping (state_of pairs words log) log (Resolve caller base) (state_of pairs words (Resolve caller base ∷ log)) node i word
   keeps_resolve caller base h node i word plain (holds_it slot) =
       let writes = resolve_writes (state_of pairs words log) caller base h free_there in
       ⊎_elim
-        (λ w. absurd (plain base (ap ref_of w.0 ∙ change_read base h.change h.published)))
-        (λ stays. holds_it stays)
-        (writes.others node i word slot)
+      (λ w. absurd (plain base (ap ref_of w.0 ∙ change_read base h.change h.published)))
+      (λ stays. holds_it stays)
+      (writes.others node i word slot)
   keeps_resolve caller base h node i word plain (holds_change v) =
       let u = state_of pairs words (Resolve caller base ∷ log) in
       let writes = resolve_writes (state_of pairs words log) caller base h free_there in
       ⊎_elim
-        (λ w.
-          let one = same_change_word v.base base w.0 in
-          let row = same_change ((state_of pairs words log).pieces base) v.change h.change (subst (λ b. (state_of pairs words log).pieces b ≡ Some (Change v.change)) one v.published) h.published in
-          let side = ap side_of (sym row) ∙ side_not_yes v.change v.not_yes ∙ v.from in
-          holds_it (subst (λ x. SlotHolds u node i x) side
-            (subst (λ j. SlotHolds u node j (side_of h.change)) (sym w.2) (subst (λ n. SlotHolds u n h.change.index (side_of h.change)) (sym w.1) writes.now))))
-        (λ stays. vain_stays (Resolve caller base) h tt node i word v (λ n. n) stays)
-        (writes.others node i (word_of (ChangeAt v.base)) v.in_slot)
+      (λ w.
+      let one = same_change_word v.base base w.0 in
+      let row = same_change ((state_of pairs words log).pieces base) v.change h.change (subst (λ b. (state_of pairs words log).pieces b ≡ Some (Change v.change)) one v.published) h.published in
+      let side = ap side_of (sym row) ∙ side_not_yes v.change v.not_yes ∙ v.from in
+      holds_it (subst (λ x. SlotHolds u node i x) side
+      (subst (λ j. SlotHolds u node j (side_of h.change)) (sym w.2) (subst (λ n. SlotHolds u n h.change.index (side_of h.change)) (sym w.1) writes.now))))
+      (λ stays. vain_stays (Resolve caller base) h tt node i word v (λ n. n) stays)
+      (writes.others node i (word_of (ChangeAt v.base)) v.in_slot)
 
   keeps_place : (caller rebuild j new : ℕ) (rows : List Row) → CanPlace (state_of pairs words log) caller rebuild j new rows → (node i word : ℕ) → word ≢ unset_word
       → Keeping (state_of pairs words log) log (Place caller rebuild j new rows) (state_of pairs words (Place caller rebuild j new rows ∷ log)) node i word
@@ -191,9 +190,9 @@ module _ (pairs : List Pair) (words : ℕ) (opens : CanOpen pairs words) (log : 
   keeps_place caller rebuild j new rows h node i word set (holds_change v) =
       let writes = place_writes (state_of pairs words log) caller rebuild j new rows h rows_sound free_there in
       ⊎_elim
-        (λ w. absurd (let seven : v.base * 8 + 3 ≡ 7 = w.0 in omega arith))
-        (λ stays. vain_stays (Place caller rebuild j new rows) h tt node i word v (λ n. n) stays)
-        (writes.others node i (word_of (ChangeAt v.base)) v.in_slot)
+      (λ w. absurd (let seven : v.base * 8 + 3 ≡ 7 = w.0 in omega arith))
+      (λ stays. vain_stays (Place caller rebuild j new rows) h tt node i word v (λ n. n) stays)
+      (writes.others node i (word_of (ChangeAt v.base)) v.in_slot)
 
   keeps_decide : (caller base : ℕ) (said : Bool) → CanDecide (state_of pairs words log) log caller base said → (node i word : ℕ)
       → Keeping (state_of pairs words log) log (Decide caller base said) (state_of pairs words (Decide caller base said ∷ log)) node i word
@@ -202,27 +201,27 @@ module _ (pairs : List Pair) (words : ℕ) (opens : CanOpen pairs words) (log : 
       let t = state_of pairs words log in
       let slot = slot_stays (start pairs words) log (Decide caller base true) h rows_sound tt node i (word_of (ChangeAt v.base)) v.in_slot in
       ⊎_elim
-        (λ e. absurd (v.unseen (subst (λ b. Happened (Okays b) log) (sym e.1) h.outcome)))
-        (λ e. vain_on t (state_of pairs words (Decide caller base true ∷ log)) log (Decide caller base true) node i word v
-          (changed_at-other t.pieces base v.base (with_decision decided_yes) e.1 ∙ v.published) slot (λ n. n))
-        (eqb_tells v.base base)
+      (λ e. absurd (v.unseen (subst (λ b. Happened (Okays b) log) (sym e.1) h.outcome)))
+      (λ e. vain_on t (state_of pairs words (Decide caller base true ∷ log)) log (Decide caller base true) node i word v
+      (changed_at-other t.pieces base v.base (with_decision decided_yes) e.1 ∙ v.published) slot (λ n. n))
+      (eqb_tells v.base base)
   keeps_decide caller base false h node i word (holds_change v) =
       let t = state_of pairs words log in
       let slot = slot_stays (start pairs words) log (Decide caller base false) h rows_sound tt node i (word_of (ChangeAt v.base)) v.in_slot in
       ⊎_elim
-        (λ e. holds_change record {
-          base = v.base;
-          change = record (v.change) { decision = decided_no };
-          published = subst (λ b. changed_at t.pieces base (with_decision decided_no) b ≡ Some (Change record (v.change) { decision = decided_no })) (sym e.1)
-              (changed_at-same t.pieces base (with_decision decided_no) ∙ ap (option_map (with_decision decided_no)) (subst (λ b. t.pieces b ≡ Some (Change v.change)) e.1 v.published));
-          in_slot = slot;
-          from = v.from;
-          not_yes = λ f. omega arith;
-          unseen = λ k. ⊎_elim (λ now. now) (λ before. v.unseen before) k;
-        })
-        (λ e. vain_on t (state_of pairs words (Decide caller base false ∷ log)) log (Decide caller base false) node i word v
-          (changed_at-other t.pieces base v.base (with_decision decided_no) e.1 ∙ v.published) slot (λ n. n))
-        (eqb_tells v.base base)
+      (λ e. holds_change record {
+        base = v.base;
+        change = record (v.change) { decision = decided_no };
+        published = subst (λ b. changed_at t.pieces base (with_decision decided_no) b ≡ Some (Change record (v.change) { decision = decided_no })) (sym e.1)
+            (changed_at-same t.pieces base (with_decision decided_no) ∙ ap (option_map (with_decision decided_no)) (subst (λ b. t.pieces b ≡ Some (Change v.change)) e.1 v.published));
+        in_slot = slot;
+        from = v.from;
+        not_yes = λ f. omega arith;
+        unseen = λ k. ⊎_elim (λ now. now) (λ before. v.unseen before) k;
+      })
+      (λ e. vain_on t (state_of pairs words (Decide caller base false ∷ log)) log (Decide caller base false) node i word v
+      (changed_at-other t.pieces base v.base (with_decision decided_no) e.1 ∙ v.published) slot (λ n. n))
+      (eqb_tells v.base base)
 
   -- the change that stands in a slot is one of this slot, so that its node isn't open
   keeps_okay : (caller base : ℕ) → CanOkay (state_of pairs words log) caller base → (node i word : ℕ) (r : InnerRow) → (state_of pairs words log).pieces node ≡ Some (Inner r) → r.status ≢ open_word
@@ -232,9 +231,9 @@ module _ (pairs : List Pair) (words : ℕ) (opens : CanOpen pairs words) (log : 
       let t = state_of pairs words log in
       let here = subst (λ o. SlotNames t.pieces node i o) (change_read v.base v.change v.published) (slot_names t node i (word_of (ChangeAt v.base)) (names pairs words opens log enabled) v.in_slot) in
       vain_on t t log (Okay caller base) node i word v v.published v.in_slot
-        (λ is.
-          let row = same_change (t.pieces v.base) h.change here.row (subst (λ b. t.pieces b ≡ Some (Change h.change)) is h.pending.published) here.published in
-          not_open t node r free_there e closed (subst (λ n. IsOpen t n) (ap (λ c. c.node) row ∙ here.node_is) h.node_open))
+      (λ is.
+      let row = same_change (t.pieces v.base) h.change here.row (subst (λ b. t.pieces b ≡ Some (Change h.change)) is h.pending.published) here.published in
+      not_open t node r free_there e closed (subst (λ n. IsOpen t n) (ap (λ c. c.node) row ∙ here.node_is) h.node_open))
 
   -- an event keeps the word of a closed slot, which is neither a change nor Unset
   pub closed_step : (event : Event) → Enabled (start pairs words) log event → (node i word : ℕ) → word ≢ unset_word → ((change : ℕ) → ref_of word ≢ Some (ChangeAt change))

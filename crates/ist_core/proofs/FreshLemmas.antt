@@ -1,14 +1,13 @@
 -- Which rows an Install publishes beside its change's, and where they stand. Serves each law that speaks of rows.
-use Rattle.std.proofs.Common.{◌≡◌, ◌≢◌, ℕ, ◌⊎◌, ◌==◌, nat_lt, true, false, if◌then◌else◌, List, [], ◌∷◌, length, Option, Some, None, refl, sym, ap, ◌∙◌, subst, inl, inr, ⊎_elim, arith}
+use Rattle.std.proofs.Common.{◌≡◌, ◌≢◌, ℕ, ◌⊎◌, ◌==◌, nat_lt, true, false, if◌then◌else◌, List, ◌∷◌, length, Option, Some, refl, sym, ap, ◌∙◌, subst, inl, inr, ⊎_elim, arith}
 use Rattle.ist_core.specs.declared.lists.Row.{Row}
-use Rattle.ist_core.specs.declared.lists.HeldRow.{HeldRow}
 use Rattle.ist_core.specs.declared.states.ChangeRow.{ChangeRow}
 use Rattle.ist_core.specs.Statuses.{start_kind}
-use Rattle.ist_core.specs.Pieces.{Pieces, Piece, Leaf, Inner, Change, Rebuild, size_of, words_of, row_at, leaf_of, inner_of, rebuild_of, with_row}
+use Rattle.ist_core.specs.Pieces.{Pieces, Piece, Change, words_of, row_at, leaf_of, inner_of, rebuild_of, with_row}
 use Rattle.ist_core.specs.Snapshots.{Snapshot, HoldsRow, HoldsRows}
 use Rattle.ist_core.specs.Logs.{Log, state}
 use Rattle.ist_core.specs.After.{with_fresh}
-use Rattle.ist_core.specs.Installing.{new_leaf, new_rebuild, pair_row, pair_over, PutsLeaf, PutsPair, Starts, FitsKind, a_put, a_pair, a_remove, a_start, a_finish}
+use Rattle.ist_core.specs.Installing.{new_leaf, new_rebuild, pair_row, pair_over, FitsKind, a_put, a_pair, a_remove, a_start, a_finish}
 use Rattle.ist_core.proofs.RowLemmas.{with_row-same, with_row-some, with_row-other}
 use Rattle.ist_core.proofs.MoveLemmas.{IsSound}
 use Rattle.ist_core.proofs.InstallLemmas.{inner_of-pair_row, with_installed}
@@ -44,10 +43,10 @@ fresh_from ps first log change fresh (a_pair h) base p e =
     let row = pair_row change.key h.leaf h.other_key h.other in
     let leafy = with_row ps h.leaf (Some (new_leaf change)) in
     ⊎_elim
-      (λ w. inl (inl w))
-      (λ w. ⊎_elim (λ v. inl (inr v)) (λ v. inr v) (one_row ps h.leaf base (Some (new_leaf change)) (new_leaf change) p refl w))
-      (one_row leafy h.pair base (inner_of (words_of row)) row p (inner_of-pair_row change.key h.leaf h.other_key h.other)
-        (subst (λ rows. with_fresh ps change rows base ≡ Some p) h.fresh_are e))
+    (λ w. inl (inl w))
+    (λ w. ⊎_elim (λ v. inl (inr v)) (λ v. inr v) (one_row ps h.leaf base (Some (new_leaf change)) (new_leaf change) p refl w))
+    (one_row leafy h.pair base (inner_of (words_of row)) row p (inner_of-pair_row change.key h.leaf h.other_key h.other)
+    (subst (λ rows. with_fresh ps change rows base ≡ Some p) h.fresh_are e))
 fresh_from ps first log change fresh (a_remove h) base p e = inr (subst (λ rows. with_fresh ps change rows base ≡ Some p) h.fresh_are e)
 fresh_from ps first log change fresh (a_start h) base p e =
     let row = new_rebuild change h.target in
@@ -82,16 +81,16 @@ module _ (first : Snapshot) (log : Log) (caller at : ℕ) (change : ChangeRow) (
       let read : read_of change.kind (words_of (new_leaf change)) ≡ Some (new_leaf change) = ap (λ k. read_of k (words_of (new_leaf change))) h.kind in
       let out = fresh_apart 2 h.leaf held.0 held.1.0 (λ e. omega arith) in
       with_row-other (with_fresh ps change fresh) at base (Some (Change change)) (λ e. out (sym here ∙ e))
-        ∙ subst (λ rows. with_fresh ps change rows base ≡ Some p) (sym h.fresh_are)
-            (put_stands ps h.leaf base (read_of change.kind (words_of (new_leaf change))) (new_leaf change) p read here is)
+      ∙ subst (λ rows. with_fresh ps change rows base ≡ Some p) (sym h.fresh_are)
+      (put_stands ps h.leaf base (read_of change.kind (words_of (new_leaf change))) (new_leaf change) p read here is)
   fresh_stands ps (a_pair h) holds base p (inl (here, is)) =
       let row = pair_row change.key h.leaf h.other_key h.other in
       let held = subst (λ rows. HoldsRows (state first log) caller (row_at at (Change change) ∷ rows)) h.fresh_are holds in
       let size = pair_size change.key h.leaf h.other_key h.other in
       let out = fresh_apart (length (words_of row)) h.pair held.0 held.1.0 (λ e. let nine : 7 ≡ 9 = sym size ∙ e in absurd (omega arith)) in
       with_row-other (with_fresh ps change fresh) at base (Some (Change change)) (λ e. out (sym here ∙ e))
-        ∙ subst (λ rows. with_fresh ps change rows base ≡ Some p) (sym h.fresh_are)
-            (put_stands (with_row ps h.leaf (Some (new_leaf change))) h.pair base (inner_of (words_of row)) row p (inner_of-pair_row change.key h.leaf h.other_key h.other) here is)
+      ∙ subst (λ rows. with_fresh ps change rows base ≡ Some p) (sym h.fresh_are)
+      (put_stands (with_row ps h.leaf (Some (new_leaf change))) h.pair base (inner_of (words_of row)) row p (inner_of-pair_row change.key h.leaf h.other_key h.other) here is)
   fresh_stands ps (a_pair h) holds base p (inr (here, is)) =
       let row = pair_row change.key h.leaf h.other_key h.other in
       let held = subst (λ rows. HoldsRows (state first log) caller (row_at at (Change change) ∷ rows)) h.fresh_are holds in
@@ -99,9 +98,9 @@ module _ (first : Snapshot) (log : Log) (caller at : ℕ) (change : ChangeRow) (
       let out = fresh_apart 2 h.leaf held.0 held.1.1.0 (λ e. omega arith) in
       let beside = sizes_apart (state first log) caller h.leaf h.pair 2 (length (words_of row)) sound held.1.1.0 held.1.0 (λ e. let seven : 2 ≡ 7 = e ∙ size in absurd (omega arith)) in
       with_row-other (with_fresh ps change fresh) at base (Some (Change change)) (λ e. out (sym here ∙ e))
-        ∙ subst (λ rows. with_fresh ps change rows base ≡ Some p) (sym h.fresh_are)
-            (with_row-other (with_row ps h.leaf (Some (new_leaf change))) h.pair base (inner_of (words_of row)) (λ e. beside (sym here ∙ e))
-              ∙ put_stands ps h.leaf base (Some (new_leaf change)) (new_leaf change) p refl here is)
+      ∙ subst (λ rows. with_fresh ps change rows base ≡ Some p) (sym h.fresh_are)
+      (with_row-other (with_row ps h.leaf (Some (new_leaf change))) h.pair base (inner_of (words_of row)) (λ e. beside (sym here ∙ e))
+      ∙ put_stands ps h.leaf base (Some (new_leaf change)) (new_leaf change) p refl here is)
   fresh_stands ps (a_remove h) holds base p f = absurd f
   fresh_stands ps (a_start h) holds base p (here, is) =
       let row = new_rebuild change h.target in
@@ -109,6 +108,6 @@ module _ (first : Snapshot) (log : Log) (caller at : ℕ) (change : ChangeRow) (
       let read : read_of change.kind (words_of row) ≡ Some row = ap (λ k. read_of k (words_of row)) h.kind in
       let out = fresh_apart 5 h.rebuild held.0 held.1.0 (λ e. omega arith) in
       with_row-other (with_fresh ps change fresh) at base (Some (Change change)) (λ e. out (sym here ∙ e))
-        ∙ subst (λ rows. with_fresh ps change rows base ≡ Some p) (sym h.fresh_are)
-            (put_stands ps h.rebuild base (read_of change.kind (words_of row)) row p read here is)
+      ∙ subst (λ rows. with_fresh ps change rows base ≡ Some p) (sym h.fresh_are)
+      (put_stands ps h.rebuild base (read_of change.kind (words_of row)) row p read here is)
   fresh_stands ps (a_finish h) holds base p f = absurd f

@@ -1,5 +1,5 @@
 -- A slot that was passed reads as its word from then on. Serves `laws.frozen_slots_stay`.
-use Rattle.std.proofs.Common.{◌≡◌, ◌≢◌, ℕ, ◌⊎◌, List, [], ◌∷◌, Option, Some, None, refl, sym, ap, ◌∙◌, subst, inl, inr, ⊎_elim, arith}
+use Rattle.std.proofs.Common.{◌≡◌, ◌≢◌, ℕ, List, [], ◌∷◌, Option, Some, None, refl, sym, ap, ◌∙◌, subst, inl, inr, arith}
 use Rattle.ist_core.specs.declared.pairs.Pair.{Pair}
 use Rattle.ist_core.specs.declared.events.Event.{Event}
 use Rattle.ist_core.specs.declared.events.Event.TheVariants.{Enter, Reserve, Install, Okay, Decide, Resolve, Count, Mark, Pass, Finish, Root, Draw, Place, Lose}
@@ -12,7 +12,7 @@ use Rattle.ist_core.specs.Slots.{SlotHolds, in_row, change_reads, past_change, p
 use Rattle.ist_core.specs.Enabled.{Enabled}
 use Rattle.ist_core.specs.Marking.{CanPass}
 use Rattle.ist_core.specs.Lawful.{EachEnabled, CanOpen, state_of}
-use Rattle.ist_core.specs.Freezing.{HasVainChange, KeepsWord, holds_it, holds_change, IsClosedOver}
+use Rattle.ist_core.specs.Freezing.{KeepsWord, holds_it, holds_change, IsClosedOver}
 use Rattle.ist_core.proofs.PlaceLemmas.{anchor_free}
 use Rattle.ist_core.proofs.SlotLemmas.{slot_once}
 use Rattle.ist_core.proofs.FreezingLemmas.{closed_step, change_read, side_not_yes}
@@ -135,6 +135,6 @@ module _ (pairs : List Pair) (words : ℕ) (opens : CanOpen pairs words) where
           let ps = (state_of pairs words log).pieces in
           let same = slot_once (state_of pairs words log) node i w (word_of (ChangeAt x.base)) (anchor_free pairs words log h) slot x.in_slot in
           ap (logical ps) same
-            ∙ ap (λ o. past_rebuild ps (past_change ps o)) (change_read pairs words opens log h x.base x.change x.published)
-            ∙ ap (λ o. past_rebuild ps (change_reads o)) x.published
-            ∙ ap (λ y. past_rebuild ps (ref_of y)) (side_not_yes x.change x.not_yes ∙ x.from)
+          ∙ ap (λ o. past_rebuild ps (past_change ps o)) (change_read pairs words opens log h x.base x.change x.published)
+          ∙ ap (λ o. past_rebuild ps (change_reads o)) x.published
+          ∙ ap (λ y. past_rebuild ps (ref_of y)) (side_not_yes x.change x.not_yes ∙ x.from)

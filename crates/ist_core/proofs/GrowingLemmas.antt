@@ -1,5 +1,5 @@
 -- What each write makes of a row. Serves `laws.rows_stay`.
-use Rattle.std.proofs.Common.{◌≡◌, ◌≢◌, ℕ, ◌+◌, ◌≤◌, ◌⊎◌, ◌==◌, Bool, true, false, if◌then◌else◌, Option, Some, None, option_map, length, slice_set, refl, sym, ap, ◌∙◌, subst, inl, inr, arith, le_refl}
+use Rattle.std.proofs.Common.{◌≡◌, ℕ, ◌==◌, Bool, true, false, if◌then◌else◌, Some, option_map, refl, sym, ap, ◌∙◌, subst, arith, le_refl}
 use Rattle.std.proofs.lemmas.List.{length-set}
 use Rattle.std.proofs.lemmas.Bool.Decides.{nat_tests}
 use Rattle.ist_core.specs.declared.states.LeafRow.{LeafRow}
@@ -7,7 +7,7 @@ use Rattle.ist_core.specs.declared.states.InnerRow.{InnerRow}
 use Rattle.ist_core.specs.declared.states.ChangeRow.{ChangeRow}
 use Rattle.ist_core.specs.declared.states.RebuildRow.{RebuildRow}
 use Rattle.ist_core.specs.References.{unset_word}
-use Rattle.ist_core.specs.Statuses.{open_word, marked_word, finished_word, undecided}
+use Rattle.ist_core.specs.Statuses.{undecided}
 use Rattle.ist_core.specs.Pieces.{Pieces, Piece, Leaf, Inner, Change, Rebuild, changed_at, with_slot, with_status, counted, with_decision, with_root, drawn}
 use Rattle.ist_core.specs.Growing.{StatusGoesOn, status_stays, is_marked, is_finished, is_closed, InnerGrows, ChangeGrows, RebuildGrows, Grows, leaf_stays, inner_grows, change_grows, rebuild_grows, AllGrow}
 

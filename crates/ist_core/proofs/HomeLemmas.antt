@@ -49,14 +49,14 @@ mentioned_here t node i child o (inr h) = at h.1 (o.rows h.0 h.1 h.2) h.3
     at (Inner r) names says = let it : SlotNames t.pieces h.0 i (Some (InnerAt child)) = subst (λ ref. SlotNames t.pieces h.0 i ref) says.3 (names i says.1 says.2) in it.1
     at (Change r) names says =
         ⊎_elim
-          (λ e. let it : SideNames t.pieces r.node r.index (Some (InnerAt child)) = subst (λ ref. SideNames t.pieces r.node r.index ref) e names.0 in it.1)
-          (λ e. let it : SideNames t.pieces r.node r.index (Some (InnerAt child)) = subst (λ ref. SideNames t.pieces r.node r.index ref) e names.1 in it.1)
-          says.2
+        (λ e. let it : SideNames t.pieces r.node r.index (Some (InnerAt child)) = subst (λ ref. SideNames t.pieces r.node r.index ref) e names.0 in it.1)
+        (λ e. let it : SideNames t.pieces r.node r.index (Some (InnerAt child)) = subst (λ ref. SideNames t.pieces r.node r.index ref) e names.1 in it.1)
+        says.2
     at (Rebuild r) names says =
         ⊎_elim
-          (λ e. let same : r.target ≡ child = cc in subst (λ b. InnerHere t.pieces b) same names.1)
-          (λ e. let it : RootNames t.pieces r.target (Some (InnerAt child)) = subst (λ ref. RootNames t.pieces r.target ref) e names.2 in it.1)
-          says.2
+        (λ e. let same : r.target ≡ child = cc in subst (λ b. InnerHere t.pieces b) same names.1)
+        (λ e. let it : RootNames t.pieces r.target (Some (InnerAt child)) = subst (λ ref. RootNames t.pieces r.target ref) e names.2 in it.1)
+        says.2
 
 -- ---- what an event names
 
@@ -97,10 +97,10 @@ came-changed_at t New ps at f all keeps base q e =
     let it = changed_at-some ps at base f q e in
     let old = all base it.0 it.1 in
     ⊎_elim
-      (λ same. subst (λ x. SaysCame t New base x) (sym same) old)
-      (λ new. subst (λ x. SaysCame t New base x) (sym new.1)
-        (subst (λ b. SaysCame t New b (f it.0)) (sym new.0) (keeps it.0 (subst (λ b. ps b ≡ Some it.0) new.0 it.1) (subst (λ b. SaysCame t New b it.0) new.0 old))))
-      it.2
+    (λ same. subst (λ x. SaysCame t New base x) (sym same) old)
+    (λ new. subst (λ x. SaysCame t New base x) (sym new.1)
+    (subst (λ b. SaysCame t New b (f it.0)) (sym new.0) (keeps it.0 (subst (λ b. ps b ≡ Some it.0) new.0 it.1) (subst (λ b. SaysCame t New b it.0) new.0 old))))
+    it.2
 
 -- ---- writes
 
@@ -108,9 +108,9 @@ pub came-with_slot : (t : Snapshot) (New : ℕ → ℕ → ℕ → Type 0) (node
 unfolding SaysCame WordCame
 came-with_slot t New node i word (Inner r) came old n j child says =
     ⊎_elim
-      (λ w. subst (λ x. Came t New x j child) (sym says.0) (subst (λ x. Came t New node x child) (sym w.0) (came child (ap ref_of (sym w.1) ∙ says.3))))
-      (λ w. old n j child (says.0, says.1, w, says.3))
-      (get-set_some r.slots i j word says.1 says.2)
+    (λ w. subst (λ x. Came t New x j child) (sym says.0) (subst (λ x. Came t New node x child) (sym w.0) (came child (ap ref_of (sym w.1) ∙ says.3))))
+    (λ w. old n j child (says.0, says.1, w, says.3))
+    (get-set_some r.slots i j word says.1 says.2)
 came-with_slot t New node i word (Leaf r) came old n j child says = old n j child says
 came-with_slot t New node i word (Change r) came old n j child says = old n j child says
 came-with_slot t New node i word (Rebuild r) came old n j child says = old n j child says
@@ -120,9 +120,9 @@ pub came-with_root : (t : Snapshot) (New : ℕ → ℕ → ℕ → Type 0) (base
 unfolding SaysCame WordCame
 came-with_root t New base word r came old node i child says =
     ⊎_elim
-      (λ e. old node i child (says.0, says.1, inl e))
-      (λ e. subst (λ n. Came t New n i child) (sym says.0) (subst (λ j. Came t New r.parent j child) (sym says.1) (came child e)))
-      says.2
+    (λ e. old node i child (says.0, says.1, inl e))
+    (λ e. subst (λ n. Came t New n i child) (sym says.0) (subst (λ j. Came t New r.parent j child) (sym says.1) (came child e)))
+    says.2
 
 pub came-with_status : (t : Snapshot) (New : ℕ → ℕ → ℕ → Type 0) (base status : ℕ) (p : Piece) → SaysCame t New base p → SaysCame t New base (with_status status p)
 unfolding SaysCame
@@ -189,7 +189,7 @@ anchor_came t u New node i word is zero_there came child e = at (node == anchor)
     at : (v : Bool) → (((node == anchor) ≡ true) × (node ≡ anchor)) ⊎ (((node == anchor) ≡ false) × (node ≢ anchor)) → ref_of (if node == anchor then word else t.anchor) ≡ Some (InnerAt child) → Came t New anchor 0 child
     at v (inl k) f =
         subst (λ j. Came t New anchor j child) (zero_there k.1)
-          (subst (λ n. Came t New n i child) k.1 (came child (subst (λ b. ref_of (if b then word else t.anchor) ≡ Some (InnerAt child)) k.0 f)))
+        (subst (λ n. Came t New n i child) k.1 (came child (subst (λ b. ref_of (if b then word else t.anchor) ≡ Some (InnerAt child)) k.0 f)))
     at v (inr k) f = inl (inl (refl, refl, subst (λ b. ref_of (if b then word else t.anchor) ≡ Some (InnerAt child)) k.0 f))
 
 -- where it isn't written

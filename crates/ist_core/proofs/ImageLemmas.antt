@@ -1,11 +1,10 @@
 -- A word of the table is written: what the words are the image of. Serves the image law.
-use Rattle.std.proofs.Common.{◌≡◌, ◌≢◌, ℕ, zero, suc, ◌+◌, ◌<◌, ◌≤◌, ◌⊎◌, ◌==◌, if◌then◌else◌, Bool, true, false, List, [], ◌∷◌, ◌++◌, length, get_or, slice_get, slice_set, Option, Some, None, option_map, refl, sym, ap, ◌∙◌, subst, inl, inr, ⊎_elim, arith, length-set, length-append}
+use Rattle.std.proofs.Common.{◌≡◌, ◌≢◌, ℕ, zero, suc, ◌+◌, ◌<◌, ◌≤◌, ◌⊎◌, ◌==◌, if◌then◌else◌, Bool, true, false, List, [], ◌∷◌, ◌++◌, length, get_or, slice_get, slice_set, Some, None, option_map, refl, sym, ap, ◌∙◌, subst, inl, inr, ⊎_elim, arith, length-set, length-append}
 use Rattle.std.proofs.lemmas.Bool.Decides.{nat_tests, eqb_tells}
 use Rattle.std.proofs.lemmas.Option.{slice_get-get_or}
 use Rattle.ist_core.specs.declared.states.InnerRow.{InnerRow}
 use Rattle.ist_core.specs.RowLayout.{next_place, callers_place, anchor, anchor_status_place, anchor_slot_place, first_row, slot_place}
-use Rattle.ist_core.specs.Statuses.{open_word}
-use Rattle.ist_core.specs.Pieces.{Pieces, Piece, Leaf, Inner, Change, Rebuild, words_of, size_of, changed_at, with_slot, as_inner}
+use Rattle.ist_core.specs.Pieces.{Pieces, Piece, Inner, words_of, size_of, changed_at, with_slot, as_inner}
 use Rattle.ist_core.specs.Snapshots.{Snapshot}
 use Rattle.ist_core.specs.Images.{StandsAt, IsImage}
 use Rattle.ist_core.specs.Slots.{SlotHolds, in_anchor, in_row}
@@ -64,7 +63,7 @@ stands_set words base j word p q below is h k less = at (eqb_tells k j)
         let old = has_word (words_of p) j below in
         let there = h j below ∙ old.1 in
         ap (λ n. slice_get (slice_set words (base + j) word) (base + n)) e.1 ∙ get-set_same words (base + j) word old.0 there
-          ∙ sym (ap (λ ws. slice_get ws k) is ∙ ap (λ n. slice_get (slice_set (words_of p) j word) n) e.1 ∙ get-set_same (words_of p) j word old.0 old.1)
+        ∙ sym (ap (λ ws. slice_get ws k) is ∙ ap (λ n. slice_get (slice_set (words_of p) j word) n) e.1 ∙ get-set_same (words_of p) j word old.0 old.1)
     at (inr e) =
         let long = length-set (words_of p) j word in
         let lens = ap length is in
@@ -133,10 +132,10 @@ module _ (t u : Snapshot) (words : List ℕ) (image : IsImage t words) (same_wor
       let place : place_of_slot t node i ≡ anchor_slot_place = subst (λ n. (if n == anchor then anchor_slot_place else place_in n i (as_inner (t.pieces n))) ≡ anchor_slot_place) (sym a) refl in
       let now : u.anchor ≡ word = is ∙ subst (λ n. (if n == anchor then word else t.anchor) ≡ word) (sym a) refl in
       subst (λ k. IsImage u (slice_set words k word)) (sym place)
-        (image_anchor ps word stand now
-          (λ base q k.
-            let it = changed_at-some ps node base (with_slot i word) q (subst (λ qs. qs base ≡ Some q) pieces k) in
-            ⊎_elim (λ same. it.1 ∙ ap (λ x. Some x) (sym same)) (λ new. absurd (no_piece (ps anchor) it.0 free_there (subst (λ b. ps b ≡ Some it.0) (new.0 ∙ a) it.1))) it.2))
+      (image_anchor ps word stand now
+      (λ base q k.
+      let it = changed_at-some ps node base (with_slot i word) q (subst (λ qs. qs base ≡ Some q) pieces k) in
+      ⊎_elim (λ same. it.1 ∙ ap (λ x. Some x) (sym same)) (λ new. absurd (no_piece (ps anchor) it.0 free_there (subst (λ b. ps b ≡ Some it.0) (new.0 ∙ a) it.1))) it.2))
   image_slot ps node i word old stand free free_there keeps shaped pieces is (in_row r p g) =
       let out : node ≢ anchor = λ a. no_row t.pieces node r free a p in
       let shape = shaped node r p in
@@ -147,7 +146,7 @@ module _ (t u : Snapshot) (words : List ℕ) (image : IsImage t words) (same_wor
       let lens = length-append r.keys r.slots in
       let below = get_below r.slots i old g in
       subst (λ k. IsImage u (slice_set words k word)) (sym place)
-        (image_row ps node (4 + length r.keys + i) word (Inner r) (with_slot i word) stand (is ∙ not_there_word out) there pieces (omega arith) (words_of-with_slot r i word))
+      (image_row ps node (4 + length r.keys + i) word (Inner r) (with_slot i word) stand (is ∙ not_there_word out) there pieces (omega arith) (words_of-with_slot r i word))
     where
       not_there : (k : ℕ) → node ≢ anchor → (if node == anchor then anchor_slot_place else k) ≡ k
       not_there k out = at (node == anchor) refl

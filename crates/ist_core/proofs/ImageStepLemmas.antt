@@ -1,7 +1,6 @@
 -- Each event writes one word of the image, or none. Serves `laws.one_word_is_written`.
-use Rattle.std.proofs.Common.{◌≡◌, ◌≢◌, ℕ, zero, suc, ◌+◌, ◌-◌, ◌<◌, ◌≤◌, ◌⊎◌, ◌==◌, if◌then◌else◌, Bool, true, false, List, [], ◌∷◌, ◌++◌, length, take, drop, slice_get, slice_set, Option, Some, None, option_map, refl, sym, ap, ◌∙◌, subst, inl, inr, ⊎_elim, arith, length-set}
+use Rattle.std.proofs.Common.{◌≡◌, ◌≢◌, ℕ, zero, suc, ◌+◌, ◌-◌, ◌<◌, ◌≤◌, ◌==◌, if◌then◌else◌, Bool, true, false, List, [], ◌∷◌, length, slice_get, slice_set, Option, Some, None, option_map, refl, sym, ap, ◌∙◌, subst, inl, inr, ⊎_elim, arith, length-set}
 use Rattle.std.proofs.lemmas.List.{take-append-drop}
-use Rattle.std.proofs.lemmas.Bool.Decides.{nat_tests}
 use Rattle.ist_core.specs.declared.pairs.Pair.{Pair}
 use Rattle.ist_core.specs.declared.lists.Row.{Row}
 use Rattle.ist_core.specs.declared.states.InnerRow.{InnerRow}
@@ -10,37 +9,34 @@ use Rattle.ist_core.specs.declared.states.RebuildRow.{RebuildRow}
 use Rattle.ist_core.specs.declared.events.Event.{Event}
 use Rattle.ist_core.specs.declared.events.Event.TheVariants.{Enter, Reserve, Install, Okay, Decide, Resolve, Count, Mark, Pass, Finish, Root, Draw, Place, Lose}
 use Rattle.ist_core.specs.RowLayout.{next_place, callers_place, anchor, anchor_status_place, anchor_slot_place, first_row}
-use Rattle.ist_core.specs.References.{ChangeAt, word_of, unset_word, ref_of}
+use Rattle.ist_core.specs.References.{ChangeAt, word_of, unset_word}
 use Rattle.ist_core.specs.Statuses.{marked_word, finished_word}
-use Rattle.ist_core.specs.Elements.{Among, Each}
-use Rattle.ist_core.specs.Pieces.{Pieces, Piece, Leaf, Inner, Change, Rebuild, words_of, size_of, row_at, inner_of, as_inner, as_change, as_rebuild, with_inners, changed_at, with_slot, with_status, counted, with_decision, with_root, drawn}
-use Rattle.ist_core.specs.Snapshots.{Snapshot, bases_of}
+use Rattle.ist_core.specs.Elements.{Among}
+use Rattle.ist_core.specs.Pieces.{Pieces, Piece, Inner, Change, Rebuild, words_of, size_of, row_at, inner_of, as_inner, as_change, as_rebuild, with_inners, changed_at, with_slot, with_status, counted, with_decision, with_root, drawn}
+use Rattle.ist_core.specs.Snapshots.{Snapshot}
 use Rattle.ist_core.specs.Images.{StandsAt, IsImage}
 use Rattle.ist_core.specs.StartLayout.{start}
 use Rattle.ist_core.specs.After.{after, decision_word, side_of, resolved}
 use Rattle.ist_core.specs.Logs.{Log, state}
-use Rattle.ist_core.specs.Installing.{CanInstall, new_leaf, new_rebuild, pair_row, FitsKind, a_put, a_pair, a_remove, a_start, a_finish}
+use Rattle.ist_core.specs.Installing.{CanInstall, FitsKind, a_put, a_pair, a_remove, a_start, a_finish}
 use Rattle.ist_core.specs.Deciding.{CanResolve}
 use Rattle.ist_core.specs.Building.{CanRoot, CanPlace}
-use Rattle.ist_core.specs.Enabled.{Enabled}
 use Rattle.ist_core.specs.Lawful.{EachEnabled, CanOpen, state_of}
 use Rattle.ist_core.specs.Rows.{Apart, IsWithin}
 use Rattle.ist_core.specs.ImageLaws.{Touches}
 use Rattle.ist_core.specs.Writing.{Touch, touch_of, touched, touch_of_okay, touch_of_resolve, touch_of_count, touch_of_draw, touch_of_place, touch_in_root, place_of_slot, published_by, RowsStand}
 use Rattle.ist_core.proofs.ElementLemmas.{each-among}
-use Rattle.ist_core.proofs.RowLemmas.{changed_at-some, with_inners-some}
+use Rattle.ist_core.proofs.RowLemmas.{with_inners-some}
 use Rattle.ist_core.proofs.MoveLemmas.{IsSound}
 use Rattle.ist_core.proofs.SoundLemmas.{sound}
 use Rattle.ist_core.proofs.StartLemmas.{sound_start}
-use Rattle.ist_core.proofs.SpendingLemmas.{next-state}
 use Rattle.ist_core.proofs.InstallLemmas.{with_installed}
 use Rattle.ist_core.proofs.AddingLemmas.{IsInstalled, adds_install, adds-with_inners}
 use Rattle.ist_core.proofs.StepLemmas.{rows_resolved, rows_placed, holds_installed}
-use Rattle.ist_core.proofs.PlaceLemmas.{Claimed, claimed_within, claimed_apart, placed, next_behind_fixed, anchor_free, no_piece}
-use Rattle.ist_core.proofs.RoomLemmas.{words-state}
+use Rattle.ist_core.proofs.PlaceLemmas.{claimed_within, claimed_apart, placed, next_behind_fixed, anchor_free, no_piece}
 use Rattle.ist_core.proofs.SlotLemmas.{get-set_same, get-set_other, no_row}
 use Rattle.ist_core.proofs.ShapedLemmas.{IsShapedRow, shaped}
-use Rattle.ist_core.specs.Slots.{SlotHolds, in_row}
+use Rattle.ist_core.specs.Slots.{in_row}
 use Rattle.ist_core.proofs.SlotStepLemmas.{elsewhere}
 use Rattle.ist_core.proofs.ImageLemmas.{image_row, image_slot}
 use Rattle.ist_core.proofs.ChainLemmas.{on_chain_inner}
@@ -102,7 +98,7 @@ rows_apart pairs words log h =
       within = λ base p e. claimed_within pairs words log base (size_of p) h (k.published base p e);
       apart = λ base other p q e f differ.
           ⊎_elim (λ same. absurd (differ same.0)) (λ a. a.1)
-            (claimed_apart pairs words log base (size_of p) other (size_of q) h (k.published base p e) (k.published other q f));
+          (claimed_apart pairs words log base (size_of p) other (size_of q) h (k.published base p e) (k.published other q f));
     }
 
 -- ---- the events that write no word, or a fixed one
@@ -162,13 +158,13 @@ image_count : (t : Snapshot) (caller node : ℕ) (words : List ℕ) (r : InnerRo
     → IsImage (after t (Count caller node)) (touched words (touch_of t (Count caller node)))
 image_count t caller node words r e a image =
     subst (λ x. IsImage (after t (Count caller node)) (touched words (touch_of_count node x))) (sym (ap as_inner e))
-      (image_word t (after t (Count caller node)) words node 1 (r.count + 1) (Inner r) counted a refl refl refl refl refl e (omega arith) refl image)
+    (image_word t (after t (Count caller node)) words node 1 (r.count + 1) (Inner r) counted a refl refl refl refl refl e (omega arith) refl image)
 
 image_draw : (t : Snapshot) (caller rebuild part : ℕ) (words : List ℕ) (r : RebuildRow) → t.pieces rebuild ≡ Some (Rebuild r) → RowsApart (after t (Draw caller rebuild part)) → IsImage t words
     → IsImage (after t (Draw caller rebuild part)) (touched words (touch_of t (Draw caller rebuild part)))
 image_draw t caller rebuild part words r e a image =
     subst (λ x. IsImage (after t (Draw caller rebuild part)) (touched words (touch_of_draw rebuild x))) (sym (ap as_rebuild e))
-      (image_word t (after t (Draw caller rebuild part)) words rebuild 4 (r.draw + 1) (Rebuild r) drawn a refl refl refl refl refl e (omega arith) refl image)
+    (image_word t (after t (Draw caller rebuild part)) words rebuild 4 (r.draw + 1) (Rebuild r) drawn a refl refl refl refl refl e (omega arith) refl image)
 
 -- ---- the events that write a slot, and a Root
 
@@ -192,9 +188,9 @@ image_resolve t caller base words h ready a image =
     let u = resolved t (Some h.change) in
     let b = subst RowsApart (rows_resolved t caller base h) a in
     subst (λ x. IsImage (after t (Resolve caller base)) (touched words (touch_of_resolve t base x))) (sym (ap as_change h.published))
-      (subst (λ x. IsImage x (slice_set words (place_of_slot t h.change.node h.change.index) (side_of h.change))) (sym (rows_resolved t caller base h))
-        (image_slot t u words image refl refl refl b.low_next b.within b.apart t.pieces h.change.node h.change.index (side_of h.change) (word_of (ChangeAt base))
-          image.rows ready.free ready.free (λ at p e. e) ready.shaped refl refl h.in_slot))
+    (subst (λ x. IsImage x (slice_set words (place_of_slot t h.change.node h.change.index) (side_of h.change))) (sym (rows_resolved t caller base h))
+    (image_slot t u words image refl refl refl b.low_next b.within b.apart t.pieces h.change.node h.change.index (side_of h.change) (word_of (ChangeAt base))
+    image.rows ready.free ready.free (λ at p e. e) ready.shaped refl refl h.in_slot))
 
 image_place : (t : Snapshot) (caller rebuild i word : ℕ) (rows : List Row) (words : List ℕ) (h : CanPlace t caller rebuild i word rows) → SlotsReady t → RowsApart (after t (Place caller rebuild i word rows))
     → with_inners t.pieces rows anchor ≡ None → RowsStand words rows → IsImage t words
@@ -205,10 +201,10 @@ image_place t caller rebuild i word rows words h ready a free stand image =
     let keeps = (adds-with_inners t caller rows h.held ready.sound).keeps in
     let touch = ap (λ o. touch_of_place t o i word) (ap as_rebuild h.published) ∙ ap (λ o. touch_in_root t o i word) h.root_is in
     subst (λ x. IsImage u (touched words x)) (sym touch)
-      (image_slot t u words image refl refl refl a.low_next a.within a.apart qs h.root i word unset_word
-        (inners_stand t.pieces words rows stand image.rows) ready.free free keeps ready.shaped (rows_placed t caller rebuild i word rows h)
-        (elsewhere h.root word t.anchor (λ e. no_row t.pieces h.root h.root_row ready.free e h.root_published))
-        (in_row h.root_row h.root_published h.free))
+    (image_slot t u words image refl refl refl a.low_next a.within a.apart qs h.root i word unset_word
+    (inners_stand t.pieces words rows stand image.rows) ready.free free keeps ready.shaped (rows_placed t caller rebuild i word rows h)
+    (elsewhere h.root word t.anchor (λ e. no_row t.pieces h.root h.root_row ready.free e h.root_published))
+    (in_row h.root_row h.root_published h.free))
 
 image_root : (t : Snapshot) (caller rebuild word : ℕ) (rows : List Row) (words : List ℕ) (h : CanRoot t caller rebuild word rows) → SlotsReady t → RowsApart (after t (Root caller rebuild word rows))
     → RowsStand words rows → IsImage t words → IsImage (after t (Root caller rebuild word rows)) (touched words (touch_of t (Root caller rebuild word rows)))
@@ -217,7 +213,7 @@ image_root t caller rebuild word rows words h ready a stand image =
     let qs = with_inners t.pieces rows in
     let keeps = (adds-with_inners t caller rows h.held ready.sound).keeps in
     image_row t u words image refl refl refl a.low_next a.within a.apart qs rebuild 3 word (Rebuild h.row) (with_root word)
-      (inners_stand t.pieces words rows stand image.rows) refl (keeps rebuild (Rebuild h.row) h.published) refl (omega arith) refl
+    (inners_stand t.pieces words rows stand image.rows) refl (keeps rebuild (Rebuild h.row) h.published) refl (omega arith) refl
 
 image_install : (first : Snapshot) (log : Log) (caller base : ℕ) (rows : List Row) (words : List ℕ) (h : CanInstall first log caller base rows) → SlotsReady (state first log)
     → RowsApart (after (state first log) (Install caller base rows)) → with_installed (state first log).pieces base h.change h.fresh anchor ≡ None → RowsStand words rows → IsImage (state first log) words
@@ -230,9 +226,9 @@ image_install first log caller base rows words h ready a free stand image =
     let qs = with_installed t.pieces base h.change h.fresh in
     let adds = adds_install first log caller base h.change h.fresh h.fits (holds_installed first log caller base rows h) ready.sound in
     subst (λ xs. IsImage (after t (Install caller base xs)) (touched words (touch_of t (Install caller base xs)))) (sym h.rows_are)
-      (image_slot t (after t (Install caller base all)) words image refl refl refl b.low_next b.within b.apart qs h.change.node h.change.index (word_of (ChangeAt base)) h.change.from
-        (λ at p e. ⊎_elim (λ old. image.rows at p old) (λ new. row_stands words all (row_at at p) at p there (installed_row first log base h.change h.fresh h.fits at p new) refl refl) (adds.from at p e))
-        ready.free free adds.keeps ready.shaped refl refl h.in_slot)
+    (image_slot t (after t (Install caller base all)) words image refl refl refl b.low_next b.within b.apart qs h.change.node h.change.index (word_of (ChangeAt base)) h.change.from
+    (λ at p e. ⊎_elim (λ old. image.rows at p old) (λ new. row_stands words all (row_at at p) at p there (installed_row first log base h.change h.fresh h.fits at p new) refl refl) (adds.from at p e))
+    ready.free free adds.keeps ready.shaped refl refl h.in_slot)
 
 -- ---- all events
 
@@ -285,7 +281,7 @@ module _ (pairs : List Pair) (words : ℕ) (opens : CanOpen pairs words) where
       → it.touch.left ≡ it.touch.found → state_of pairs words (event ∷ log) ≡ state_of pairs words log → IsImage (state_of pairs words (event ∷ log)) (touched ws (touch_of (state_of pairs words log) event))
   image_loaded log event h ws image it same still =
       let whole : touched ws (touch_of (state_of pairs words log) event) ≡ ws =
-          ap (touched ws) it.is ∙ ap (λ x. slice_set ws it.touch.place x) same ∙ set_same ws it.touch.place it.touch.found it.found in
+      ap (touched ws) it.is ∙ ap (λ x. slice_set ws it.touch.place x) same ∙ set_same ws it.touch.place it.touch.found it.found in
       subst (λ xs. IsImage (state_of pairs words (event ∷ log)) xs) (sym whole) (subst (λ u. IsImage u ws) (sym still) image)
 
   -- each event writes its one word, or none
@@ -295,34 +291,34 @@ module _ (pairs : List Pair) (words : ℕ) (opens : CanOpen pairs words) where
   image_step log (Reserve caller base size) h ws image stand = image_reserve (state_of pairs words log) caller base size ws h.1.base_is (rows_apart pairs words log h.0) image
   image_step log (Install caller base rows) h ws image stand =
       image_install (start pairs words) log caller base rows ws h.1 (slots_ready log h.0) (rows_apart pairs words (Install caller base rows ∷ log) h)
-        (free_published log (Install caller base rows) h (with_installed (state_of pairs words log).pieces base h.1.change h.1.fresh) h.1.change.node (with_slot h.1.change.index (word_of (ChangeAt base)))
-          (ap (λ xs. (after (state_of pairs words log) (Install caller base xs)).pieces) h.1.rows_are)) stand image
+      (free_published log (Install caller base rows) h (with_installed (state_of pairs words log).pieces base h.1.change h.1.fresh) h.1.change.node (with_slot h.1.change.index (word_of (ChangeAt base)))
+      (ap (λ xs. (after (state_of pairs words log) (Install caller base xs)).pieces) h.1.rows_are)) stand image
   image_step log (Okay caller base) h ws image stand =
       let it = touches pairs words opens log h.0 ws image (Okay caller base) h.1 tt in
       image_loaded log (Okay caller base) h ws image it
-        (left_found (touch_of (state_of pairs words log) (Okay caller base)) _ it.touch (ap (λ o. touch_of_okay (as_change o)) h.1.pending.published) it.is refl) refl
+      (left_found (touch_of (state_of pairs words log) (Okay caller base)) _ it.touch (ap (λ o. touch_of_okay (as_change o)) h.1.pending.published) it.is refl) refl
   image_step log (Decide caller base said) h ws image stand =
       image_word (state_of pairs words log) (state_of pairs words (Decide caller base said ∷ log)) ws base 0 (decision_word said) (Change h.1.change) (with_decision (decision_word said))
-        (rows_apart pairs words (Decide caller base said ∷ log) h) refl refl refl refl refl h.1.pending.published (omega arith) refl image
+      (rows_apart pairs words (Decide caller base said ∷ log) h) refl refl refl refl refl h.1.pending.published (omega arith) refl image
   image_step log (Resolve caller base) h ws image stand = image_resolve (state_of pairs words log) caller base ws h.1 (slots_ready log h.0) (rows_apart pairs words (Resolve caller base ∷ log) h) image
   image_step log (Count caller node) h ws image stand =
       let it = on_chain_inner pairs words opens log h.0 h.1.update.change.node node h.1.on_chain in
       image_count (state_of pairs words log) caller node ws it.0 it.1 (rows_apart pairs words (Count caller node ∷ log) h) image
   image_step log (Mark caller node) h ws image stand =
       image_word (state_of pairs words log) (state_of pairs words (Mark caller node ∷ log)) ws node 0 marked_word (Inner h.1.row) (with_status marked_word)
-        (rows_apart pairs words (Mark caller node ∷ log) h) refl refl refl refl refl h.1.published (omega arith) refl image
+      (rows_apart pairs words (Mark caller node ∷ log) h) refl refl refl refl refl h.1.published (omega arith) refl image
   image_step log (Pass caller node i word) h ws image stand =
       let it = touches pairs words opens log h.0 ws image (Pass caller node i word) h.1 tt in
       image_loaded log (Pass caller node i word) h ws image it
-        (left_found (touch_of (state_of pairs words log) (Pass caller node i word)) _ it.touch refl it.is refl) refl
+      (left_found (touch_of (state_of pairs words log) (Pass caller node i word)) _ it.touch refl it.is refl) refl
   image_step log (Finish caller node keys) h ws image stand =
       image_word (state_of pairs words log) (state_of pairs words (Finish caller node keys ∷ log)) ws node 0 (finished_word keys) (Inner h.1.row) (with_status (finished_word keys))
-        (rows_apart pairs words (Finish caller node keys ∷ log) h) refl refl refl refl refl h.1.published (omega arith) refl image
+      (rows_apart pairs words (Finish caller node keys ∷ log) h) refl refl refl refl refl h.1.published (omega arith) refl image
   image_step log (Root caller rebuild word rows) h ws image stand =
       image_root (state_of pairs words log) caller rebuild word rows ws h.1 (slots_ready log h.0) (rows_apart pairs words (Root caller rebuild word rows ∷ log) h) stand image
   image_step log (Draw caller rebuild part) h ws image stand =
       image_draw (state_of pairs words log) caller rebuild part ws h.1.row h.1.published (rows_apart pairs words (Draw caller rebuild part ∷ log) h) image
   image_step log (Place caller rebuild i word rows) h ws image stand =
       image_place (state_of pairs words log) caller rebuild i word rows ws h.1 (slots_ready log h.0) (rows_apart pairs words (Place caller rebuild i word rows ∷ log) h)
-        (free_published log (Place caller rebuild i word rows) h (with_inners (state_of pairs words log).pieces rows) h.1.root (with_slot i word) (rows_placed (state_of pairs words log) caller rebuild i word rows h.1)) stand image
+      (free_published log (Place caller rebuild i word rows) h (with_inners (state_of pairs words log).pieces rows) h.1.root (with_slot i word) (rows_placed (state_of pairs words log) caller rebuild i word rows h.1)) stand image
   image_step log (Lose caller bases) h ws image stand = image_same (state_of pairs words log) (state_of pairs words (Lose caller bases ∷ log)) ws refl refl refl refl refl image

@@ -1,17 +1,14 @@
 -- What the rows of an Install name. Serves the conjunct `names`.
-use Rattle.std.proofs.Common.{◌≡◌, ◌≢◌, ℕ, zero, suc, ◌<◌, ◌⊎◌, nat_lt, true, false, if◌then◌else◌, List, [], ◌∷◌, slice_get, Option, Some, None, refl, sym, ap, ◌∙◌, subst, inl, inr, ⊎_elim, arith}
-use Rattle.ist_core.specs.declared.pairs.Pair.{Pair}
+use Rattle.std.proofs.Common.{◌≡◌, ◌≢◌, ℕ, zero, suc, ◌<◌, nat_lt, true, false, if◌then◌else◌, List, ◌∷◌, Option, Some, None, refl, sym, ap, ◌∙◌, subst, inl, inr, arith}
 use Rattle.ist_core.specs.declared.lists.Row.{Row}
-use Rattle.ist_core.specs.declared.states.LeafRow.{LeafRow}
 use Rattle.ist_core.specs.declared.states.InnerRow.{InnerRow}
 use Rattle.ist_core.specs.declared.states.ChangeRow.{ChangeRow}
-use Rattle.ist_core.specs.declared.states.RebuildRow.{RebuildRow}
 use Rattle.ist_core.specs.References.{Ref, Empty, Unset, LeafAt, InnerAt, ChangeAt, RebuildAt, IsGoodBase, ref_of, word_of, unset_word}
 use Rattle.ist_core.specs.Pieces.{Pieces, Piece, Leaf, Inner, Change, Rebuild, row_at}
 use Rattle.ist_core.specs.Snapshots.{Snapshot, HoldsRows}
 use Rattle.ist_core.specs.Logs.{Log, state}
 use Rattle.ist_core.specs.Slots.{SlotHolds}
-use Rattle.ist_core.specs.Installing.{IsLeafOf, HasRoomFor, nothing, same_key, new_leaf, new_rebuild, pair_row, pair_over, FitsKind, a_put, a_pair, a_remove, a_start, a_finish}
+use Rattle.ist_core.specs.Installing.{HasRoomFor, nothing, same_key, new_leaf, new_rebuild, pair_row, pair_over, FitsKind, a_put, a_pair, a_remove, a_start, a_finish}
 use Rattle.ist_core.specs.Growing.{AllGrow}
 use Rattle.ist_core.proofs.ReferenceLemmas.{ref_of-unset, ref_of-word_of, word_of-ref_of}
 use Rattle.ist_core.proofs.MoveLemmas.{IsSound}
@@ -19,7 +16,7 @@ use Rattle.ist_core.proofs.InstallLemmas.{with_installed}
 use Rattle.ist_core.proofs.FreshLemmas.{IsFresh, fresh_stands}
 use Rattle.ist_core.proofs.AddingLemmas.{IsInstalled}
 use Rattle.ist_core.proofs.GrowingLemmas.{leaf_there}
-use Rattle.ist_core.proofs.NamingLemmas.{LeafHere, InnerHere, IsRebuildFor, SideNames, SlotNames, RootNames, RowNames, WordsName, side_grows, root_grows, inner_here_grows}
+use Rattle.ist_core.proofs.NamingLemmas.{LeafHere, SideNames, SlotNames, RootNames, RowNames, WordsName, side_grows, inner_here_grows}
 
 -- a pair row is an inner row
 pub pair_is_inner : (key base other_key other : ℕ) → (r : InnerRow) × (pair_row key base other_key other ≡ Inner r)
@@ -104,11 +101,11 @@ module _ (first : Snapshot) (log : Log) (caller at : ℕ) (change : ChangeRow) (
   to_side (a_pair h) =
       let row = pair_is_inner change.key h.leaf h.other_key h.other in
       subst (λ o. SideNames qs change.node change.index o) (sym h.to)
-        (h.above, (row.0, stands (a_pair h) h.pair (pair_row change.key h.leaf h.other_key h.other) (inl (refl, refl)) ∙ ap (λ x. Some x) row.1))
+      (h.above, (row.0, stands (a_pair h) h.pair (pair_row change.key h.leaf h.other_key h.other) (inl (refl, refl)) ∙ ap (λ x. Some x) row.1))
   to_side (a_remove h) = subst (λ o. SideNames qs change.node change.index o) (sym h.to) tt
   to_side (a_start h) =
       subst (λ o. SideNames qs change.node change.index o) (sym h.to)
-        record { row = _; published = stands (a_start h) h.rebuild (new_rebuild change h.target) (refl, refl); parent = refl; index = refl }
+      record { row = _; published = stands (a_start h) h.rebuild (new_rebuild change h.target) (refl, refl); parent = refl; index = refl }
   to_side (a_finish h) =
       let row = names.rows h.rebuild (Rebuild h.row) h.published in
       let low = row.0 in
@@ -124,13 +121,13 @@ module _ (first : Snapshot) (log : Log) (caller at : ℕ) (change : ChangeRow) (
       let leaf = stands (a_pair h) h.leaf (new_leaf change) (inr (refl, refl)) in
       let old = leaf_there (state first log).pieces qs grows h.other h.stands.row h.stands.published in
       subst (λ x. RowNames qs base x) (sym new)
-        (pair_names qs base change.key h.leaf h.other_key h.other (good h.leaf (new_leaf change) leaf) (good h.other (Leaf h.stands.row) old) (_, leaf) (_, old))
+      (pair_names qs base change.key h.leaf h.other_key h.other (good h.leaf (new_leaf change) leaf) (good h.other (Leaf h.stands.row) old) (_, leaf) (_, old))
   fresh_names (a_pair h) good base p (inr (here, new)) = subst (λ x. RowNames qs base x) (sym new) tt
   fresh_names (a_remove h) good base p f = absurd f
   fresh_names (a_start h) good base p (here, new) =
       let side = subst (λ o. SlotNames (state first log).pieces change.node change.index o) h.from slot in
       subst (λ x. RowNames qs base x) (sym new)
-        (side.0, inner_here_grows (state first log).pieces qs grows h.target side.1, subst (λ o. RootNames qs h.target o) (sym ref_of-unset) tt)
+      (side.0, inner_here_grows (state first log).pieces qs grows h.target side.1, subst (λ o. RootNames qs h.target o) (sym ref_of-unset) tt)
   fresh_names (a_finish h) good base p f = absurd f
 
   -- what all rows of the Install name
@@ -138,5 +135,5 @@ module _ (first : Snapshot) (log : Log) (caller at : ℕ) (change : ChangeRow) (
       → IsInstalled first log at change fresh fits base p → RowNames qs base p
   installed_names fits good base p (inl (here, new)) =
       subst (λ x. RowNames qs base x) (sym new)
-        (side_grows (state first log).pieces qs grows change.node change.index (ref_of change.from) (from_side fits), to_side fits)
+      (side_grows (state first log).pieces qs grows change.node change.index (ref_of change.from) (from_side fits), to_side fits)
   installed_names fits good base p (inr f) = fresh_names fits good base p f

@@ -1,12 +1,12 @@
 -- The rows of a new table lie one behind another. Serves `laws.rows_lie_apart`.
-use Rattle.std.proofs.Common.{◌≡◌, ◌≢◌, ℕ, zero, suc, ◌+◌, ◌<◌, ◌≤◌, ◌⊎◌, List, [], ◌∷◌, ◌++◌, length, take, drop, map, zip, refl, sym, ap, ◌∙◌, subst, inl, inr, ⊎_elim, arith, length-drop, length-append}
+use Rattle.std.proofs.Common.{◌≡◌, ◌≢◌, ℕ, zero, suc, ◌+◌, ◌<◌, ◌≤◌, ◌⊎◌, List, [], ◌∷◌, ◌++◌, length, take, drop, map, zip, refl, sym, ap, ◌∙◌, subst, inl, inr, arith, length-drop, length-append}
 use Rattle.std.specs.List.{sum, sum_by, flat_map, range_with_len}
 use Rattle.std.proofs.lemmas.List.{length-take-le, length-map}
 use Rattle.std.proofs.lemmas.List.Sums.{sum_by-cons}
 use Rattle.std.proofs.lemmas.List.FromFn.{length-map-range_with_len}
 use Rattle.ist_core.specs.declared.pairs.Pair.{Pair}
 use Rattle.ist_core.specs.Arithmetic.{degree, part_len, part_lens}
-use Rattle.ist_core.specs.RowLayout.{first_row, inner_words}
+use Rattle.ist_core.specs.RowLayout.{inner_words}
 use Rattle.ist_core.specs.Shapes.{ideal_words}
 use Rattle.ist_core.specs.Elements.{Among, Each}
 use Rattle.ist_core.specs.Parts.{cut, parts, first_keys}
@@ -168,7 +168,7 @@ fills_parts fuel from (n ∷ ns) xs fits each =
     let end : from + ideal_words n + sum_by ideal_words ns ≡ from + sum_by ideal_words (n ∷ ns) = omega arith in
     let more = flat_map (λ part. rows_within fuel part.0 part.1) (zip (bases_from (from + ideal_words n) ns) (cut ns (drop n xs))) in
     fills_append from (from + ideal_words n) (from + sum_by ideal_words (n ∷ ns)) (rows_within fuel from (take n xs)) more here
-      (subst (λ to. Fills (from + ideal_words n) more to) end rest)
+    (subst (λ to. Fills (from + ideal_words n) more to) end rest)
 
 -- a part is one of the lengths
 among_parts : (n x : ℕ) (js : List ℕ) → Among x (map (part_len n) js) → (j : ℕ) × (x ≡ part_len n j)
@@ -194,11 +194,11 @@ fills_rows (suc fuel) base (pair ∷ more ∷ pairs) h =
     let words = ideal_words_many n (omega arith) in
     let fits = sum-part_lens n in
     let parts_fill = fills_parts fuel from (part_lens n) all (omega arith)
-        (λ m at part i e.
-          let it = among_part_lens n m i in
-          let less = part_len-lt n it.0 (omega arith) in
-          let is = it.1 in
-          subst (λ k. Fills at (rows_within fuel at part) (at + ideal_words k)) e (fills_rows fuel at part (omega arith))) in
+    (λ m at part i e.
+    let it = among_part_lens n m i in
+    let less = part_len-lt n it.0 (omega arith) in
+    let is = it.1 in
+    subst (λ k. Fills at (rows_within fuel at part) (at + ideal_words k)) e (fills_rows fuel at part (omega arith))) in
     let begin : from ≡ base + size_of (top_row base all) = omega arith in
     let end : from + sum_by ideal_words (part_lens n) ≡ base + ideal_words n = omega arith in
     let below = flat_map (λ part. rows_within fuel part.0 part.1) (placed_parts base all) in

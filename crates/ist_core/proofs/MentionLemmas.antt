@@ -1,23 +1,21 @@
 -- What is named for a slot stays named for it, so that a child hangs in one slot ever. Serves `laws.parents_are_one`.
-use Rattle.std.proofs.Common.{◌≡◌, ◌≢◌, ℕ, ◌⊎◌, ◌==◌, if◌then◌else◌, true, false, List, [], ◌∷◌, slice_get, Option, Some, None, refl, sym, ap, ◌∙◌, subst, inl, inr, ⊎_elim}
+use Rattle.std.proofs.Common.{◌≡◌, ◌≢◌, ℕ, ◌⊎◌, ◌==◌, if◌then◌else◌, true, false, List, ◌∷◌, Option, Some, None, refl, sym, ap, ◌∙◌, subst, inl, inr, ⊎_elim}
 use Rattle.ist_core.specs.declared.pairs.Pair.{Pair}
 use Rattle.ist_core.specs.declared.states.ChangeRow.{ChangeRow}
 use Rattle.ist_core.specs.declared.events.Event.{Event}
 use Rattle.ist_core.specs.declared.events.Event.TheVariants.{Enter, Reserve, Install, Okay, Decide, Resolve, Count, Mark, Pass, Finish, Root, Draw, Place, Lose}
-use Rattle.ist_core.specs.References.{Ref, Empty, Unset, LeafAt, InnerAt, ChangeAt, RebuildAt, ref_of, word_of, unset_word}
+use Rattle.ist_core.specs.References.{Ref, Empty, Unset, LeafAt, InnerAt, ChangeAt, RebuildAt, ref_of}
 use Rattle.ist_core.specs.Statuses.{decided_yes}
-use Rattle.ist_core.specs.Pieces.{Pieces, Piece, Leaf, Inner, Change, Rebuild}
+use Rattle.ist_core.specs.Pieces.{Piece, Leaf, Inner, Change, Rebuild}
 use Rattle.ist_core.specs.Snapshots.{Snapshot}
 use Rattle.ist_core.specs.StartLayout.{start}
-use Rattle.ist_core.specs.After.{after, side_of}
-use Rattle.ist_core.specs.Logs.{Log, state, GoesOn, same_log, one_event}
-use Rattle.ist_core.specs.Slots.{SlotHolds, in_anchor, in_row, change_reads, past_change, rebuild_reads, past_rebuild, logical}
+use Rattle.ist_core.specs.After.{side_of}
+use Rattle.ist_core.specs.Logs.{Log, GoesOn, same_log, one_event}
+use Rattle.ist_core.specs.Slots.{SlotHolds, in_anchor, in_row, change_reads, past_change, rebuild_reads, past_rebuild}
 use Rattle.ist_core.specs.Links.{IsChild}
-use Rattle.ist_core.specs.Enabled.{Enabled}
 use Rattle.ist_core.specs.Growing.{AllGrow}
 use Rattle.ist_core.specs.Lawful.{EachEnabled, CanOpen, state_of}
 use Rattle.ist_core.proofs.ReferenceLemmas.{ref_of-unset}
-use Rattle.ist_core.proofs.MoveLemmas.{IsSound}
 use Rattle.ist_core.proofs.SoundLemmas.{sound}
 use Rattle.ist_core.proofs.StartLemmas.{sound_start}
 use Rattle.ist_core.proofs.GrowingLemmas.{change_there, rebuild_there}
@@ -41,7 +39,7 @@ module _ (pairs : List Pair) (words : ℕ) (opens : CanOpen pairs words) where
       → SlotHolds (state_of pairs words log) node i word → Mentions (state_of pairs words (event ∷ log)) node i ref
   still log event h none node i word ref is slot =
       slot_mentions (state_of pairs words (event ∷ log)) node i word ref
-        (slot_stays (start pairs words) log event h.1 (sound (start pairs words) log (sound_start pairs words) h.0) none node i word slot) is
+      (slot_stays (start pairs words) log event h.1 (sound (start pairs words) log (sound_start pairs words) h.0) none node i word slot) is
 
   -- a slot that names a row keeps naming it, or a change of it does, which takes it out. The reference is neither a change nor Unset
   slot_step : (log : Log) (event : Event) → EachEnabled (start pairs words) (event ∷ log) → (node i word : ℕ) (ref : Ref) → ref_of word ≡ Some ref → ((base : ℕ) → ref ≢ ChangeAt base) → ref ≢ Unset
@@ -51,24 +49,24 @@ module _ (pairs : List Pair) (words : ℕ) (opens : CanOpen pairs words) where
       let s = sound first log (sound_start pairs words) h.0 in
       let writes = install_writes first log caller base rows h.1 s (anchor_free pairs words log h.0) in
       ⊎_elim
-        (λ w. inr (base, Change h.1.change, install_stands first log caller base rows h.1, (w.1, w.2, inl (ap ref_of (sym w.0) ∙ is))))
-        (λ stays. slot_mentions (state_of pairs words (Install caller base rows ∷ log)) node i word ref stays is)
-        (writes.others node i word slot)
+      (λ w. inr (base, Change h.1.change, install_stands first log caller base rows h.1, (w.1, w.2, inl (ap ref_of (sym w.0) ∙ is))))
+      (λ stays. slot_mentions (state_of pairs words (Install caller base rows ∷ log)) node i word ref stays is)
+      (writes.others node i word slot)
   slot_step log (Resolve caller base) h node i word ref is no_change set slot =
       let writes = resolve_writes (state_of pairs words log) caller base h.1 (anchor_free pairs words log h.0) in
       ⊎_elim
-        (λ w.
-          let read = ref_of-change base (published_good pairs words opens log base (Change h.1.change) h.0 h.1.published) in
-          absurd (no_change base (clash_refs (ref_of word) ref (ChangeAt base) is (ap ref_of w.0 ∙ read))))
-        (λ stays. slot_mentions (state_of pairs words (Resolve caller base ∷ log)) node i word ref stays is)
-        (writes.others node i word slot)
+      (λ w.
+      let read = ref_of-change base (published_good pairs words opens log base (Change h.1.change) h.0 h.1.published) in
+      absurd (no_change base (clash_refs (ref_of word) ref (ChangeAt base) is (ap ref_of w.0 ∙ read))))
+      (λ stays. slot_mentions (state_of pairs words (Resolve caller base ∷ log)) node i word ref stays is)
+      (writes.others node i word slot)
   slot_step log (Place caller rebuild j new rows) h node i word ref is no_change set slot =
       let s = sound (start pairs words) log (sound_start pairs words) h.0 in
       let writes = place_writes (state_of pairs words log) caller rebuild j new rows h.1 s (anchor_free pairs words log h.0) in
       ⊎_elim
-        (λ w. absurd (set (clash_refs (ref_of word) ref Unset is (ap ref_of w.0 ∙ ref_of-unset))))
-        (λ stays. slot_mentions (state_of pairs words (Place caller rebuild j new rows ∷ log)) node i word ref stays is)
-        (writes.others node i word slot)
+      (λ w. absurd (set (clash_refs (ref_of word) ref Unset is (ap ref_of w.0 ∙ ref_of-unset))))
+      (λ stays. slot_mentions (state_of pairs words (Place caller rebuild j new rows ∷ log)) node i word ref stays is)
+      (writes.others node i word slot)
   slot_step log (Enter caller) h node i word ref is no_change set slot = still log (Enter caller) h tt node i word ref is slot
   slot_step log (Reserve caller base size) h node i word ref is no_change set slot = still log (Reserve caller base size) h tt node i word ref is slot
   slot_step log (Okay caller base) h node i word ref is no_change set slot = still log (Okay caller base) h tt node i word ref is slot
@@ -96,17 +94,31 @@ module _ (pairs : List Pair) (words : ℕ) (opens : CanOpen pairs words) where
       at (Change r) e says =
           let it = change_there (state_of pairs words log).pieces (state_of pairs words (event ∷ log)).pieces grows m.0 r e in
           let same = it.2.others in
-          inr (m.0, Change it.0, it.1,
-            (says.0 ∙ ap (λ c. c.node) (sym same), says.1 ∙ ap (λ c. c.index) (sym same),
-              ⊎_elim (λ f. inl (ap (λ c. ref_of c.from) same ∙ f)) (λ f. inr (ap (λ c. ref_of c.to) same ∙ f)) says.2))
+          inr (
+            m.0,
+            Change it.0,
+            it.1,
+            (
+              says.0 ∙ ap (λ c. c.node) (sym same),
+              says.1 ∙ ap (λ c. c.index) (sym same),
+              ⊎_elim (λ f. inl (ap (λ c. ref_of c.from) same ∙ f)) (λ f. inr (ap (λ c. ref_of c.to) same ∙ f)) says.2,
+            ),
+          )
       at (Rebuild r) e says =
           let it = rebuild_there (state_of pairs words log).pieces (state_of pairs words (event ∷ log)).pieces grows m.0 r e in
-          inr (m.0, Rebuild it.0, it.1,
-            (says.0 ∙ sym it.2.parent, says.1 ∙ sym it.2.index,
+          inr (
+            m.0,
+            Rebuild it.0,
+            it.1,
+            (
+              says.0 ∙ sym it.2.parent,
+              says.1 ∙ sym it.2.index,
               ⊎_elim
-                (λ f. inl (ap InnerAt it.2.target ∙ f))
-                (λ f. inr (ap ref_of (it.2.rooted (λ none. set (clash_refs (ref_of r.root) ref Unset f (ap ref_of none ∙ ref_of-unset)))) ∙ f))
-                says.2))
+                  (λ f. inl (ap InnerAt it.2.target ∙ f))
+                  (λ f. inr (ap ref_of (it.2.rooted (λ none. set (clash_refs (ref_of r.root) ref Unset f (ap ref_of none ∙ ref_of-unset)))) ∙ f))
+                  says.2,
+            ),
+          )
 
   -- over a whole log
   pub mentions_stay : (earlier log : Log) → GoesOn earlier log → EachEnabled (start pairs words) log → (node i : ℕ) (ref : Ref) → ((base : ℕ) → ref ≢ ChangeAt base) → ref ≢ Unset
@@ -176,5 +188,5 @@ one_parent pairs words opens earlier log g h n i k j child c d =
     let before = names pairs words opens earlier (enabled_before (start pairs words) earlier log g h) in
     let now = names pairs words opens log h in
     (one_home pairs words opens log h).one n i k j child
-      (mentions_stay pairs words opens earlier log g h n i (InnerAt child) (λ base e. cc) (λ e. cc) (child_mentioned (state_of pairs words earlier) n i child before c))
-      (child_mentioned (state_of pairs words log) k j child now d)
+    (mentions_stay pairs words opens earlier log g h n i (InnerAt child) (λ base e. cc) (λ e. cc) (child_mentioned (state_of pairs words earlier) n i child before c))
+    (child_mentioned (state_of pairs words log) k j child now d)

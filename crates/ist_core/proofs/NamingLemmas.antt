@@ -1,7 +1,6 @@
 -- The conjunct `names`: each word that names a row names a published one of its kind, and an inner row above its node.
 -- Serves the order law, and each law that follows a word.
-use Rattle.std.proofs.Common.{◌≡◌, ◌≢◌, ℕ, ◌<◌, ◌⊎◌, ◌==◌, if◌then◌else◌, true, false, slice_get, slice_set, Option, Some, None, option_map, refl, sym, ap, ◌∙◌, subst, inl, inr, ⊎_elim, arith}
-use Rattle.std.proofs.lemmas.Bool.Decides.{nat_tests}
+use Rattle.std.proofs.Common.{◌≡◌, ℕ, ◌<◌, slice_get, Option, Some, None, sym, ap, ◌∙◌, subst, ⊎_elim}
 use Rattle.ist_core.specs.declared.states.LeafRow.{LeafRow}
 use Rattle.ist_core.specs.declared.states.InnerRow.{InnerRow}
 use Rattle.ist_core.specs.declared.states.ChangeRow.{ChangeRow}
@@ -146,20 +145,20 @@ all_name-changed_at ps at f g all keeps base q e =
     let it = changed_at-some ps at base f q e in
     let old = row_grows ps (changed_at ps at f) g base it.0 (all base it.0 it.1) in
     ⊎_elim
-      (λ same. subst (λ x. RowNames (changed_at ps at f) base x) (sym same) old)
-      (λ new.
-        subst (λ x. RowNames (changed_at ps at f) base x) (sym new.1)
-          (subst (λ b. RowNames (changed_at ps at f) b (f it.0)) (sym new.0)
-            (keeps it.0 (subst (λ b. ps b ≡ Some it.0) new.0 it.1) (subst (λ b. RowNames (changed_at ps at f) b it.0) new.0 old))))
-      it.2
+    (λ same. subst (λ x. RowNames (changed_at ps at f) base x) (sym same) old)
+    (λ new.
+    subst (λ x. RowNames (changed_at ps at f) base x) (sym new.1)
+    (subst (λ b. RowNames (changed_at ps at f) b (f it.0)) (sym new.0)
+    (keeps it.0 (subst (λ b. ps b ≡ Some it.0) new.0 it.1) (subst (λ b. RowNames (changed_at ps at f) b it.0) new.0 old))))
+    it.2
 
 pub names-with_slot : (ps : Pieces) (node i word : ℕ) (p : Piece) → SlotNames ps node i (ref_of word) → RowNames ps node p → RowNames ps node (with_slot i word p)
 names-with_slot ps node i word (Inner r) k h =
     λ j w e.
-      ⊎_elim
-        (λ x. subst (λ y. SlotNames ps node y (ref_of w)) (sym x.0) (subst (λ y. SlotNames ps node i (ref_of y)) (sym x.1) k))
-        (λ x. h j w x)
-        (get-set_some r.slots i j word w e)
+    ⊎_elim
+    (λ x. subst (λ y. SlotNames ps node y (ref_of w)) (sym x.0) (subst (λ y. SlotNames ps node i (ref_of y)) (sym x.1) k))
+    (λ x. h j w x)
+    (get-set_some r.slots i j word w e)
 names-with_slot ps node i word (Leaf r) k h = h
 names-with_slot ps node i word (Change r) k h = h
 names-with_slot ps node i word (Rebuild r) k h = h
@@ -194,7 +193,7 @@ names-with_decision ps base decision (Rebuild r) h = h
 pub slot_names : (t : Snapshot) (node i word : ℕ) → WordsName t → SlotHolds t node i word → SlotNames t.pieces node i (ref_of word)
 slot_names t node i word h (in_anchor a b e) =
     subst (λ x. SlotNames t.pieces node i (ref_of x)) e
-      (subst (λ j. SlotNames t.pieces node j (ref_of t.anchor)) (sym b) (subst (λ n. SlotNames t.pieces n 0 (ref_of t.anchor)) (sym a) h.anchor_slot))
+    (subst (λ j. SlotNames t.pieces node j (ref_of t.anchor)) (sym b) (subst (λ n. SlotNames t.pieces n 0 (ref_of t.anchor)) (sym a) h.anchor_slot))
 slot_names t node i word h (in_row r p e) = h.rows node (Inner r) p i word e
 
 -- what a change may put into a slot may stand in it

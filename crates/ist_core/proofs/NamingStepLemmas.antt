@@ -1,19 +1,16 @@
 -- Each event keeps the conjunct `names`. Serves the order law.
-use Rattle.std.proofs.Common.{◌≡◌, ◌≢◌, ℕ, ◌<◌, ◌⊎◌, ◌==◌, if◌then◌else◌, Bool, true, false, List, [], ◌∷◌, Option, Some, None, option_map, refl, sym, ap, ◌∙◌, subst, inl, inr, ⊎_elim, arith}
-use Rattle.std.proofs.lemmas.Bool.Decides.{nat_tests, eqb_tells}
-use Rattle.ist_core.specs.declared.pairs.Pair.{Pair}
+use Rattle.std.proofs.Common.{◌≡◌, ◌≢◌, ℕ, ◌⊎◌, ◌==◌, if◌then◌else◌, Bool, true, false, List, ◌∷◌, Some, None, option_map, refl, sym, ap, ◌∙◌, subst, inl, inr}
+use Rattle.std.proofs.lemmas.Bool.Decides.{eqb_tells}
 use Rattle.ist_core.specs.declared.lists.Row.{Row}
 use Rattle.ist_core.specs.declared.states.ChangeRow.{ChangeRow}
-use Rattle.ist_core.specs.declared.states.RebuildRow.{RebuildRow}
 use Rattle.ist_core.specs.declared.events.Event.{Event}
 use Rattle.ist_core.specs.declared.events.Event.TheVariants.{Enter, Reserve, Install, Okay, Decide, Resolve, Count, Mark, Pass, Finish, Root, Draw, Place, Lose}
 use Rattle.ist_core.specs.RowLayout.{anchor}
-use Rattle.ist_core.specs.References.{Ref, ChangeAt, IsGoodBase, ref_of, word_of}
+use Rattle.ist_core.specs.References.{ChangeAt, IsGoodBase, ref_of, word_of}
 use Rattle.ist_core.specs.Statuses.{marked_word, finished_word, decided_yes}
 use Rattle.ist_core.specs.Elements.{Among, Each}
 use Rattle.ist_core.specs.Pieces.{Pieces, Piece, Inner, Change, Rebuild, row_at, with_inners, changed_at, with_slot, with_status, counted, with_decision, with_root, drawn}
 use Rattle.ist_core.specs.Snapshots.{Snapshot, bases_of}
-use Rattle.ist_core.specs.StartLayout.{start}
 use Rattle.ist_core.specs.After.{after, with_fresh, decision_word, side_of, resolved}
 use Rattle.ist_core.specs.Logs.{Log, state}
 use Rattle.ist_core.specs.Installing.{CanInstall}
@@ -21,20 +18,18 @@ use Rattle.ist_core.specs.Deciding.{CanResolve}
 use Rattle.ist_core.specs.Building.{CanRoot, CanPlace}
 use Rattle.ist_core.specs.Enabled.{Enabled}
 use Rattle.ist_core.specs.Growing.{Grows, AllGrow}
-use Rattle.ist_core.specs.Lawful.{EachEnabled, CanOpen, state_of}
 use Rattle.ist_core.proofs.ElementLemmas.{each-among}
 use Rattle.ist_core.proofs.RowLemmas.{with_row-same}
 use Rattle.ist_core.proofs.MoveLemmas.{IsSound}
 use Rattle.ist_core.proofs.InstallLemmas.{with_installed}
-use Rattle.ist_core.proofs.AddingLemmas.{Adds, IsInstalled, adds_install, adds-with_inners}
+use Rattle.ist_core.proofs.AddingLemmas.{IsInstalled, adds_install, adds-with_inners}
 use Rattle.ist_core.proofs.GrowingLemmas.{all_grow_added, all_grow-changed_at, grows-with_slot, grows-with_root}
 use Rattle.ist_core.proofs.StepLemmas.{grow_step, rows_resolved, rows_placed, holds_installed, known}
-use Rattle.ist_core.proofs.PlaceLemmas.{anchor_free}
 use Rattle.ist_core.proofs.RoomLemmas.{ref_of-change}
 use Rattle.ist_core.proofs.SlotLemmas.{anchor_slot}
-use Rattle.ist_core.proofs.NamingLemmas.{AllName, SideNames, SlotNames, RootNames, RowNames, WordsName, IsChangeFor, side_grows, slot_grows, row_grows, root_grows, change_for_grows, all_name_added, all_name-changed_at, names-with_slot, names-with_status, names-counted, names-drawn, names-with_decision, slot_names, side_slot}
+use Rattle.ist_core.proofs.NamingLemmas.{AllName, SideNames, SlotNames, RootNames, RowNames, WordsName, IsChangeFor, slot_grows, root_grows, all_name_added, all_name-changed_at, names-with_slot, names-with_status, names-counted, names-drawn, names-with_decision, slot_names, side_slot}
 use Rattle.ist_core.proofs.InstallNamingLemmas.{installed_names}
-use Rattle.ist_core.proofs.TreeLemmas.{IsTree, IsTreeRow, root_tree, tree_of_ideal, tree_slot, tree_root, tree_rows}
+use Rattle.ist_core.proofs.TreeLemmas.{IsTreeRow, root_tree, tree_of_ideal, tree_slot, tree_root, tree_rows}
 
 -- a row that the change leaves stands still
 pub changed_at-fixed : (ps : Pieces) (at base : ℕ) (f : Piece → Piece) (p : Piece) → ps base ≡ Some p → f p ≡ p → changed_at ps at f base ≡ Some p
@@ -66,7 +61,7 @@ names_written t u ps node i word all g pieces is zero_there h o =
     record {
       rows = subst (λ qs. (base : ℕ) (p : Piece) → qs base ≡ Some p → RowNames qs base p) (sym pieces)
           (all_name-changed_at ps node (with_slot i word) (all_grow-changed_at ps node (with_slot i word) (λ p _. grows-with_slot i word p)) all
-            (λ p _ k. names-with_slot (changed_at ps node (with_slot i word)) node i word p h k));
+          (λ p _ k. names-with_slot (changed_at ps node (with_slot i word)) node i word p h k));
       anchor_slot = subst (λ x. SlotNames u.pieces anchor 0 (ref_of x)) (sym is) (at here (node == anchor) (eqb_tells node anchor));
     }
   where
@@ -74,7 +69,7 @@ names_written t u ps node i word all g pieces is zero_there h o =
         → SlotNames u.pieces anchor 0 (ref_of (if node == anchor then word else t.anchor))
     at here v (inl k) =
         subst (λ b. SlotNames u.pieces anchor 0 (ref_of (if b then word else t.anchor))) (sym k.0)
-          (subst (λ j. SlotNames u.pieces anchor j (ref_of word)) (zero_there k.1) (subst (λ n. SlotNames u.pieces n i (ref_of word)) k.1 here))
+        (subst (λ j. SlotNames u.pieces anchor j (ref_of word)) (zero_there k.1) (subst (λ n. SlotNames u.pieces n i (ref_of word)) k.1 here))
     at here v (inr k) =
         subst (λ b. SlotNames u.pieces anchor 0 (ref_of (if b then word else t.anchor))) (sym k.0) (slot_grows t.pieces u.pieces g anchor 0 (ref_of t.anchor) o.anchor_slot)
 
@@ -108,12 +103,12 @@ names_install first log caller base rows h sound free good_here good o =
       index = refl;
     } in
     subst (λ xs. WordsName (after t (Install caller base xs))) (sym h.rows_are)
-      (names_written t (after t (Install caller base (row_at base (Change h.change) ∷ h.fresh))) qs h.change.node h.change.index word
-        (all_name_added t.pieces qs (IsInstalled first log base h.change h.fresh h.fits) grows adds (all_name t o)
-          (λ at p born _. installed_names first log caller base h.change h.fresh sound holds h.in_slot o slot qs refl grows h.fits good at p born))
-        (subst (λ xs. AllGrow t.pieces (after t (Install caller base xs)).pieces) h.rows_are (grow_step first log (Install caller base rows) h sound)) refl refl
-        (anchor_slot t h.change.node h.change.index h.change.from free h.in_slot)
-        (subst (λ ref. SlotNames rs h.change.node h.change.index ref) (sym (ref_of-change base good_here)) there) o)
+    (names_written t (after t (Install caller base (row_at base (Change h.change) ∷ h.fresh))) qs h.change.node h.change.index word
+    (all_name_added t.pieces qs (IsInstalled first log base h.change h.fresh h.fits) grows adds (all_name t o)
+    (λ at p born _. installed_names first log caller base h.change h.fresh sound holds h.in_slot o slot qs refl grows h.fits good at p born))
+    (subst (λ xs. AllGrow t.pieces (after t (Install caller base xs)).pieces) h.rows_are (grow_step first log (Install caller base rows) h sound)) refl refl
+    (anchor_slot t h.change.node h.change.index h.change.from free h.in_slot)
+    (subst (λ ref. SlotNames rs h.change.node h.change.index ref) (sym (ref_of-change base good_here)) there) o)
 
 -- the side that a change leaves in its slot is one of its two
 pub side_names : (ps : Pieces) (node i : ℕ) (change : ChangeRow) → SideNames ps node i (ref_of change.from) → SideNames ps node i (ref_of change.to) → SideNames ps node i (ref_of (side_of change))
@@ -130,9 +125,9 @@ names_resolve first log caller base h sound free o =
     let side = side_names t.pieces h.change.node h.change.index h.change row.0 row.1 in
     let grows = all_grow-changed_at t.pieces h.change.node (with_slot h.change.index word) (λ p _. grows-with_slot h.change.index word p) in
     subst WordsName (sym (rows_resolved t caller base h))
-      (names_written t (resolved t (Some h.change)) t.pieces h.change.node h.change.index word (all_name t o) grows refl refl
-        (anchor_slot t h.change.node h.change.index (word_of (ChangeAt base)) free h.in_slot)
-        (slot_grows t.pieces rs grows h.change.node h.change.index (ref_of word) (side_slot t.pieces h.change.node h.change.index (ref_of word) side)) o)
+    (names_written t (resolved t (Some h.change)) t.pieces h.change.node h.change.index word (all_name t o) grows refl refl
+    (anchor_slot t h.change.node h.change.index (word_of (ChangeAt base)) free h.in_slot)
+    (slot_grows t.pieces rs grows h.change.node h.change.index (ref_of word) (side_slot t.pieces h.change.node h.change.index (ref_of word) side)) o)
 
 -- the rows of a tree name what they may
 tree_born : (ps : Pieces) (rows : List ℕ) → Each (IsTreeRow ps) rows → (base : ℕ) (p : Piece) → Among base rows → ps base ≡ Some p → RowNames ps base p
@@ -152,15 +147,15 @@ names_root first log caller rebuild word rows h sound o =
     let grows = all_grow_added t.pieces qs adds.keeps in
     let tree = root_tree qs word h.k h.leaves h.row.target (bases_of rows) h.root in
     let all = all_name_added t.pieces qs (λ base p. Among base (bases_of rows)) grows adds (all_name t o)
-        (λ base p i e. tree_born qs (bases_of rows) (tree_rows qs tree.0 h.row.target (bases_of rows) tree.2) base p i e) in
+    (λ base p i e. tree_born qs (bases_of rows) (tree_rows qs tree.0 h.row.target (bases_of rows) tree.2) base p i e) in
     let stands = adds.keeps rebuild (Rebuild h.row) h.published in
     let on : AllGrow qs rs = all_grow-changed_at qs rebuild (with_root word)
-        (λ p e. known (λ x. Grows x (with_root word x)) (qs rebuild) p (Rebuild h.row) e stands (grows-with_root h.row word h.rootless)) in
+    (λ p e. known (λ x. Grows x (with_root word x)) (qs rebuild) p (Rebuild h.row) e stands (grows-with_root h.row word h.rootless)) in
     let root = subst (λ ref. RootNames qs h.row.target ref) (sym tree.1) (tree_root qs tree.0 h.row.target (bases_of rows) tree.2) in
     record {
       rows = all_name-changed_at qs rebuild (with_root word) on all
           (λ p e k. known (λ x. RowNames rs rebuild x → RowNames rs rebuild (with_root word x)) (qs rebuild) p (Rebuild h.row) e stands
-            (λ old. (old.0, old.1, root_grows qs rs on h.row.target (ref_of word) root)) k);
+          (λ old. (old.0, old.1, root_grows qs rs on h.row.target (ref_of word) root)) k);
       anchor_slot = slot_grows t.pieces u.pieces (grow_step first log (Root caller rebuild word rows) h sound) anchor 0 (ref_of t.anchor) o.anchor_slot;
     }
 
@@ -176,11 +171,11 @@ names_place first log caller rebuild i word rows h sound o =
     let grows = all_grow_added t.pieces qs adds.keeps in
     let tree = tree_of_ideal qs h.ref h.part h.root (bases_of rows) h.ideal in
     let all = all_name_added t.pieces qs (λ base p. Among base (bases_of rows)) grows adds (all_name t o)
-        (λ base p i e. tree_born qs (bases_of rows) (tree_rows qs h.ref h.root (bases_of rows) tree) base p i e) in
+    (λ base p i e. tree_born qs (bases_of rows) (tree_rows qs h.ref h.root (bases_of rows) tree) base p i e) in
     let on : AllGrow qs rs = all_grow-changed_at qs h.root (with_slot i word) (λ p _. grows-with_slot i word p) in
     let slot = subst (λ ref. SlotNames qs h.root i ref) (sym h.ref_is) (tree_slot qs h.ref h.root (bases_of rows) i tree) in
     let names = all_name-changed_at qs h.root (with_slot i word) on all
-        (λ p _ k. names-with_slot rs h.root i word p (slot_grows qs rs on h.root i (ref_of word) slot) k) in
+    (λ p _ k. names-with_slot rs h.root i word p (slot_grows qs rs on h.root i (ref_of word) slot) k) in
     record {
       rows = subst (λ xs. AllName xs xs) (sym (rows_placed t caller rebuild i word rows h)) names;
       anchor_slot = slot_grows t.pieces u.pieces (grow_step first log (Place caller rebuild i word rows) h sound) anchor 0 (ref_of t.anchor) o.anchor_slot;

@@ -2,16 +2,13 @@
 use Rattle.std.proofs.Common.{◌≡◌, ℕ, ◌<◌, ◌⊎◌, List, [], ◌∷◌, length, Option, Some, None, refl, sym, ap, ◌∙◌, subst, inl, inr, ⊎_elim}
 use Rattle.ist_core.specs.declared.pairs.Pair.{Pair}
 use Rattle.ist_core.specs.declared.lists.Row.{Row}
-use Rattle.ist_core.specs.declared.events.Event.{Event}
-use Rattle.ist_core.specs.declared.states.ChangeRow.{ChangeRow}
 use Rattle.ist_core.specs.References.{Ref, Empty, Unset, LeafAt, InnerAt, ChangeAt, RebuildAt, IsGoodBase, ref_of}
-use Rattle.ist_core.specs.Elements.{Among}
-use Rattle.ist_core.specs.Pieces.{Pieces, Piece, Inner, Change, Rebuild, row_at}
+use Rattle.ist_core.specs.Pieces.{Piece, Change, Rebuild, row_at}
 use Rattle.ist_core.specs.Snapshots.{Snapshot, HoldsRow}
 use Rattle.ist_core.specs.StartLayout.{start}
-use Rattle.ist_core.specs.Logs.{Log, state}
+use Rattle.ist_core.specs.Logs.{Log}
 use Rattle.ist_core.specs.After.{side_of}
-use Rattle.ist_core.specs.Slots.{SlotHolds, change_reads, past_change, rebuild_reads, past_rebuild, logical}
+use Rattle.ist_core.specs.Slots.{change_reads, past_change, rebuild_reads, past_rebuild}
 use Rattle.ist_core.specs.Links.{IsChild}
 use Rattle.ist_core.specs.Installing.{CanInstall}
 use Rattle.ist_core.specs.Lawful.{EachEnabled, CanOpen, state_of}
@@ -22,7 +19,7 @@ use Rattle.ist_core.proofs.InstallLemmas.{with_installed, publishes_install}
 use Rattle.ist_core.proofs.StepLemmas.{holds_installed}
 use Rattle.ist_core.proofs.PlaceLemmas.{anchor_free}
 use Rattle.ist_core.proofs.RoomLemmas.{published_good, held_good}
-use Rattle.ist_core.proofs.NamingLemmas.{InnerHere, SideNames, SlotNames, WordsName, slot_names}
+use Rattle.ist_core.proofs.NamingLemmas.{SideNames, SlotNames, WordsName, slot_names}
 use Rattle.ist_core.proofs.NamingStepLemmas.{names_step, side_names}
 use Rattle.ist_core.proofs.StartTreeLemmas.{names_start}
 
@@ -33,15 +30,16 @@ module _ (pairs : List Pair) (words : ℕ) (opens : CanOpen pairs words) where
   install_good log e caller base rows h =
       let t = state_of pairs words log in
       let holds = holds_installed (start pairs words) log caller base rows h in
-      let all = row_at base (Change h.change) ∷ h.fresh in
-      (held_good pairs words opens log caller base 9 e holds.0,
+      let all = row_at base (Change h.change) ∷ h.fresh in (
+        held_good pairs words opens log caller base 9 e holds.0,
         λ at p there.
-          ⊎_elim
+            ⊎_elim
             (λ old. published_good pairs words opens log at p e old)
             (λ new.
-              subst IsGoodBase new.2
-                (held_good pairs words opens log caller new.0.base (length new.0.words) e (each-among (λ row. HoldsRow t caller row.base (length row.words)) new.0 all holds new.1)))
-            ((publishes_install t.pieces (start pairs words) log base h.change h.fresh h.fits).from at p there))
+            subst IsGoodBase new.2
+            (held_good pairs words opens log caller new.0.base (length new.0.words) e (each-among (λ row. HoldsRow t caller row.base (length row.words)) new.0 all holds new.1)))
+            ((publishes_install t.pieces (start pairs words) log base h.change h.fresh h.fits).from at p there),
+      )
 
   -- each word behind a log from a new table names what it may
   pub names : (log : Log) → EachEnabled (start pairs words) log → WordsName (state_of pairs words log)
@@ -83,9 +81,9 @@ past_rebuild_above t node i child None o h e = absurd h
 pub child_above : (t : Snapshot) (node i child : ℕ) → WordsName t → IsChild t node i child → node < child
 child_above t node i child o c =
     ⊎_elim
-      (λ side. past_rebuild_above t node i child (past_change t.pieces (ref_of c.word)) o side c.reads)
-      (λ unset. absurd (clash (past_change t.pieces (ref_of c.word)) unset c.reads))
-      (past_change_names t node i (ref_of c.word) o (slot_names t node i c.word o c.holds))
+    (λ side. past_rebuild_above t node i child (past_change t.pieces (ref_of c.word)) o side c.reads)
+    (λ unset. absurd (clash (past_change t.pieces (ref_of c.word)) unset c.reads))
+    (past_change_names t node i (ref_of c.word) o (slot_names t node i c.word o c.holds))
   where
     clash : (ref : Option Ref) → ref ≡ Some Unset → past_rebuild t.pieces ref ≡ Some (InnerAt child) → ⊥
     clash (Some Unset) e f = cc

@@ -1,46 +1,36 @@
 -- An inner row is the logical child of one slot only, ever. Serves `laws.parents_are_one`.
-use Rattle.std.proofs.Common.{◌≡◌, ◌≢◌, ℕ, ◌+◌, ◌⊎◌, ◌==◌, if◌then◌else◌, true, false, List, [], ◌∷◌, length, slice_get, Option, Some, None, refl, sym, ap, ◌∙◌, subst, inl, inr, ⊎_elim, arith}
+use Rattle.std.proofs.Common.{◌≡◌, ℕ, ◌+◌, ◌⊎◌, List, [], ◌∷◌, length, Option, Some, refl, sym, subst, inl, inr, arith}
 use Rattle.ist_core.specs.declared.pairs.Pair.{Pair}
 use Rattle.ist_core.specs.declared.lists.Row.{Row}
-use Rattle.ist_core.specs.declared.states.ChangeRow.{ChangeRow}
 use Rattle.ist_core.specs.declared.events.Event.{Event}
 use Rattle.ist_core.specs.declared.events.Event.TheVariants.{Enter, Reserve, Install, Okay, Decide, Resolve, Count, Mark, Pass, Finish, Root, Draw, Place, Lose}
 use Rattle.ist_core.specs.RowLayout.{anchor, first_row}
 use Rattle.ist_core.specs.Shapes.{ideal_words}
-use Rattle.ist_core.specs.References.{Ref, Empty, Unset, LeafAt, InnerAt, ChangeAt, RebuildAt, IsGoodBase, ref_of, word_of, unset_word}
-use Rattle.ist_core.specs.Statuses.{marked_word, finished_word, decided_yes}
+use Rattle.ist_core.specs.References.{Ref, InnerAt, ChangeAt, ref_of, word_of}
+use Rattle.ist_core.specs.Statuses.{marked_word, finished_word}
 use Rattle.ist_core.specs.Elements.{Among, Each, Distinct}
-use Rattle.ist_core.specs.Pieces.{Pieces, Piece, Leaf, Inner, Change, Rebuild, row_at, changed_at, with_slot, with_status, counted, with_decision, drawn}
-use Rattle.ist_core.specs.Snapshots.{Snapshot}
+use Rattle.ist_core.specs.Pieces.{Pieces, Piece, Inner, Change, row_at, with_slot, with_status, counted, with_decision, drawn}
 use Rattle.ist_core.specs.StartLayout.{start, tree_at, rows_from}
-use Rattle.ist_core.specs.After.{after, decision_word, side_of}
-use Rattle.ist_core.specs.Logs.{Log, state, GoesOn, same_log, one_event}
-use Rattle.ist_core.specs.Slots.{SlotHolds, in_anchor, in_row, change_reads, past_change, rebuild_reads, past_rebuild, logical}
-use Rattle.ist_core.specs.Links.{IsChild}
+use Rattle.ist_core.specs.After.{after, decision_word}
+use Rattle.ist_core.specs.Logs.{Log}
 use Rattle.ist_core.specs.Installing.{CanInstall, new_leaf}
-use Rattle.ist_core.specs.Enabled.{Enabled}
 use Rattle.ist_core.specs.Lawful.{EachEnabled, CanOpen, state_of}
 use Rattle.ist_core.proofs.ElementLemmas.{each-among}
-use Rattle.ist_core.proofs.ReferenceLemmas.{ref_of-unset}
 use Rattle.ist_core.proofs.PieceLemmas.{among-pieces_of}
-use Rattle.ist_core.proofs.MoveLemmas.{IsSound}
 use Rattle.ist_core.proofs.SoundLemmas.{sound}
 use Rattle.ist_core.proofs.StartLemmas.{sound_start}
 use Rattle.ist_core.proofs.InstallLemmas.{with_installed}
 use Rattle.ist_core.proofs.FreshLemmas.{fresh_stands}
 use Rattle.ist_core.proofs.AddingLemmas.{IsInstalled, adds_install}
-use Rattle.ist_core.proofs.GrowingLemmas.{change_there, rebuild_there}
-use Rattle.ist_core.proofs.StepLemmas.{grow_step, holds_installed, known}
+use Rattle.ist_core.proofs.StepLemmas.{holds_installed, known}
 use Rattle.ist_core.proofs.PlaceLemmas.{anchor_free}
 use Rattle.ist_core.proofs.RoomLemmas.{published_good, ref_of-change}
 use Rattle.ist_core.proofs.SlotLemmas.{anchor_slot}
-use Rattle.ist_core.proofs.NamingLemmas.{SlotNames, WordsName, slot_names}
 use Rattle.ist_core.proofs.TreeLemmas.{IsTreeRow, tree_rows}
 use Rattle.ist_core.proofs.StartTreeLemmas.{IsLeafRow, leaf_row, HangsAs, start_hangs, start_anchor, between_once}
 use Rattle.ist_core.proofs.OrderLemmas.{names, install_good}
-use Rattle.ist_core.proofs.SlotStepLemmas.{install_stands, install_writes, resolve_writes, place_writes, slot_stays}
 use Rattle.ist_core.proofs.BranchLemmas.{HangsIn, hangs_once}
-use Rattle.ist_core.proofs.HomeLemmas.{Says, Mentions, HasOneHome, slot_mentions, SaysCame, WordCame, AllCame, came_old, came_added, came-changed_at, came-with_slot, came-with_status, came-counted, came-drawn, came-with_decision, one_home_from, one_home_same, anchor_came}
+use Rattle.ist_core.proofs.HomeLemmas.{Says, Mentions, HasOneHome, came_old, came_added, came-changed_at, came-with_slot, came-with_status, came-counted, came-drawn, came-with_decision, one_home_from, one_home_same, anchor_came}
 use Rattle.ist_core.proofs.HomeStepLemmas.{NewPair, one_home_changed, one_home_resolve, one_home_root, one_home_place, word_of_other, pair_new, installed_says}
 
 module _ (pairs : List Pair) (words : ℕ) (opens : CanOpen pairs words) where
@@ -60,14 +50,14 @@ module _ (pairs : List Pair) (words : ℕ) (opens : CanOpen pairs words) where
       let slot = word_of_other t New h.change.node h.change.index (ref_of word) (ChangeAt base) (ref_of-change base good.0) (λ child k. cc) in
       let u = after t (Install caller base (row_at base (Change h.change) ∷ h.fresh)) in
       subst (λ xs. HasOneHome (after t (Install caller base xs))) (sym h.rows_are)
-        (one_home_from t u New home (names pairs words opens log e) (pair_new first log caller base h.change h.fresh s holds h.in_slot h.fits)
-          (came-changed_at t New qs h.change.node (with_slot h.change.index word)
-            (came_added t New t.pieces qs (IsInstalled first log base h.change h.fresh h.fits) (adds_install first log caller base h.change h.fresh h.fits holds s) (came_old t New)
-              (λ at p born _. installed_says first log caller base h.change h.fresh s holds h.in_slot h.fits
-                (λ leaf f. good.1 leaf (new_leaf h.change) (fresh_stands first log caller base h.change h.fresh s t.pieces h.fits holds leaf (new_leaf h.change) f))
-                (λ other r there. published_good pairs words opens log other r e there) at p born))
-            (λ p _ old. came-with_slot t New h.change.node h.change.index word p slot old))
-          (anchor_came t u New h.change.node h.change.index word refl (anchor_slot t h.change.node h.change.index h.change.from (anchor_free pairs words log e) h.in_slot) slot))
+      (one_home_from t u New home (names pairs words opens log e) (pair_new first log caller base h.change h.fresh s holds h.in_slot h.fits)
+      (came-changed_at t New qs h.change.node (with_slot h.change.index word)
+      (came_added t New t.pieces qs (IsInstalled first log base h.change h.fresh h.fits) (adds_install first log caller base h.change h.fresh h.fits holds s) (came_old t New)
+      (λ at p born _. installed_says first log caller base h.change h.fresh s holds h.in_slot h.fits
+      (λ leaf f. good.1 leaf (new_leaf h.change) (fresh_stands first log caller base h.change h.fresh s t.pieces h.fits holds leaf (new_leaf h.change) f))
+      (λ other r there. published_good pairs words opens log other r e there) at p born))
+      (λ p _ old. came-with_slot t New h.change.node h.change.index word p slot old))
+      (anchor_came t u New h.change.node h.change.index word refl (anchor_slot t h.change.node h.change.index h.change.from (anchor_free pairs words log e) h.in_slot) slot))
 
   one_home_step : (log : Log) (event : Event) → EachEnabled (start pairs words) (event ∷ log) → HasOneHome (state_of pairs words log) → HasOneHome (state_of pairs words (event ∷ log))
   one_home_step log (Install caller base rows) h home = one_home_install log h.0 caller base rows h.1 home
@@ -99,14 +89,14 @@ module _ (pairs : List Pair) (words : ℕ) (opens : CanOpen pairs words) where
       let ps = (start pairs words).pieces in
       let it = each-among (IsTreeRow ps) base rows all k in
       known (λ x. Says base x node i (InnerAt child) → HangsIn ps anchor 0 (tree_at first_row pairs) rows node i child) (ps base) p (Inner it.row) e it.published
-        (λ s. inr record {
-          among = subst (λ b. Among b rows) (sym s.0) k;
-          row = it.row;
-          published = subst (λ b. ps b ≡ Some (Inner it.row)) (sym s.0) it.published;
-          word = s.1;
-          in_slot = s.2;
-          reads = s.3;
-        }) says
+      (λ s. inr record {
+        among = subst (λ b. Among b rows) (sym s.0) k;
+        row = it.row;
+        published = subst (λ b. ps b ≡ Some (Inner it.row)) (sym s.0) it.published;
+        word = s.1;
+        in_slot = s.2;
+        reads = s.3;
+      }) says
 
   one_home_start : HasOneHome (start pairs words)
   one_home_start = record { one = λ n i k j child x y. hangs_once ps anchor 0 (tree_at first_row pairs) anchor hang.rows n i k j child hang.tree once (came n i child x) (came k j child y) }
@@ -127,7 +117,7 @@ module _ (pairs : List Pair) (words : ℕ) (opens : CanOpen pairs words) where
       came node i child (inl h) = inl (h.0, h.1, same_ref (ref_of (start pairs words).anchor) (tree_at first_row pairs) (InnerAt child) (start_anchor pairs words opens) h.2)
       came node i child (inr h) =
           start_says hang.rows (tree_rows (start pairs words).pieces (tree_at first_row pairs) anchor hang.rows hang.tree) h.0 h.1 h.2
-            (hang.each h.0 h.1 (among-pieces_of (rows_from first_row pairs) h.0 h.1 h.2)) node i child h.3
+          (hang.each h.0 h.1 (among-pieces_of (rows_from first_row pairs) h.0 h.1 h.2)) node i child h.3
 
   -- each inner row behind a log from a new table has one home
   pub one_home : (log : Log) → EachEnabled (start pairs words) log → HasOneHome (state_of pairs words log)

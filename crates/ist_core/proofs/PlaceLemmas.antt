@@ -11,17 +11,15 @@ use Rattle.ist_core.specs.Elements.{Among}
 use Rattle.ist_core.specs.Pieces.{Piece, Leaf, Inner, Change, Rebuild, size_of}
 use Rattle.ist_core.specs.Snapshots.{Snapshot}
 use Rattle.ist_core.specs.StartLayout.{start, rows_from}
-use Rattle.ist_core.specs.After.{after}
-use Rattle.ist_core.specs.Logs.{Log, state, Happened, Reserves, Loses}
+use Rattle.ist_core.specs.Logs.{Log, Reserves, Loses}
 use Rattle.ist_core.specs.Enabled.{Enabled}
 use Rattle.ist_core.specs.Lawful.{EachEnabled, state_of}
-use Rattle.ist_core.specs.Spending.{reserved_by}
 use Rattle.ist_core.specs.Rows.{IsSetAside, at_start, by_caller, Apart, IsWithin}
 use Rattle.ist_core.proofs.ElementLemmas.{among-append}
 use Rattle.ist_core.proofs.PieceLemmas.{among-pieces_of}
 use Rattle.ist_core.proofs.MoveLemmas.{IsSound, Moves}
 use Rattle.ist_core.proofs.EventMoveLemmas.{reserve_positive}
-use Rattle.ist_core.proofs.SoundLemmas.{IsReserve, moves_or_reserves, sound}
+use Rattle.ist_core.proofs.SoundLemmas.{moves_or_reserves, sound}
 use Rattle.ist_core.proofs.StartLemmas.{sound_start}
 use Rattle.ist_core.proofs.SpendingLemmas.{next-state}
 use Rattle.ist_core.proofs.LayoutLemmas.{fills_within, fills_apart, fills_rows}
@@ -120,14 +118,14 @@ module _ (pairs : List Pair) (words : ℕ) where
       → ((base ≡ other) × (size ≡ more)) ⊎ ((base ≢ other) × Apart base size other more)
   claimed_apart [] base size other more h c d =
       ⊎_elim
-        (λ e. inl (e.1, sym c.2 ∙ ap size_of (one_piece ((start pairs words).pieces base) c.0 d.0 c.1 (subst (λ b. (start pairs words).pieces b ≡ Some d.0) (sym e.1) d.1)) ∙ d.2))
-        (λ e.
-          let rows = fills_rows (length pairs) first_row pairs (omega arith) in
-          let one = among-pieces_of (rows_from first_row pairs) base c.0 c.1 in
-          let two = among-pieces_of (rows_from first_row pairs) other d.0 d.1 in
-          let apart = fills_apart first_row (first_row + ideal_words (length pairs)) (rows_from first_row pairs) base other c.0 d.0 rows one two e.1 in
-          inr (e.1, subst (λ z. Apart base z other more) c.2 (subst (λ y. Apart base (size_of c.0) other y) d.2 apart)))
-        (eqb_tells base other)
+      (λ e. inl (e.1, sym c.2 ∙ ap size_of (one_piece ((start pairs words).pieces base) c.0 d.0 c.1 (subst (λ b. (start pairs words).pieces b ≡ Some d.0) (sym e.1) d.1)) ∙ d.2))
+      (λ e.
+      let rows = fills_rows (length pairs) first_row pairs (omega arith) in
+      let one = among-pieces_of (rows_from first_row pairs) base c.0 c.1 in
+      let two = among-pieces_of (rows_from first_row pairs) other d.0 d.1 in
+      let apart = fills_apart first_row (first_row + ideal_words (length pairs)) (rows_from first_row pairs) base other c.0 d.0 rows one two e.1 in
+      inr (e.1, subst (λ z. Apart base z other more) c.2 (subst (λ y. Apart base (size_of c.0) other y) d.2 apart)))
+      (eqb_tells base other)
   claimed_apart (event ∷ log) base size other more h (inl c) (inl d) =
       let one = reserve_place log event c.0 base size h.1 c.1 in
       let two = reserve_place log event d.0 other more h.1 d.1 in
@@ -198,13 +196,13 @@ module _ (pairs : List Pair) (words : ℕ) where
       was_held base p e h =
           let here : (state_of pairs words (event ∷ log)).pieces h.0.base ≡ Some p = subst (λ b. (state_of pairs words (event ∷ log)).pieces b ≡ Some p) (sym h.2) e in
           subst (λ b. Claimed log b (size_of p)) h.2
-            (⊎_elim
-              (λ w. ⊎_elim
-                (λ i. absurd (no_piece ((state_of pairs words (event ∷ log)).pieces h.0.base) p (v.unpublished h.0 i) here))
-                (λ there. subst (λ z. Claimed log h.0.base z) (sym (ap size_of (one_piece ((state_of pairs words (event ∷ log)).pieces h.0.base) p there.0 here there.1) ∙ there.2)) (k.held h.0 h.1))
-                w)
-              (λ l. absurd (no_piece ((state_of pairs words (event ∷ log)).pieces h.0.base) p (lost_free log event h.0.base l (s.unpublished h.0 h.1)) here))
-              (m.fate h.0 h.1))
+          (⊎_elim
+          (λ w. ⊎_elim
+          (λ i. absurd (no_piece ((state_of pairs words (event ∷ log)).pieces h.0.base) p (v.unpublished h.0 i) here))
+          (λ there. subst (λ z. Claimed log h.0.base z) (sym (ap size_of (one_piece ((state_of pairs words (event ∷ log)).pieces h.0.base) p there.0 here there.1) ∙ there.2)) (k.held h.0 h.1))
+          w)
+          (λ l. absurd (no_piece ((state_of pairs words (event ∷ log)).pieces h.0.base) p (lost_free log event h.0.base l (s.unpublished h.0 h.1)) here))
+          (m.fate h.0 h.1))
 
   placed_reserve : (log : Log) (c b z : ℕ) → IsPlaced log (state_of pairs words log) → IsPlaced (Reserve c b z ∷ log) (state_of pairs words (Reserve c b z ∷ log))
   placed_reserve log c b z k =
@@ -212,9 +210,9 @@ module _ (pairs : List Pair) (words : ℕ) where
         published = λ base p e. inr (k.published base p e);
         held = λ h i.
             ⊎_elim
-              (λ a. inr (k.held h a))
-              (λ a. ⊎_elim (λ e. inl (c, (refl, ap (λ x. x.base) (sym e), ap (λ x. x.size) (sym e)))) (λ n. absurd n) a)
-              (among-append h (state_of pairs words log).held (record { caller = c; base = b; size = z } ∷ []) i);
+            (λ a. inr (k.held h a))
+            (λ a. ⊎_elim (λ e. inl (c, (refl, ap (λ x. x.base) (sym e), ap (λ x. x.size) (sym e)))) (λ n. absurd n) a)
+            (among-append h (state_of pairs words log).held (record { caller = c; base = b; size = z } ∷ []) i);
       }
 
   -- the rows behind a log from a new table were set aside
@@ -225,14 +223,14 @@ module _ (pairs : List Pair) (words : ℕ) where
       let v = sound (start pairs words) (event ∷ log) (sound_start pairs words) h in
       let k = placed log h.0 in
       ⊎_elim
-        (λ m. placed_moves log event s v k m)
-        (λ r. subst (λ e. IsPlaced (e ∷ log) (state_of pairs words (e ∷ log))) (sym r.is) (placed_reserve log r.caller r.base r.size k))
-        (moves_or_reserves (start pairs words) log event h.1 s)
+      (λ m. placed_moves log event s v k m)
+      (λ r. subst (λ e. IsPlaced (e ∷ log) (state_of pairs words (e ∷ log))) (sym r.is) (placed_reserve log r.caller r.base r.size k))
+      (moves_or_reserves (start pairs words) log event h.1 s)
 
   -- no row lies at the anchor
   pub anchor_free : (log : Log) → EachEnabled (start pairs words) log → (state_of pairs words log).pieces anchor ≡ None
   anchor_free log h =
       absent ((state_of pairs words log).pieces anchor) (λ p e.
-        let inside = claimed_within log anchor (size_of p) h ((placed log h).published anchor p e) in
-        let low = inside.behind_fixed in
-        omega arith)
+      let inside = claimed_within log anchor (size_of p) h ((placed log h).published anchor p e) in
+      let low = inside.behind_fixed in
+      omega arith)

@@ -1,13 +1,11 @@
 -- A table keeps its number of words, and its rows lie within it. Serves each law that reads a row's word as a reference.
-use Rattle.std.proofs.Common.{◌≡◌, ℕ, ◌+◌, ◌<◌, ◌≤◌, List, [], ◌∷◌, Option, Some, None, refl, sym, ap, ◌∙◌, subst, arith}
+use Rattle.std.proofs.Common.{◌≡◌, ℕ, ◌≤◌, List, [], ◌∷◌, Option, Some, None, refl, ◌∙◌, arith}
 use Rattle.ist_core.specs.declared.pairs.Pair.{Pair}
 use Rattle.ist_core.specs.declared.lists.Row.{Row}
-use Rattle.ist_core.specs.declared.lists.HeldRow.{HeldRow}
 use Rattle.ist_core.specs.declared.states.ChangeRow.{ChangeRow}
 use Rattle.ist_core.specs.declared.events.Event.{Event}
 use Rattle.ist_core.specs.declared.events.Event.TheVariants.{Enter, Reserve, Install, Okay, Decide, Resolve, Count, Mark, Pass, Finish, Root, Draw, Place, Lose}
-use Rattle.ist_core.specs.References.{Ref, LeafAt, InnerAt, ChangeAt, RebuildAt, IsGoodBase, ref_of, word_of}
-use Rattle.ist_core.specs.Elements.{Among}
+use Rattle.ist_core.specs.References.{ChangeAt, IsGoodBase, ref_of, word_of}
 use Rattle.ist_core.specs.Pieces.{Piece, as_change, change_of, size_of}
 use Rattle.ist_core.specs.Snapshots.{Snapshot, HoldsRow}
 use Rattle.ist_core.specs.StartLayout.{start}
@@ -15,7 +13,6 @@ use Rattle.ist_core.specs.After.{with_change, installed, resolved}
 use Rattle.ist_core.specs.Logs.{Log, state}
 use Rattle.ist_core.specs.Enabled.{Enabled}
 use Rattle.ist_core.specs.Lawful.{EachEnabled, CanOpen, state_of}
-use Rattle.ist_core.specs.Rows.{IsWithin}
 use Rattle.ist_core.proofs.ReferenceLemmas.{ref_of-word_of}
 use Rattle.ist_core.proofs.SpendingLemmas.{next-state}
 use Rattle.ist_core.proofs.PlaceLemmas.{Claimed, claimed_within, placed}

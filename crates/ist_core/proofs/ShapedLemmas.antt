@@ -1,29 +1,28 @@
 -- The conjunct `shaped`: an inner row has as many slots as its degree says, and one key less. Serves the image law.
-use Rattle.std.proofs.Common.{◌≡◌, ℕ, zero, suc, ◌+◌, ◌≤◌, ◌⊎◌, nat_lt, if◌then◌else◌, true, false, List, [], ◌∷◌, ◌++◌, length, drop, replicate, Option, Some, None, refl, sym, ap, ◌∙◌, subst, inl, inr, ⊎_elim, arith}
+use Rattle.std.proofs.Common.{◌≡◌, ℕ, zero, suc, ◌+◌, nat_lt, if◌then◌else◌, true, false, List, [], ◌∷◌, length, replicate, Some, refl, sym, ap, ◌∙◌, subst, inl, inr, arith}
 use Rattle.std.specs.List.{flat_map}
 use Rattle.ist_core.specs.declared.pairs.Pair.{Pair}
 use Rattle.ist_core.specs.declared.lists.Row.{Row}
 use Rattle.ist_core.specs.declared.states.InnerRow.{InnerRow}
 use Rattle.ist_core.specs.declared.states.ChangeRow.{ChangeRow}
 use Rattle.ist_core.specs.declared.events.Event.{Event}
-use Rattle.ist_core.specs.declared.events.Event.TheVariants.{Install, Root, Place}
 use Rattle.ist_core.specs.Arithmetic.{degree}
 use Rattle.ist_core.specs.RowLayout.{first_row}
 use Rattle.ist_core.specs.References.{Ref, unset_word}
 use Rattle.ist_core.specs.Elements.{Among, Each}
-use Rattle.ist_core.specs.Parts.{parts, first_keys}
-use Rattle.ist_core.specs.Pieces.{Pieces, Piece, Leaf, Inner, Change, Rebuild, with_inners}
+use Rattle.ist_core.specs.Parts.{parts}
+use Rattle.ist_core.specs.Pieces.{Pieces, Piece, Inner, with_inners}
 use Rattle.ist_core.specs.Snapshots.{Snapshot, bases_of}
-use Rattle.ist_core.specs.StartLayout.{start, placed_parts, top_row, rows_within, rows_from}
+use Rattle.ist_core.specs.StartLayout.{start, placed_parts, rows_within, rows_from}
 use Rattle.ist_core.specs.Leaves.{PlacedLeaf}
 use Rattle.ist_core.specs.Ideals.{IsTop, IsIdeal, AreIdeal, of_none, of_one, of_more, no_part, one_part}
-use Rattle.ist_core.specs.Building.{IsRoot, root_whole, root_top, CanRoot, CanPlace}
+use Rattle.ist_core.specs.Building.{IsRoot, root_whole, root_top}
 use Rattle.ist_core.specs.Logs.{Log, state}
-use Rattle.ist_core.specs.Installing.{new_leaf, new_rebuild, pair_row, pair_over, FitsKind, a_put, a_pair, a_remove, a_start, a_finish}
+use Rattle.ist_core.specs.Installing.{pair_row, pair_over, FitsKind, a_put, a_pair, a_remove, a_start, a_finish}
 use Rattle.ist_core.specs.Enabled.{Enabled}
 use Rattle.ist_core.specs.Lawful.{EachEnabled, state_of}
 use Rattle.ist_core.specs.Growing.{Grows, leaf_stays, inner_grows, change_grows, rebuild_grows}
-use Rattle.ist_core.proofs.ElementLemmas.{each_append, each-among, among-append}
+use Rattle.ist_core.proofs.ElementLemmas.{each_append, each-among}
 use Rattle.ist_core.proofs.PieceLemmas.{among-pieces_of}
 use Rattle.ist_core.proofs.SoundLemmas.{sound}
 use Rattle.ist_core.proofs.StartLemmas.{sound_start}
@@ -91,9 +90,10 @@ mutual
   ideal_shaped : (ps : Pieces) (ref : Ref) (leaves : List PlacedLeaf) (above : ℕ) (rows : List ℕ) → IsIdeal ps ref leaves above rows → Each (StandsShaped ps) rows
   ideal_shaped ps _ _ _ _ of_none = tt
   ideal_shaped ps _ _ _ _ (of_one same e) = tt
-  ideal_shaped ps _ _ above _ (of_more {base = base} {leaves = leaves} {rows = rows} r top below) =
-      (record { row = r; published = top.published; shaped = top_shaped ps base r leaves above top (slots_of_parts ps r.slots (parts leaves) base rows below ∙ length-parts leaves) },
-        parts_shaped ps r.slots (parts leaves) base rows below)
+  ideal_shaped ps _ _ above _ (of_more {base = base} {leaves = leaves} {rows = rows} r top below) = (
+    record { row = r; published = top.published; shaped = top_shaped ps base r leaves above top (slots_of_parts ps r.slots (parts leaves) base rows below ∙ length-parts leaves) },
+    parts_shaped ps r.slots (parts leaves) base rows below,
+  )
 
   parts_shaped : (ps : Pieces) (words : List ℕ) (behind : List (List PlacedLeaf)) (above : ℕ) (rows : List ℕ) → AreIdeal ps words behind above rows → Each (StandsShaped ps) rows
   parts_shaped ps _ _ _ _ no_part = tt
@@ -108,7 +108,7 @@ root_shaped : (ps : Pieces) (word k : ℕ) (leaves : List PlacedLeaf) (target : 
 root_shaped ps word k leaves target rows (root_whole ref few e ideal) = ideal_shaped ps ref leaves target rows ideal
 root_shaped ps word k leaves target rows (root_top base row many e top unset one) =
     subst (λ bs. Each (StandsShaped ps) bs) (sym one)
-      (record { row = row; published = top.published; shaped = top_shaped ps base row leaves target top (ap length unset ∙ length_unset (degree (length leaves))) }, tt)
+    (record { row = row; published = top.published; shaped = top_shaped ps base row leaves target top (ap length unset ∙ length_unset (degree (length leaves))) }, tt)
 
 tree_shaped : (ps : Pieces) (rows : List ℕ) (base : ℕ) (p : Piece) → Each (StandsShaped ps) rows → Among base rows → ps base ≡ Some p → IsShaped p
 tree_shaped ps rows base p all i e = let it = each-among (StandsShaped ps) base rows all i in known IsShaped (ps base) p (Inner it.row) e it.published it.shaped
@@ -135,9 +135,10 @@ rows_shaped fuel base [] = tt
 rows_shaped fuel base (pair ∷ []) = (tt, tt)
 rows_shaped zero base (pair ∷ more ∷ pairs) = tt
 rows_shaped (suc fuel) base (pair ∷ more ∷ pairs) =
-    let all = pair ∷ more ∷ pairs in
-    (record { keys = keys_of_parts (λ p. p.key) all (omega arith); slots = slots_of-top_row base all },
-      each-flat_map (λ row. IsShaped row.1) (λ part. rows_within fuel part.0 part.1) (placed_parts base all) (λ part. rows_shaped fuel part.0 part.1))
+    let all = pair ∷ more ∷ pairs in (
+      record { keys = keys_of_parts (λ p. p.key) all (omega arith); slots = slots_of-top_row base all },
+      each-flat_map (λ row. IsShaped row.1) (λ part. rows_within fuel part.0 part.1) (placed_parts base all) (λ part. rows_shaped fuel part.0 part.1),
+    )
 
 -- each row behind a log from a new table has its shape
 pub shaped : (pairs : List Pair) (words : ℕ) (log : Log) → EachEnabled (start pairs words) log → (base : ℕ) (p : Piece) → (state_of pairs words log).pieces base ≡ Some p → IsShaped p

@@ -4,7 +4,7 @@ use Rattle.std.proofs.lemmas.Bool.Decides.{nat_tests, eqb_tells}
 use Rattle.ist_core.specs.declared.states.InnerRow.{InnerRow}
 use Rattle.ist_core.specs.RowLayout.{anchor}
 use Rattle.ist_core.specs.Pieces.{Pieces, Piece, Inner, changed_at, with_slot}
-use Rattle.ist_core.specs.Snapshots.{Snapshot, with_slot_at}
+use Rattle.ist_core.specs.Snapshots.{Snapshot}
 use Rattle.ist_core.specs.Slots.{SlotHolds, in_anchor, in_row}
 use Rattle.ist_core.proofs.RowLemmas.{changed_at-same, changed_at-other}
 
@@ -68,7 +68,7 @@ module _ (t u : Snapshot) (ps : Pieces) (node i new old : ℕ) (none : t.pieces 
   row_now : (r : InnerRow) → t.pieces node ≡ Some (Inner r) → u.pieces node ≡ Some (Inner record r { slots = slice_set r.slots i new })
   row_now r e =
       subst (λ qs. qs node ≡ Some (Inner record r { slots = slice_set r.slots i new })) (sym pieces)
-        (changed_at-same ps node (with_slot i new) ∙ ap (option_map (with_slot i new)) (keeps node (Inner r) e))
+      (changed_at-same ps node (with_slot i new) ∙ ap (option_map (with_slot i new)) (keeps node (Inner r) e))
 
   -- a row elsewhere
   row_still : (at : ℕ) (r : InnerRow) → at ≢ node → t.pieces at ≡ Some (Inner r) → u.pieces at ≡ Some (Inner r)
@@ -97,9 +97,9 @@ module _ (t u : Snapshot) (ps : Pieces) (node i new old : ℕ) (none : t.pieces 
   pub slot_written : (at j w : ℕ) → SlotHolds t at j w → ((w ≡ old) × (at ≡ node) × (j ≡ i)) ⊎ SlotHolds u at j w
   slot_written at j w (in_anchor a b e) =
       ⊎_elim
-        (λ k. inl (slot_once t at j w old none (in_anchor a b e) (moved at j (a ∙ sym k.1) (b ∙ sym (anchor_slot t node i old none here k.1))), a ∙ sym k.1, b ∙ sym (anchor_slot t node i old none here k.1)))
-        (λ k. inr (in_anchor a b (word_still k.1 ∙ e)))
-        (eqb_tells node anchor)
+      (λ k. inl (slot_once t at j w old none (in_anchor a b e) (moved at j (a ∙ sym k.1) (b ∙ sym (anchor_slot t node i old none here k.1))), a ∙ sym k.1, b ∙ sym (anchor_slot t node i old none here k.1)))
+      (λ k. inr (in_anchor a b (word_still k.1 ∙ e)))
+      (eqb_tells node anchor)
     where
       moved : (at j : ℕ) → at ≡ node → j ≡ i → SlotHolds t at j old
       moved at j x y = subst (λ k. SlotHolds t at k old) (sym y) (subst (λ n. SlotHolds t n i old) (sym x) here)
@@ -112,8 +112,8 @@ module _ (t u : Snapshot) (ps : Pieces) (node i new old : ℕ) (none : t.pieces 
           inl (slot_once t at j w old none (in_row r p g) (subst (λ c. SlotHolds t at c old) (sym l.1) (subst (λ n. SlotHolds t n i old) (sym k.1) here)), k.1, l.1)
       both (inl k) (inr l) =
           inr (in_row record r { slots = slice_set r.slots i new }
-            (subst (λ b. u.pieces b ≡ Some (Inner record r { slots = slice_set r.slots i new })) (sym k.1) (row_now r (subst (λ b. t.pieces b ≡ Some (Inner r)) k.1 p)))
-            (get-set_other r.slots i j new l.1 ∙ g))
+          (subst (λ b. u.pieces b ≡ Some (Inner record r { slots = slice_set r.slots i new })) (sym k.1) (row_now r (subst (λ b. t.pieces b ≡ Some (Inner r)) k.1 p)))
+          (get-set_other r.slots i j new l.1 ∙ g))
 
 -- ---- no write to a slot
 

@@ -1,5 +1,5 @@
 -- What each event leaves in the slots and in the rows of changes. Serves the frozen-slot law and the one-parent law.
-use Rattle.std.proofs.Common.{◌≡◌, ◌≢◌, ℕ, ◌+◌, ◌⊎◌, ◌==◌, if◌then◌else◌, Bool, true, false, List, [], ◌∷◌, Option, Some, None, option_map, refl, sym, ap, ◌∙◌, subst, inl, inr, ⊎_elim, arith}
+use Rattle.std.proofs.Common.{◌≡◌, ◌≢◌, ℕ, ◌+◌, ◌⊎◌, ◌==◌, if◌then◌else◌, Bool, true, false, List, ◌∷◌, Some, None, option_map, refl, sym, ap, ◌∙◌, subst, arith}
 use Rattle.std.proofs.lemmas.Bool.Decides.{nat_tests}
 use Rattle.ist_core.specs.declared.lists.Row.{Row}
 use Rattle.ist_core.specs.declared.states.InnerRow.{InnerRow}
@@ -13,10 +13,10 @@ use Rattle.ist_core.specs.Pieces.{Pieces, Piece, Inner, Change, row_at, with_inn
 use Rattle.ist_core.specs.Snapshots.{Snapshot}
 use Rattle.ist_core.specs.After.{after, decision_word, side_of, resolved}
 use Rattle.ist_core.specs.Logs.{Log, state}
-use Rattle.ist_core.specs.Slots.{SlotHolds, in_anchor, in_row}
+use Rattle.ist_core.specs.Slots.{SlotHolds, in_row}
 use Rattle.ist_core.specs.Installing.{CanInstall}
 use Rattle.ist_core.specs.Deciding.{CanResolve}
-use Rattle.ist_core.specs.Building.{CanRoot, CanPlace}
+use Rattle.ist_core.specs.Building.{CanPlace}
 use Rattle.ist_core.specs.Enabled.{Enabled}
 use Rattle.ist_core.proofs.MoveLemmas.{IsSound}
 use Rattle.ist_core.proofs.InstallLemmas.{with_installed}
@@ -33,7 +33,7 @@ install_stands first log caller base rows h =
     let t = state first log in
     let qs = with_installed t.pieces base h.change h.fresh in
     subst (λ xs. (after t (Install caller base xs)).pieces base ≡ Some (Change h.change)) (sym h.rows_are)
-      (changed_at-fixed qs h.change.node base (with_slot h.change.index (word_of (ChangeAt base))) (Change h.change) (installed_stands t.pieces base h.change h.fresh) refl)
+    (changed_at-fixed qs h.change.node base (with_slot h.change.index (word_of (ChangeAt base))) (Change h.change) (installed_stands t.pieces base h.change h.fresh) refl)
 
 -- slot i of the node held the old word, and holds the new one behind it; each other slot holds what it held
 pub record WritesSlot (t u : Snapshot) (node i new old : ℕ) : Type 0 where
@@ -50,11 +50,11 @@ install_writes first log caller base rows h sound free =
     let u = after t (Install caller base (row_at base (Change h.change) ∷ h.fresh)) in
     let word = word_of (ChangeAt base) in
     subst (λ xs. WritesSlot t (after t (Install caller base xs)) h.change.node h.change.index word h.change.from) (sym h.rows_are)
-      record {
-        here = h.in_slot;
-        now = slot_now t u qs h.change.node h.change.index word h.change.from free keeps refl refl h.in_slot;
-        others = slot_written t u qs h.change.node h.change.index word h.change.from free keeps refl refl h.in_slot;
-      }
+    record {
+      here = h.in_slot;
+      now = slot_now t u qs h.change.node h.change.index word h.change.from free keeps refl refl h.in_slot;
+      others = slot_written t u qs h.change.node h.change.index word h.change.from free keeps refl refl h.in_slot;
+    }
 
 pub resolve_writes : (t : Snapshot) (caller base : ℕ) → (h : CanResolve t caller base) → t.pieces anchor ≡ None
     → WritesSlot t (after t (Resolve caller base)) h.change.node h.change.index (side_of h.change) (word_of (ChangeAt base))
@@ -62,11 +62,11 @@ resolve_writes t caller base h free =
     let u = resolved t (Some h.change) in
     let old = word_of (ChangeAt base) in
     subst (λ x. WritesSlot t x h.change.node h.change.index (side_of h.change) old) (sym (rows_resolved t caller base h))
-      record {
-        here = h.in_slot;
-        now = slot_now t u t.pieces h.change.node h.change.index (side_of h.change) old free (λ b p e. e) refl refl h.in_slot;
-        others = slot_written t u t.pieces h.change.node h.change.index (side_of h.change) old free (λ b p e. e) refl refl h.in_slot;
-      }
+    record {
+      here = h.in_slot;
+      now = slot_now t u t.pieces h.change.node h.change.index (side_of h.change) old free (λ b p e. e) refl refl h.in_slot;
+      others = slot_written t u t.pieces h.change.node h.change.index (side_of h.change) old free (λ b p e. e) refl refl h.in_slot;
+    }
 
 -- a word that isn't the anchor's
 pub elsewhere : (node word old : ℕ) → node ≢ anchor → old ≡ (if node == anchor then word else old)
@@ -136,7 +136,7 @@ slot_stays first log (Root caller rebuild word rows) h s none =
     let t = state first log in
     let keeps = (adds-with_inners t caller rows h.held s).keeps in
     slot_kept t (after t (Root caller rebuild word rows)) refl
-      (λ base r e. inner_kept (with_inners t.pieces rows) rebuild (with_root word) (λ x. (x, refl, refl)) base r (keeps base (Inner r) e))
+    (λ base r e. inner_kept (with_inners t.pieces rows) rebuild (with_root word) (λ x. (x, refl, refl)) base r (keeps base (Inner r) e))
 slot_stays first log (Enter caller) h s none = slots_same _ _ refl refl
 slot_stays first log (Reserve caller base size) h s none = slots_same _ _ refl refl
 slot_stays first log (Okay caller change) h s none = slots_same _ _ refl refl
@@ -158,7 +158,7 @@ change_stays first log (Install caller base rows) h s none at r e =
     let qs = with_installed t.pieces base h.change h.fresh in
     let keeps = (adds_install first log caller base h.change h.fresh h.fits (holds_installed first log caller base rows h) s).keeps in
     subst (λ xs. (after t (Install caller base xs)).pieces at ≡ Some (Change r)) (sym h.rows_are)
-      (changed_at-fixed qs h.change.node at (with_slot h.change.index (word_of (ChangeAt base))) (Change r) (keeps at (Change r) e) refl)
+    (changed_at-fixed qs h.change.node at (with_slot h.change.index (word_of (ChangeAt base))) (Change r) (keeps at (Change r) e) refl)
 change_stays first log (Decide caller base said) h s none at r e = absurd none
 change_stays first log (Resolve caller base) h s none at r e =
     let t = state first log in
@@ -173,7 +173,7 @@ change_stays first log (Root caller rebuild word rows) h s none at r e =
 change_stays first log (Place caller rebuild i word rows) h s none at r e =
     let t = state first log in
     subst (λ ps. ps at ≡ Some (Change r)) (sym (rows_placed t caller rebuild i word rows h))
-      (changed_at-fixed (with_inners t.pieces rows) h.root at (with_slot i word) (Change r) ((adds-with_inners t caller rows h.held s).keeps at (Change r) e) refl)
+    (changed_at-fixed (with_inners t.pieces rows) h.root at (with_slot i word) (Change r) ((adds-with_inners t caller rows h.held s).keeps at (Change r) e) refl)
 change_stays first log (Enter caller) h s none at r e = e
 change_stays first log (Reserve caller base size) h s none at r e = e
 change_stays first log (Okay caller change) h s none at r e = e

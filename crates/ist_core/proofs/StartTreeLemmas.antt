@@ -1,18 +1,16 @@
 -- The start layout is one tree, whose rows name what they may. Serves each law from a new table on.
-use Rattle.std.proofs.Common.{◌≡◌, ◌≢◌, ℕ, zero, suc, ◌+◌, ◌<◌, ◌≤◌, ◌⊎◌, ◌==◌, if◌then◌else◌, true, false, List, [], ◌∷◌, ◌++◌, length, take, drop, map, zip, slice_get, Option, Some, None, refl, sym, ap, ◌∙◌, subst, inl, inr, ⊎_elim, arith, length-drop}
+use Rattle.std.proofs.Common.{◌≡◌, ℕ, zero, suc, ◌+◌, ◌<◌, ◌≤◌, ◌⊎◌, List, [], ◌∷◌, ◌++◌, length, take, drop, map, zip, Some, refl, sym, ap, ◌∙◌, subst, inl, inr, ⊎_elim, arith, length-drop}
 use Rattle.std.specs.List.{sum, sum_by, flat_map}
-use Rattle.std.proofs.lemmas.Bool.Decides.{nat_tests, eqb_tells}
 use Rattle.std.proofs.lemmas.List.{length-take-le}
 use Rattle.std.proofs.lemmas.List.Sums.{sum_by-cons}
 use Rattle.ist_core.specs.declared.pairs.Pair.{Pair}
 use Rattle.ist_core.specs.declared.states.LeafRow.{LeafRow}
-use Rattle.ist_core.specs.declared.states.InnerRow.{InnerRow}
-use Rattle.ist_core.specs.Arithmetic.{degree, part_len, part_lens}
+use Rattle.ist_core.specs.Arithmetic.{degree, part_lens}
 use Rattle.ist_core.specs.RowLayout.{first_row, place_limit, inner_words, anchor}
 use Rattle.ist_core.specs.Shapes.{ideal_words}
-use Rattle.ist_core.specs.References.{Ref, Empty, LeafAt, InnerAt, IsGoodBase, IsGoodRef, ref_of, word_of}
-use Rattle.ist_core.specs.Elements.{Among, Each, Distinct}
-use Rattle.ist_core.specs.Parts.{cut, parts}
+use Rattle.ist_core.specs.References.{Ref, InnerAt, IsGoodRef, ref_of, word_of}
+use Rattle.ist_core.specs.Elements.{Among, Distinct}
+use Rattle.ist_core.specs.Parts.{cut}
 use Rattle.ist_core.specs.Pieces.{Pieces, Piece, Leaf, Inner, size_of, with_row}
 use Rattle.ist_core.specs.StartLayout.{start, tree_at, bases_from, placed_parts, top_row, rows_within, rows_from, pieces_of}
 use Rattle.ist_core.specs.Lawful.{CanOpen}
@@ -20,8 +18,7 @@ use Rattle.ist_core.proofs.ElementLemmas.{among-append, among_left, among_right,
 use Rattle.ist_core.proofs.RowLemmas.{with_row-same, with_row-other}
 use Rattle.ist_core.proofs.ReferenceLemmas.{ref_of-word_of}
 use Rattle.ist_core.proofs.ShapeLemmas.{ideal_words_many}
-use Rattle.ist_core.proofs.PartLemmas.{sum-part_lens, part_len-lt, part_len-pos}
-use Rattle.ist_core.proofs.RootLemmas.{least_degree-le}
+use Rattle.ist_core.proofs.PartLemmas.{sum-part_lens, part_len-lt}
 use Rattle.ist_core.proofs.WordLemmas.{ideal_words_one}
 use Rattle.ist_core.proofs.PieceLemmas.{among-pieces_of}
 use Rattle.ist_core.proofs.StepLemmas.{known}
@@ -122,7 +119,7 @@ module _ (ps : Pieces) where
       let more = flat_map (λ part. rows_within fuel part.0 part.1) (zip (bases_from (from + ideal_words n) ns) (cut ns (drop n xs))) in
       let first = each n from (take n xs) (inl refl) long higher (low, omega arith) (λ base p i. stand base p (among_left (base, p) here more i)) in
       let rest = parts_hang fuel (from + ideal_words n) above ns (drop n xs) (omega arith) (omega arith) (omega arith, omega arith)
-          (λ base p i. stand base p (among_right (base, p) here more i)) (λ m base part i e. each m base part (inr i) e) in
+      (λ base p i. stand base p (among_right (base, p) here more i)) (λ m base part i e. each m base part (inr i) e) in
       record {
         rows = first.rows ++ rest.rows;
         trees = one_tree (tree_at from (take n xs)) (ref_of-word_of (tree_at from (take n xs)) (tree_good from (take n xs) (low, omega arith))) first.tree rest.trees;
@@ -130,9 +127,9 @@ module _ (ps : Pieces) where
             (subst (λ to. Between (from + ideal_words n) rest.rows to) (let end : from + ideal_words n + sum_by ideal_words ns ≡ from + sum_by ideal_words (n ∷ ns) = omega arith in end) rest.between);
         each = λ base p i.
             ⊎_elim
-              (λ k. ⊎_elim (λ l. inl l) (λ l. inr (among_left base first.rows rest.rows l)) (first.each base p k))
-              (λ k. ⊎_elim (λ l. inl l) (λ l. inr (among_right base first.rows rest.rows l)) (rest.each base p k))
-              (among-append (base, p) here more i);
+            (λ k. ⊎_elim (λ l. inl l) (λ l. inr (among_left base first.rows rest.rows l)) (first.each base p k))
+            (λ k. ⊎_elim (λ l. inl l) (λ l. inr (among_right base first.rows rest.rows l)) (rest.each base p k))
+            (among-append (base, p) here more i);
       }
 
   -- the rows of a tree are one
@@ -158,15 +155,15 @@ module _ (ps : Pieces) where
       let high = good.1 in
       let below = flat_map (λ part. rows_within fuel part.0 part.1) (placed_parts base all) in
       let hang = parts_hang fuel from base (part_lens n) all (omega arith) (omega arith) (omega arith, omega arith) (λ b p i. stand b p (inr i))
-          (λ m at part i e deeper ok stands.
-            let it = among_part_lens n m i in
-            let less = part_len-lt n it.0 (omega arith) in
-            let is = it.1 in
-            subst (λ k. HangsAs ps (tree_at at part) base (rows_within fuel at part) at (at + ideal_words k)) e
-              (rows_hang fuel at base part (omega arith) deeper (subst (λ k. GoodFrom at (ideal_words k)) (sym e) ok) stands)) in
+      (λ m at part i e deeper ok stands.
+      let it = among_part_lens n m i in
+      let less = part_len-lt n it.0 (omega arith) in
+      let is = it.1 in
+      subst (λ k. HangsAs ps (tree_at at part) base (rows_within fuel at part) at (at + ideal_words k)) e
+      (rows_hang fuel at base part (omega arith) deeper (subst (λ k. GoodFrom at (ideal_words k)) (sym e) ok) stands)) in
       let end : from + sum_by ideal_words (part_lens n) ≡ base + ideal_words n = omega arith in
       top_hangs base above all higher below (stand base (top_row base all) (inl refl)) from (base + ideal_words n) (omega arith)
-        (subst (λ to. HangAs ps (map (λ part. word_of (tree_at part.0 part.1)) (placed_parts base all)) base below from to) end hang)
+      (subst (λ to. HangAs ps (map (λ part. word_of (tree_at part.0 part.1)) (placed_parts base all)) base below from to) end hang)
     where
       top_hangs : (base above : ℕ) (all : List Pair) → above < base → (below : List (ℕ × Piece)) → ps base ≡ Some (top_row base all)
           → (from to : ℕ) → base + 1 ≤ from → HangAs ps (map (λ part. word_of (tree_at part.0 part.1)) (placed_parts base all)) base below from to
@@ -203,10 +200,10 @@ module _ (pairs : List Pair) (words : ℕ) (opens : CanOpen pairs words) where
       record {
         rows = λ base p e.
             ⊎_elim
-              (λ leaf. leaf_names base p leaf)
-              (λ i. let it = each-among (IsTreeRow (start pairs words).pieces) base hang.rows (tree_rows (start pairs words).pieces (tree_at first_row pairs) anchor hang.rows hang.tree) i in
-                known (λ x. RowNames (start pairs words).pieces base x) ((start pairs words).pieces base) p (Inner it.row) e it.published it.names)
-              (hang.each base p (among-pieces_of (rows_from first_row pairs) base p e));
+            (λ leaf. leaf_names base p leaf)
+            (λ i. let it = each-among (IsTreeRow (start pairs words).pieces) base hang.rows (tree_rows (start pairs words).pieces (tree_at first_row pairs) anchor hang.rows hang.tree) i in
+            known (λ x. RowNames (start pairs words).pieces base x) ((start pairs words).pieces base) p (Inner it.row) e it.published it.names)
+            (hang.each base p (among-pieces_of (rows_from first_row pairs) base p e));
         anchor_slot = subst (λ o. SlotNames (start pairs words).pieces anchor 0 o) (sym start_anchor) (tree_slot (start pairs words).pieces (tree_at first_row pairs) anchor hang.rows 0 hang.tree);
       }
     where

@@ -1,27 +1,25 @@
 -- Which word each event finds at its place. Serves the image law.
-use Rattle.std.proofs.Common.{◌≡◌, ◌≢◌, ℕ, ◌+◌, ◌<◌, ◌⊎◌, ◌==◌, if◌then◌else◌, Bool, true, false, List, [], ◌∷◌, slice_get, Option, Some, None, refl, sym, ap, ◌∙◌, subst, inl, inr, ⊎_elim, arith}
+use Rattle.std.proofs.Common.{◌≡◌, ◌≢◌, ℕ, ◌+◌, ◌==◌, if◌then◌else◌, Bool, true, false, List, slice_get, Some, None, refl, sym, ap, ◌∙◌, subst, arith}
 use Rattle.std.proofs.lemmas.Bool.Decides.{nat_tests}
 use Rattle.ist_core.specs.declared.pairs.Pair.{Pair}
-use Rattle.ist_core.specs.declared.lists.Row.{Row}
-use Rattle.ist_core.specs.declared.states.InnerRow.{InnerRow}
 use Rattle.ist_core.specs.declared.events.Event.{Event}
 use Rattle.ist_core.specs.declared.events.Event.TheVariants.{Enter, Reserve, Install, Okay, Decide, Resolve, Count, Mark, Pass, Finish, Root, Draw, Place, Lose}
 use Rattle.ist_core.specs.RowLayout.{anchor, anchor_status_place}
 use Rattle.ist_core.specs.References.{unset_word}
 use Rattle.ist_core.specs.Statuses.{open_word}
-use Rattle.ist_core.specs.Pieces.{Pieces, Piece, Inner, Change, Rebuild, as_inner, as_change, as_rebuild}
+use Rattle.ist_core.specs.Pieces.{Inner, Change, Rebuild, as_inner, as_change, as_rebuild}
 use Rattle.ist_core.specs.Snapshots.{Snapshot}
-use Rattle.ist_core.specs.Images.{StandsAt, IsImage}
+use Rattle.ist_core.specs.Images.{IsImage}
 use Rattle.ist_core.specs.StartLayout.{start}
-use Rattle.ist_core.specs.Logs.{Log, state}
+use Rattle.ist_core.specs.Logs.{Log}
 use Rattle.ist_core.specs.Slots.{SlotHolds, in_row, IsOpen, anchor_is, row_is}
 use Rattle.ist_core.specs.Enabled.{Enabled}
 use Rattle.ist_core.specs.Lawful.{EachEnabled, CanOpen, state_of}
 use Rattle.ist_core.specs.ImageLaws.{IsNoLose, Touches}
-use Rattle.ist_core.specs.Writing.{Touch, touch_of, touch_of_okay, touch_of_resolve, touch_of_count, touch_of_draw, touch_of_place, touch_in_root, place_of_slot, place_of_status}
+use Rattle.ist_core.specs.Writing.{touch_of, touch_of_okay, touch_of_resolve, touch_of_count, touch_of_draw, touch_of_place, touch_in_root, place_of_slot, place_of_status}
 use Rattle.ist_core.proofs.PlaceLemmas.{anchor_free}
 use Rattle.ist_core.proofs.SlotLemmas.{no_row}
-use Rattle.ist_core.proofs.ShapedLemmas.{IsShapedRow, shaped}
+use Rattle.ist_core.proofs.ShapedLemmas.{shaped}
 use Rattle.ist_core.proofs.ImageLemmas.{slot_found}
 use Rattle.ist_core.proofs.ChainLemmas.{on_chain_inner}
 

@@ -1,17 +1,17 @@
 -- Trees of fresh rows: an ideal subtree, the top row of a shared root, and the start layout. Serves the conjunct `names`.
-use Rattle.std.proofs.Common.{◌≡◌, ℕ, zero, suc, ◌<◌, List, [], ◌∷◌, ◌++◌, replicate, length, slice_get, Option, Some, refl, sym, ap, ◌∙◌, subst}
+use Rattle.std.proofs.Common.{◌≡◌, ℕ, zero, suc, ◌<◌, List, [], ◌∷◌, ◌++◌, replicate, length, slice_get, Some, sym, subst}
 use Rattle.ist_core.specs.declared.states.LeafRow.{LeafRow}
 use Rattle.ist_core.specs.declared.states.InnerRow.{InnerRow}
 use Rattle.ist_core.specs.Arithmetic.{degree}
 use Rattle.ist_core.specs.References.{Ref, Empty, Unset, LeafAt, InnerAt, ref_of, unset_word}
-use Rattle.ist_core.specs.Elements.{Among, Each}
-use Rattle.ist_core.specs.Pieces.{Pieces, Piece, Leaf, Inner}
+use Rattle.ist_core.specs.Elements.{Each}
+use Rattle.ist_core.specs.Pieces.{Pieces, Leaf, Inner}
 use Rattle.ist_core.specs.Leaves.{PlacedLeaf}
-use Rattle.ist_core.specs.Ideals.{IsTop, IsIdeal, AreIdeal, of_none, of_one, of_more, no_part, one_part}
+use Rattle.ist_core.specs.Ideals.{IsIdeal, AreIdeal, of_none, of_one, of_more, no_part, one_part}
 use Rattle.ist_core.specs.Building.{IsRoot, root_whole, root_top}
 use Rattle.ist_core.proofs.ElementLemmas.{each_append}
 use Rattle.ist_core.proofs.ReferenceLemmas.{ref_of-unset}
-use Rattle.ist_core.proofs.NamingLemmas.{LeafHere, InnerHere, SlotNames, RowNames, RootNames}
+use Rattle.ist_core.proofs.NamingLemmas.{SlotNames, RowNames, RootNames}
 
 mutual
   -- the reference leads to a tree of published rows with bases above the given one, parents below children: its inner rows
@@ -51,10 +51,12 @@ unset_trees ps above (suc n) = one_tree Unset ref_of-unset tree_unset (unset_tre
 pub root_tree : (ps : Pieces) (word k : ℕ) (leaves : List PlacedLeaf) (target : ℕ) (rows : List ℕ) → IsRoot ps word k leaves target rows
     → (ref : Ref) × (ref_of word ≡ Some ref) × IsTree ps ref target rows
 root_tree ps word k leaves target rows (root_whole ref few e ideal) = (ref, e, tree_of_ideal ps ref leaves target rows ideal)
-root_tree ps word k leaves target rows (root_top base row many e top unset one) =
-    (InnerAt base, e,
-      subst (λ bs. IsTree ps (InnerAt base) target bs) (sym one)
-        (tree_row row top.published top.higher (subst (λ ws. AreTrees ps ws base []) (sym unset) (unset_trees ps base (degree (length leaves))))))
+root_tree ps word k leaves target rows (root_top base row many e top unset one) = (
+  InnerAt base,
+  e,
+  subst (λ bs. IsTree ps (InnerAt base) target bs) (sym one)
+      (tree_row row top.published top.higher (subst (λ ws. AreTrees ps ws base []) (sym unset) (unset_trees ps base (degree (length leaves))))),
+)
 
 -- ---- what the words of a tree name
 

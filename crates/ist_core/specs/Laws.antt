@@ -4,7 +4,6 @@ use Rattle.ist_core.specs.declared.pairs.Pair.{Pair}
 use Rattle.ist_core.specs.declared.lists.HeldRow.{HeldRow}
 use Rattle.ist_core.specs.Elements.{Among}
 use Rattle.ist_core.specs.Pieces.{Piece, size_of}
-use Rattle.ist_core.specs.Snapshots.{Snapshot, HoldsRow}
 use Rattle.ist_core.specs.Logs.{Log, GoesOn, Happened, Loses}
 use Rattle.ist_core.specs.Lawful.{Lawful, state_of}
 use Rattle.ist_core.specs.Rows.{IsSetAside, Apart, IsWithin}
