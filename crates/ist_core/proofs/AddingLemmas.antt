@@ -21,14 +21,17 @@ pub record Adds (ps qs : Pieces) (Born : ℕ → Piece → Type 0) : Type 0 wher
   pub from : (base : ℕ) (p : Piece) → qs base ≡ Some p → (ps base ≡ Some p) ⊎ Born base p
 
 -- no row stands where one is held
-pub held_free : (t : Snapshot) (caller : ℕ) (rows : List Row) → HoldsRows t caller rows → IsSound t → (base : ℕ) → Among base (bases_of rows) → t.pieces base ≡ None
+pub held_free : (t : Snapshot) (caller : ℕ) (rows : List Row) → HoldsRows t caller rows → IsSound t
+    → (base : ℕ) → Among base (bases_of rows) → t.pieces base ≡ None
 held_free t caller rows holds sound base i =
     let it = row_among base rows i in
     subst (λ b. t.pieces b ≡ None) it.2
     (sound.unpublished record { caller = caller; base = it.0.base; size = length it.0.words } (each-among (λ x. HoldsRow t caller x.base (length x.words)) it.0 rows holds it.1))
 
 -- where held rows are published, what stood there stays
-pub held_keeps : (t : Snapshot) (caller : ℕ) (rows : List Row) (qs : Pieces) → HoldsRows t caller rows → IsSound t → ((base : ℕ) → ¬ (Among base (bases_of rows)) → qs base ≡ t.pieces base)
+pub held_keeps : (t : Snapshot) (caller : ℕ) (rows : List Row) (qs : Pieces)
+    → HoldsRows t caller rows → IsSound t
+    → ((base : ℕ) → ¬ (Among base (bases_of rows)) → qs base ≡ t.pieces base)
     → (base : ℕ) (p : Piece) → t.pieces base ≡ Some p → qs base ≡ Some p
 held_keeps t caller rows qs holds sound others base p e = others base (λ i. clash (t.pieces base) (held_free t caller rows holds sound base i) e) ∙ e
   where
@@ -36,7 +39,8 @@ held_keeps t caller rows qs holds sound others base p e = others base (λ i. cla
     clash o a b = cc
 
 -- inner rows that are published
-pub adds-with_inners : (t : Snapshot) (caller : ℕ) (rows : List Row) → HoldsRows t caller rows → IsSound t → Adds t.pieces (with_inners t.pieces rows) (λ base p. Among base (bases_of rows))
+pub adds-with_inners : (t : Snapshot) (caller : ℕ) (rows : List Row) → HoldsRows t caller rows
+    → IsSound t → Adds t.pieces (with_inners t.pieces rows) (λ base p. Among base (bases_of rows))
 adds-with_inners t caller rows holds sound =
     record {
       keeps = held_keeps t caller rows (with_inners t.pieces rows) holds sound (with_inners-other t.pieces rows);
@@ -45,13 +49,17 @@ adds-with_inners t caller rows holds sound =
     }
 
 -- the row is the change's, or one that it publishes beside its own
-abbrev pub IsInstalled : (first : Snapshot) (log : Log) (at : ℕ) (change : ChangeRow) (fresh : List Row) → FitsKind first log change fresh → ℕ → Piece → Type 0
+abbrev pub IsInstalled : (first : Snapshot) (log : Log) (at : ℕ) (change : ChangeRow)
+    (fresh : List Row)
+    → FitsKind first log change fresh → ℕ → Piece → Type 0
 IsInstalled first log at change fresh fits base p = ((base ≡ at) × (p ≡ Change change)) ⊎ IsFresh first log change fresh fits base p
 
 -- the rows of an Install
 pub adds_install : (first : Snapshot) (log : Log) (caller at : ℕ) (change : ChangeRow) (fresh : List Row) (fits : FitsKind first log change fresh)
-    → HoldsRows (state first log) caller (row_at at (Change change) ∷ fresh) → IsSound (state first log)
-    → Adds (state first log).pieces (with_installed (state first log).pieces at change fresh) (IsInstalled first log at change fresh fits)
+    → HoldsRows (state first log) caller (row_at at (Change change) ∷ fresh)
+    → IsSound (state first log)
+    → Adds (state first log).pieces (with_installed (state first log).pieces at change fresh)
+    (IsInstalled first log at change fresh fits)
 adds_install first log caller at change fresh fits holds sound =
     let t = state first log in
     record {

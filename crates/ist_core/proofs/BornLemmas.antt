@@ -22,13 +22,20 @@ use Rattle.ist_core.proofs.StepLemmas.{grow_step, rows_resolved, rows_placed, ho
 
 -- the row is published by the event
 pub data Born (first : Snapshot) (log : Log) (base : ℕ) (p : Piece) : Event → Type 0 where
-  by_install : {caller change : ℕ} {rows : List Row} (h : CanInstall first log caller change rows) → IsInstalled first log change h.change h.fresh h.fits base p → Born first log base p (Install caller change rows)
-  by_root : {caller rebuild word : ℕ} {rows : List Row} → Among base (bases_of rows) → with_inners (state first log).pieces rows base ≡ Some p → Born first log base p (Root caller rebuild word rows)
-  by_place : {caller rebuild i word : ℕ} {rows : List Row} → Among base (bases_of rows) → with_inners (state first log).pieces rows base ≡ Some p → Born first log base p (Place caller rebuild i word rows)
+  by_install : {caller change : ℕ} {rows : List Row} (h : CanInstall first log caller change rows)
+      → IsInstalled first log change h.change h.fresh h.fits base p
+      → Born first log base p (Install caller change rows)
+  by_root : {caller rebuild word : ℕ} {rows : List Row} → Among base (bases_of rows)
+      → with_inners (state first log).pieces rows base ≡ Some p
+      → Born first log base p (Root caller rebuild word rows)
+  by_place : {caller rebuild i word : ℕ} {rows : List Row} → Among base (bases_of rows)
+      → with_inners (state first log).pieces rows base ≡ Some p
+      → Born first log base p (Place caller rebuild i word rows)
 
 -- the row is what became of one that stood there, or of one that is born now
 pub data Comes (first : Snapshot) (log : Log) (event : Event) (base : ℕ) (q : Piece) : Type 0 where
-  from_old : (p : Piece) → (state first log).pieces base ≡ Some p → Grows p q → Comes first log event base q
+  from_old : (p : Piece) → (state first log).pieces base ≡ Some p → Grows p q
+      → Comes first log event base q
   from_born : (p : Piece) → Born first log base p event → Grows p q → Comes first log event base q
 
 -- a row of the state before, where rows grow
@@ -36,28 +43,39 @@ same_piece : (o : Option Piece) (p q : Piece) → o ≡ Some p → o ≡ Some q 
 same_piece o p q e f = cc
 
 -- where one row is changed, what stands comes from what stood
-changed_comes : (first : Snapshot) (log : Log) (event : Event) (at : ℕ) (f : Piece → Piece) → AllGrow (state first log).pieces (state first (event ∷ log)).pieces
-    → (state first (event ∷ log)).pieces ≡ changed_at (state first log).pieces at f → (base : ℕ) (q : Piece) → (state first (event ∷ log)).pieces base ≡ Some q → Comes first log event base q
+changed_comes : (first : Snapshot) (log : Log) (event : Event) (at : ℕ) (f : Piece → Piece)
+    → AllGrow (state first log).pieces (state first (event ∷ log)).pieces
+    → (state first (event ∷ log)).pieces ≡ changed_at (state first log).pieces at f
+    → (base : ℕ) (q : Piece) → (state first (event ∷ log)).pieces base ≡ Some q
+    → Comes first log event base q
 changed_comes first log event at f grows pieces base q e =
     let it = changed_at-some (state first log).pieces at base f q (subst (λ ps. ps base ≡ Some q) pieces e) in
     let on = grows base it.0 it.1 in
     from_old it.0 it.1 (subst (λ x. Grows it.0 x) (same_piece ((state first (event ∷ log)).pieces base) on.0 q on.1 e) on.2)
 
-same_comes : (first : Snapshot) (log : Log) (event : Event) → (state first (event ∷ log)).pieces ≡ (state first log).pieces → (base : ℕ) (q : Piece) → (state first (event ∷ log)).pieces base ≡ Some q → Comes first log event base q
+same_comes : (first : Snapshot) (log : Log) (event : Event)
+    → (state first (event ∷ log)).pieces ≡ (state first log).pieces → (base : ℕ) (q : Piece)
+    → (state first (event ∷ log)).pieces base ≡ Some q → Comes first log event base q
 same_comes first log event pieces base q e = from_old q (subst (λ ps. ps base ≡ Some q) pieces e) (grows_same q)
 
 -- where rows are added and one is changed
-added_comes : (first : Snapshot) (log : Log) (event : Event) (qs : Pieces) (at : ℕ) (f : Piece → Piece) → AllGrow qs (state first (event ∷ log)).pieces
-    → (state first (event ∷ log)).pieces ≡ changed_at qs at f → ((base : ℕ) (p : Piece) → qs base ≡ Some p → ((state first log).pieces base ≡ Some p) ⊎ Born first log base p event)
-    → (base : ℕ) (q : Piece) → (state first (event ∷ log)).pieces base ≡ Some q → Comes first log event base q
+added_comes : (first : Snapshot) (log : Log) (event : Event) (qs : Pieces) (at : ℕ)
+    (f : Piece → Piece)
+    → AllGrow qs (state first (event ∷ log)).pieces
+    → (state first (event ∷ log)).pieces ≡ changed_at qs at f
+    → ((base : ℕ) (p : Piece) → qs base ≡ Some p → ((state first log).pieces base ≡ Some p) ⊎ Born first log base p event)
+    → (base : ℕ) (q : Piece) → (state first (event ∷ log)).pieces base ≡ Some q
+    → Comes first log event base q
 added_comes first log event qs at f grows pieces from base q e =
     let it = changed_at-some qs at base f q (subst (λ ps. ps base ≡ Some q) pieces e) in
     let on = grows base it.0 it.1 in
     let grew = subst (λ x. Grows it.0 x) (same_piece ((state first (event ∷ log)).pieces base) on.0 q on.1 e) on.2 in
     ⊎_elim (λ old. from_old it.0 old grew) (λ born. from_born it.0 born grew) (from base it.0 it.1)
 
-install_comes : (first : Snapshot) (log : Log) (caller change : ℕ) (rows : List Row) → CanInstall first log caller change rows → IsSound (state first log) → (base : ℕ) (q : Piece)
-    → (state first (Install caller change rows ∷ log)).pieces base ≡ Some q → Comes first log (Install caller change rows) base q
+install_comes : (first : Snapshot) (log : Log) (caller change : ℕ) (rows : List Row)
+    → CanInstall first log caller change rows → IsSound (state first log) → (base : ℕ) (q : Piece)
+    → (state first (Install caller change rows ∷ log)).pieces base ≡ Some q
+    → Comes first log (Install caller change rows) base q
 install_comes first log caller change rows h s base q e =
     let t = state first log in
     let qs = with_installed t.pieces change h.change h.fresh in
@@ -71,7 +89,9 @@ install_comes first log caller change rows h s base q e =
     ⊎_elim (λ old. from_old it.0 old grew) (λ born. from_born it.0 (by_install h born) grew) (adds.from base it.0 it.1)
 
 -- each row behind an enabled event comes from somewhere
-pub comes : (first : Snapshot) (log : Log) (event : Event) → Enabled first log event → IsSound (state first log) → (base : ℕ) (q : Piece) → (state first (event ∷ log)).pieces base ≡ Some q → Comes first log event base q
+pub comes : (first : Snapshot) (log : Log) (event : Event) → Enabled first log event
+    → IsSound (state first log) → (base : ℕ) (q : Piece)
+    → (state first (event ∷ log)).pieces base ≡ Some q → Comes first log event base q
 comes first log (Install caller change rows) h s base q e = install_comes first log caller change rows h s base q e
 comes first log (Resolve caller change) h s base q e =
     let t = state first log in

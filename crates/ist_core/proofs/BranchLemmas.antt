@@ -44,24 +44,30 @@ pub record NamesIn (ps : Pieces) (rows : List ℕ) (node i child : ℕ) : Type 0
   pub reads : ref_of word ≡ Some (InnerAt child)
 
 -- the same among other rows
-within : (ps : Pieces) (rows more : List ℕ) (node i child : ℕ) → NamesIn ps rows node i child → Among node more → NamesIn ps more node i child
+within : (ps : Pieces) (rows more : List ℕ) (node i child : ℕ) → NamesIn ps rows node i child
+    → Among node more → NamesIn ps more node i child
 within ps rows more node i child h a = record { among = a; row = h.row; published = h.published; word = h.word; in_slot = h.in_slot; reads = h.reads }
 
-same_read : (o p : Option Ref) (ref : Ref) (child : ℕ) → o ≡ Some ref → o ≡ Some (InnerAt child) → ref ≡ InnerAt child
+same_read : (o p : Option Ref) (ref : Ref) (child : ℕ) → o ≡ Some ref → o ≡ Some (InnerAt child)
+    → ref ≡ InnerAt child
 same_read o p ref child e f = cc
 
 -- the row that a tree hangs by is its first
-named_first : (ps : Pieces) (ref : Ref) (above : ℕ) (rows : List ℕ) (child : ℕ) → IsTree ps ref above rows → ref ≡ InnerAt child → (rest : List ℕ) × (rows ≡ child ∷ rest)
+named_first : (ps : Pieces) (ref : Ref) (above : ℕ) (rows : List ℕ) (child : ℕ)
+    → IsTree ps ref above rows → ref ≡ InnerAt child → (rest : List ℕ) × (rows ≡ child ∷ rest)
 named_first ps _ above _ child tree_none e = absurd (cc)
 named_first ps _ above _ child tree_unset e = absurd (cc)
 named_first ps _ above _ child (tree_leaf r p) e = absurd (cc)
 named_first ps _ above _ child (tree_row {base = base} {rows = rows} r p higher below) e = let same : base ≡ child = cc in (rows, ap (λ x. x ∷ rows) same)
 
-named_among : (ps : Pieces) (ref : Ref) (above : ℕ) (rows : List ℕ) (child : ℕ) → IsTree ps ref above rows → ref ≡ InnerAt child → Among child rows
+named_among : (ps : Pieces) (ref : Ref) (above : ℕ) (rows : List ℕ) (child : ℕ)
+    → IsTree ps ref above rows → ref ≡ InnerAt child → Among child rows
 named_among ps ref above rows child t e = let it = named_first ps ref above rows child t e in subst (λ xs. Among child xs) (sym it.1) (inl refl)
 
 -- what a slot of the list names is one of its rows
-slot_among : (ps : Pieces) (words : List ℕ) (above : ℕ) (rows : List ℕ) (i word child : ℕ) → AreTrees ps words above rows → slice_get words i ≡ Some word → ref_of word ≡ Some (InnerAt child) → Among child rows
+slot_among : (ps : Pieces) (words : List ℕ) (above : ℕ) (rows : List ℕ) (i word child : ℕ)
+    → AreTrees ps words above rows → slice_get words i ≡ Some word
+    → ref_of word ≡ Some (InnerAt child) → Among child rows
 slot_among ps _ above _ i word child no_tree e k = absurd (cc)
 slot_among ps _ above _ zero word child (one_tree {word = w} {here = here} {rest = rest} ref is first more) e k =
     let same : w ≡ word = cc in
@@ -71,7 +77,8 @@ slot_among ps _ above _ (suc i) word child (one_tree {words = words} {here = her
 
 mutual
   -- what a row of a tree names is one of the others
-  below_first : (ps : Pieces) (ref : Ref) (above : ℕ) (rows : List ℕ) (node i child : ℕ) → IsTree ps ref above rows → NamesIn ps rows node i child → Among child (behind rows)
+  below_first : (ps : Pieces) (ref : Ref) (above : ℕ) (rows : List ℕ) (node i child : ℕ)
+      → IsTree ps ref above rows → NamesIn ps rows node i child → Among child (behind rows)
   below_first ps _ above _ node i child tree_none h = absurd h.among
   below_first ps _ above _ node i child tree_unset h = absurd h.among
   below_first ps _ above _ node i child (tree_leaf r p) h = absurd h.among
@@ -83,7 +90,8 @@ mutual
       (λ there. below_all ps r.slots base rows node i child below (within ps (base ∷ rows) rows node i child h there))
       h.among
 
-  below_all : (ps : Pieces) (words : List ℕ) (above : ℕ) (rows : List ℕ) (node i child : ℕ) → AreTrees ps words above rows → NamesIn ps rows node i child → Among child rows
+  below_all : (ps : Pieces) (words : List ℕ) (above : ℕ) (rows : List ℕ) (node i child : ℕ)
+      → AreTrees ps words above rows → NamesIn ps rows node i child → Among child rows
   below_all ps _ above _ node i child no_tree h = absurd h.among
   below_all ps _ above _ node i child (one_tree {words = words} {here = here} {rest = rest} ref is first more) h =
       ⊎_elim
@@ -92,14 +100,18 @@ mutual
       (among-append node here rest h.among)
 
 -- the row that a tree hangs by is named by none of its rows
-first_apart : (ps : Pieces) (ref : Ref) (above : ℕ) (rows : List ℕ) (node i child : ℕ) → IsTree ps ref above rows → Distinct rows → ref ≡ InnerAt child → NamesIn ps rows node i child → ⊥
+first_apart : (ps : Pieces) (ref : Ref) (above : ℕ) (rows : List ℕ) (node i child : ℕ)
+    → IsTree ps ref above rows → Distinct rows → ref ≡ InnerAt child → NamesIn ps rows node i child
+    → ⊥
 first_apart ps ref above rows node i child t d e h =
     let it = named_first ps ref above rows child t e in
     let once : Distinct (child ∷ it.0) = subst (λ xs. Distinct xs) it.1 d in
     once.0 (subst (λ xs. Among child (behind xs)) it.1 (below_first ps ref above rows node i child t h))
 
 -- nor is what a slot of the list names
-slots_apart : (ps : Pieces) (words : List ℕ) (above : ℕ) (rows : List ℕ) (j word node i child : ℕ) → AreTrees ps words above rows → Distinct rows → slice_get words j ≡ Some word → ref_of word ≡ Some (InnerAt child)
+slots_apart : (ps : Pieces) (words : List ℕ) (above : ℕ) (rows : List ℕ) (j word node i child : ℕ)
+    → AreTrees ps words above rows → Distinct rows → slice_get words j ≡ Some word
+    → ref_of word ≡ Some (InnerAt child)
     → NamesIn ps rows node i child → ⊥
 slots_apart ps _ above _ j word node i child no_tree d e k h = absurd h.among
 slots_apart ps _ above _ zero word node i child (one_tree {word = w} {words = words} {here = here} {rest = rest} ref is first more) d e k h =
@@ -116,7 +128,9 @@ slots_apart ps _ above _ (suc j) word node i child (one_tree {words = words} {he
     (among-append node here rest h.among)
 
 -- two slots of the list name different rows
-slots_once : (ps : Pieces) (words : List ℕ) (above : ℕ) (rows : List ℕ) (i w j v child : ℕ) → AreTrees ps words above rows → Distinct rows → slice_get words i ≡ Some w → ref_of w ≡ Some (InnerAt child)
+slots_once : (ps : Pieces) (words : List ℕ) (above : ℕ) (rows : List ℕ) (i w j v child : ℕ)
+    → AreTrees ps words above rows → Distinct rows → slice_get words i ≡ Some w
+    → ref_of w ≡ Some (InnerAt child)
     → slice_get words j ≡ Some v → ref_of v ≡ Some (InnerAt child) → i ≡ j
 slots_once ps _ above _ i w j v child no_tree d e k f l = absurd (cc)
 slots_once ps _ above _ zero w zero v child (one_tree ref is first more) d e k f l = refl
@@ -131,7 +145,9 @@ slots_once ps _ above _ (suc i) w (suc j) v child (one_tree {words = words} {her
 
 mutual
   -- two slots of rows of a tree that name one row are one slot
-  named_once : (ps : Pieces) (ref : Ref) (above : ℕ) (rows : List ℕ) (n i k j child : ℕ) → IsTree ps ref above rows → Distinct rows → NamesIn ps rows n i child → NamesIn ps rows k j child → (n ≡ k) × (i ≡ j)
+  named_once : (ps : Pieces) (ref : Ref) (above : ℕ) (rows : List ℕ) (n i k j child : ℕ)
+      → IsTree ps ref above rows → Distinct rows → NamesIn ps rows n i child
+      → NamesIn ps rows k j child → (n ≡ k) × (i ≡ j)
   named_once ps _ above _ n i k j child tree_none d h l = absurd h.among
   named_once ps _ above _ n i k j child tree_unset d h l = absurd h.among
   named_once ps _ above _ n i k j child (tree_leaf r p) d h l = absurd h.among
@@ -150,7 +166,9 @@ mutual
       l.among)
       h.among
 
-  named_once_all : (ps : Pieces) (words : List ℕ) (above : ℕ) (rows : List ℕ) (n i k j child : ℕ) → AreTrees ps words above rows → Distinct rows → NamesIn ps rows n i child → NamesIn ps rows k j child → (n ≡ k) × (i ≡ j)
+  named_once_all : (ps : Pieces) (words : List ℕ) (above : ℕ) (rows : List ℕ) (n i k j child : ℕ)
+      → AreTrees ps words above rows → Distinct rows → NamesIn ps rows n i child
+      → NamesIn ps rows k j child → (n ≡ k) × (i ≡ j)
   named_once_all ps _ above _ n i k j child no_tree d h l = absurd h.among
   named_once_all ps _ above _ n i k j child (one_tree {words = words} {here = here} {rest = rest} ref is first more) d h l =
       let left : (x y : ℕ) → NamesIn ps here x y child → Among child here = λ x y g. among_behind here child (below_first ps ref above here x y child first g) in
@@ -173,13 +191,18 @@ abbrev pub HangsIn : Pieces → ℕ → ℕ → Ref → List ℕ → ℕ → ℕ
 HangsIn ps parent at ref rows node i child = ((node ≡ parent) × (i ≡ at) × (ref ≡ InnerAt child)) ⊎ NamesIn ps rows node i child
 
 -- what hangs in a tree is one of its rows
-pub hangs_among : (ps : Pieces) (parent at : ℕ) (ref : Ref) (above : ℕ) (rows : List ℕ) (node i child : ℕ) → IsTree ps ref above rows → HangsIn ps parent at ref rows node i child → Among child rows
+pub hangs_among : (ps : Pieces) (parent at : ℕ) (ref : Ref) (above : ℕ) (rows : List ℕ)
+    (node i child : ℕ)
+    → IsTree ps ref above rows → HangsIn ps parent at ref rows node i child → Among child rows
 hangs_among ps parent at ref above rows node i child t (inl h) = named_among ps ref above rows child t h.2
 hangs_among ps parent at ref above rows node i child t (inr h) = among_behind rows child (below_first ps ref above rows node i child t h)
 
 -- and hangs in one slot
-pub hangs_once : (ps : Pieces) (parent at : ℕ) (ref : Ref) (above : ℕ) (rows : List ℕ) (n i k j child : ℕ) → IsTree ps ref above rows → Distinct rows
-    → HangsIn ps parent at ref rows n i child → HangsIn ps parent at ref rows k j child → (n ≡ k) × (i ≡ j)
+pub hangs_once : (ps : Pieces) (parent at : ℕ) (ref : Ref) (above : ℕ) (rows : List ℕ)
+    (n i k j child : ℕ)
+    → IsTree ps ref above rows → Distinct rows
+    → HangsIn ps parent at ref rows n i child → HangsIn ps parent at ref rows k j child
+    → (n ≡ k) × (i ≡ j)
 hangs_once ps parent at ref above rows n i k j child t d (inl h) (inl l) = (h.0 ∙ sym l.0, h.1 ∙ sym l.1)
 hangs_once ps parent at ref above rows n i k j child t d (inl h) (inr l) = absurd (first_apart ps ref above rows k j child t d h.2 l)
 hangs_once ps parent at ref above rows n i k j child t d (inr h) (inl l) = absurd (first_apart ps ref above rows n i child t d l.2 h)

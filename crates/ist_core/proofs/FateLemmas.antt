@@ -28,13 +28,15 @@ record IsGone (t : Snapshot) (base : ℕ) : Type 0 where
   used : base < t.next
 
 -- the caller holds a row at each of the bases that it loses
-held_at : (t : Snapshot) (caller base : ℕ) (bases sizes : List ℕ) → HoldsSizes t caller bases sizes → Among base bases → (size : ℕ) × HoldsRow t caller base size
+held_at : (t : Snapshot) (caller base : ℕ) (bases sizes : List ℕ) → HoldsSizes t caller bases sizes
+    → Among base bases → (size : ℕ) × HoldsRow t caller base size
 held_at t caller base [] sizes h i = absurd i
 held_at t caller base (b ∷ bases) [] h i = absurd h
 held_at t caller base (b ∷ bases) (z ∷ sizes) h (inl e) = (z, subst (λ x. HoldsRow t caller x z) (sym e) h.0)
 held_at t caller base (b ∷ bases) (z ∷ sizes) h (inr i) = held_at t caller base bases sizes h.1 i
 
-lost_held : (t : Snapshot) (log : Log) (caller base : ℕ) (bases : List ℕ) → CanLose t log caller bases → Among base bases → (size : ℕ) × HoldsRow t caller base size
+lost_held : (t : Snapshot) (log : Log) (caller base : ℕ) (bases : List ℕ)
+    → CanLose t log caller bases → Among base bases → (size : ℕ) × HoldsRow t caller base size
 lost_held t log caller base bases h i = ⊎_elim pair build h.cause
   where
     pair : LosesPair t caller bases → (size : ℕ) × HoldsRow t caller base size
@@ -44,7 +46,8 @@ lost_held t log caller base bases h i = ⊎_elim pair build h.cause
     build c = held_at t caller base bases c.sizes c.held i
 
 -- a row that is lost now is gone
-gone_now : (first : Snapshot) (log : Log) (event : Event) (base : ℕ) → Enabled first log event → IsSound (state first log) → Loses base event → IsGone (state first (event ∷ log)) base
+gone_now : (first : Snapshot) (log : Log) (event : Event) (base : ℕ) → Enabled first log event
+    → IsSound (state first log) → Loses base event → IsGone (state first (event ∷ log)) base
 gone_now first log (Lose caller bases) base h s l =
     let it = lost_held (state first log) log caller base bases h l in
     let row : HeldRow = record { caller = caller; base = base; size = it.0 } in
@@ -68,7 +71,8 @@ gone_now first log (Draw c rebuild part) base h s l = absurd l
 gone_now first log (Place c rebuild i word rows) base h s l = absurd l
 
 -- what is gone stays gone
-gone_moves : (t u : Snapshot) (event : Event) (base : ℕ) → Moves t u event → IsGone t base → IsGone u base
+gone_moves : (t u : Snapshot) (event : Event) (base : ℕ) → Moves t u event → IsGone t base
+    → IsGone u base
 gone_moves t u event base m g =
     record {
       unpublished = absent (u.pieces base) (λ p e.
@@ -77,7 +81,10 @@ gone_moves t u event base m g =
       used = subst (λ n. base < n) (sym m.next) g.used;
     }
 
-gone_reserve : (first : Snapshot) (log : Log) (event : Event) (r : IsReserve first log event) (base : ℕ) → IsGone (state first log) base → IsGone (after (state first log) (Reserve r.caller r.base r.size)) base
+gone_reserve : (first : Snapshot) (log : Log) (event : Event) (r : IsReserve first log event)
+    (base : ℕ)
+    → IsGone (state first log) base
+    → IsGone (after (state first log) (Reserve r.caller r.base r.size)) base
 gone_reserve first log event r base g =
     let is = r.can.base_is in
     let low = g.used in
@@ -91,7 +98,8 @@ gone_reserve first log event r base g =
       used = omega arith;
     }
 
-gone : (first : Snapshot) (log : Log) (base : ℕ) → IsSound first → EachEnabled first log → Happened (Loses base) log → IsGone (state first log) base
+gone : (first : Snapshot) (log : Log) (base : ℕ) → IsSound first → EachEnabled first log
+    → Happened (Loses base) log → IsGone (state first log) base
 gone first [] base s h l = absurd l
 gone first (event ∷ log) base s h (inl now) = gone_now first log event base h.1 (sound first log s h.0) now
 gone first (event ∷ log) base s h (inr before) =
@@ -101,21 +109,25 @@ gone first (event ∷ log) base s h (inr before) =
     (λ r. subst (λ e. IsGone (after (state first log) e) base) (sym r.is) (gone_reserve first log event r base g))
     (moves_or_reserves first log event h.1 (sound first log s h.0))
 
-pub lost_unpublished : (pairs : List Pair) (words : ℕ) (log : Log) → Lawful pairs words log → (base : ℕ) → Happened (Loses base) log → (state_of pairs words log).pieces base ≡ None
+pub lost_unpublished : (pairs : List Pair) (words : ℕ) (log : Log) → Lawful pairs words log
+    → (base : ℕ) → Happened (Loses base) log → (state_of pairs words log).pieces base ≡ None
 lost_unpublished pairs words log h base l = (gone (start pairs words) log base (sound_start pairs words) h.enabled l).unpublished
 
-pub lost_unheld : (pairs : List Pair) (words : ℕ) (log : Log) → Lawful pairs words log → (h : HeldRow) → Happened (Loses h.base) log → ¬ (Among h (state_of pairs words log).held)
+pub lost_unheld : (pairs : List Pair) (words : ℕ) (log : Log) → Lawful pairs words log
+    → (h : HeldRow) → Happened (Loses h.base) log → ¬ (Among h (state_of pairs words log).held)
 lost_unheld pairs words log lawful h l i = (gone (start pairs words) log h.base (sound_start pairs words) lawful.enabled l).unheld h i refl
 
 -- ---- rows grow
 
 -- a prefix of a lawful log is lawful
-pub enabled_before : (first : Snapshot) (earlier log : Log) → GoesOn earlier log → EachEnabled first log → EachEnabled first earlier
+pub enabled_before : (first : Snapshot) (earlier log : Log) → GoesOn earlier log
+    → EachEnabled first log → EachEnabled first earlier
 enabled_before first earlier _ same_log h = h
 enabled_before first earlier _ (one_event {log = log} event g) h = enabled_before first earlier log g h.0
 
 -- rows grow from a prefix on
-pub grow_between : (pairs : List Pair) (words : ℕ) (earlier log : Log) → EachEnabled (start pairs words) log → GoesOn earlier log
+pub grow_between : (pairs : List Pair) (words : ℕ) (earlier log : Log)
+    → EachEnabled (start pairs words) log → GoesOn earlier log
     → AllGrow (state_of pairs words earlier).pieces (state_of pairs words log).pieces
 grow_between pairs words earlier _ h same_log = all_grow_same _
 grow_between pairs words earlier _ h (one_event {log = log} event g) =

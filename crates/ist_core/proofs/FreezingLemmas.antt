@@ -51,15 +51,18 @@ closed_on old new (is_finished k e f) ne = λ g. omega arith
 closed_on old new (is_closed k e f) ne = absurd (ne e)
 
 -- a closed node isn't open
-not_open : (t : Snapshot) (node : ℕ) (r : InnerRow) → t.pieces anchor ≡ None → t.pieces node ≡ Some (Inner r) → r.status ≢ open_word → ¬ (IsOpen t node)
+not_open : (t : Snapshot) (node : ℕ) (r : InnerRow) → t.pieces anchor ≡ None
+    → t.pieces node ≡ Some (Inner r) → r.status ≢ open_word → ¬ (IsOpen t node)
 not_open t node r free e closed (anchor_is a) = no_row t.pieces node r free a e
 not_open t node r free e closed (row_is s p o) = closed (ap (λ x. x.status) (same_inner (t.pieces node) r s e p) ∙ o)
 
 -- a change that wasn't decided yes leaves `from`
-pub side_not_yes : (change : ChangeRow) → change.decision ≢ decided_yes → side_of change ≡ change.from
+pub side_not_yes : (change : ChangeRow) → change.decision ≢ decided_yes
+    → side_of change ≡ change.from
 side_not_yes change ne = grind (arith, nat_tests)
 
-pub same_change : (o : Option Piece) (r s : ChangeRow) → o ≡ Some (Change r) → o ≡ Some (Change s) → r ≡ s
+pub same_change : (o : Option Piece) (r s : ChangeRow) → o ≡ Some (Change r) → o ≡ Some (Change s)
+    → r ≡ s
 same_change o r s e f = cc
 
 -- the event keeps the word of a slot
@@ -67,7 +70,9 @@ abbrev Keeping : Snapshot → Log → Event → Snapshot → ℕ → ℕ → ℕ
 Keeping t log event u node i word = KeepsWord t log node i word → KeepsWord u (event ∷ log) node i word
 
 -- a change in vain stays one, where its row, its slot and its Okays stay
-vain_on : (t u : Snapshot) (log : Log) (event : Event) (node i word : ℕ) (h : HasVainChange t log node i word) → u.pieces h.base ≡ Some (Change h.change) → SlotHolds u node i (word_of (ChangeAt h.base))
+vain_on : (t u : Snapshot) (log : Log) (event : Event) (node i word : ℕ)
+    (h : HasVainChange t log node i word)
+    → u.pieces h.base ≡ Some (Change h.change) → SlotHolds u node i (word_of (ChangeAt h.base))
     → ¬ (Okays h.base event) → KeepsWord u (event ∷ log) node i word
 vain_on t u log event node i word h there slot none =
     holds_change record {
@@ -83,19 +88,25 @@ vain_on t u log event node i word h there slot none =
 -- ---- each event
 
 -- an event that writes no slot, and is neither an Okay nor a Decide
-keeps_quiet : (first : Snapshot) (log : Log) (event : Event) → Enabled first log event → IsSound (state first log) → WritesNoSlot event → IsNoDecide event → ((base : ℕ) → ¬ (Okays base event))
-    → (node i word : ℕ) → Keeping (state first log) log event (state first (event ∷ log)) node i word
+keeps_quiet : (first : Snapshot) (log : Log) (event : Event) → Enabled first log event
+    → IsSound (state first log) → WritesNoSlot event → IsNoDecide event
+    → ((base : ℕ) → ¬ (Okays base event))
+    → (node i word : ℕ)
+    → Keeping (state first log) log event (state first (event ∷ log)) node i word
 keeps_quiet first log event h s none still unseen node i word (holds_it k) = holds_it (slot_stays first log event h s none node i word k)
 keeps_quiet first log event h s none still unseen node i word (holds_change v) =
     vain_on (state first log) (state first (event ∷ log)) log event node i word v
     (change_stays first log event h s still v.base v.change v.published) (slot_stays first log event h s none node i (word_of (ChangeAt v.base)) v.in_slot) (unseen v.base)
 
 -- a change with an Okay is published
-okay_published : (first : Snapshot) (log : Log) (base : ℕ) → IsSound first → EachEnabled first log → Happened (Okays base) log → (r : ChangeRow) × ((state first log).pieces base ≡ Some (Change r))
+okay_published : (first : Snapshot) (log : Log) (base : ℕ) → IsSound first → EachEnabled first log
+    → Happened (Okays base) log
+    → (r : ChangeRow) × ((state first log).pieces base ≡ Some (Change r))
 okay_published first [] base s h k = absurd k
 okay_published first (event ∷ log) base s h (inl now) = at event h.1 now
   where
-    at : (e : Event) → Enabled first log e → Okays base e → (r : ChangeRow) × ((state first (e ∷ log)).pieces base ≡ Some (Change r))
+    at : (e : Event) → Enabled first log e → Okays base e
+        → (r : ChangeRow) × ((state first (e ∷ log)).pieces base ≡ Some (Change r))
     at (Okay caller change) can is = (can.change, subst (λ b. (state first log).pieces b ≡ Some (Change can.change)) is can.pending.published)
     at (Enter caller) can is = absurd is
     at (Reserve caller b size) can is = absurd is
@@ -124,17 +135,24 @@ module _ (pairs : List Pair) (words : ℕ) (opens : CanOpen pairs words) (log : 
   free_there = anchor_free pairs words log enabled
 
   -- the word of a published change is read as it
-  pub change_read : (base : ℕ) (r : ChangeRow) → (state_of pairs words log).pieces base ≡ Some (Change r) → ref_of (word_of (ChangeAt base)) ≡ Some (ChangeAt base)
+  pub change_read : (base : ℕ) (r : ChangeRow)
+      → (state_of pairs words log).pieces base ≡ Some (Change r)
+      → ref_of (word_of (ChangeAt base)) ≡ Some (ChangeAt base)
   change_read base r e = ref_of-change base (published_good pairs words opens log base (Change r) enabled e)
 
   -- an event that decides nothing leaves a change in vain whose slot it leaves
-  vain_stays : (event : Event) → Enabled (start pairs words) log event → IsNoDecide event → (node i word : ℕ) (v : HasVainChange (state_of pairs words log) log node i word) → ¬ (Okays v.base event)
-      → SlotHolds (state_of pairs words (event ∷ log)) node i (word_of (ChangeAt v.base)) → KeepsWord (state_of pairs words (event ∷ log)) (event ∷ log) node i word
+  vain_stays : (event : Event) → Enabled (start pairs words) log event → IsNoDecide event
+      → (node i word : ℕ) (v : HasVainChange (state_of pairs words log) log node i word)
+      → ¬ (Okays v.base event)
+      → SlotHolds (state_of pairs words (event ∷ log)) node i (word_of (ChangeAt v.base))
+      → KeepsWord (state_of pairs words (event ∷ log)) (event ∷ log) node i word
   vain_stays event h still node i word v none slot =
       vain_on (state_of pairs words log) (state_of pairs words (event ∷ log)) log event node i word v (change_stays (start pairs words) log event h rows_sound still v.base v.change v.published) slot none
 
-  keeps_install : (caller base : ℕ) (rows : List Row) → CanInstall (start pairs words) log caller base rows → (node i word : ℕ)
-      → Keeping (state_of pairs words log) log (Install caller base rows) (state_of pairs words (Install caller base rows ∷ log)) node i word
+  keeps_install : (caller base : ℕ) (rows : List Row)
+      → CanInstall (start pairs words) log caller base rows → (node i word : ℕ)
+      → Keeping (state_of pairs words log) log (Install caller base rows)
+      (state_of pairs words (Install caller base rows ∷ log)) node i word
   keeps_install caller base rows h node i word (holds_it slot) =
       let u = state_of pairs words (Install caller base rows ∷ log) in
       let writes = install_writes (start pairs words) log caller base rows h rows_sound free_there in
@@ -161,8 +179,10 @@ module _ (pairs : List Pair) (words : ℕ) (opens : CanOpen pairs words) (log : 
       (λ stays. vain_stays (Install caller base rows) h tt node i word v (λ n. n) stays)
       (writes.others node i (word_of (ChangeAt v.base)) v.in_slot)
 
-  keeps_resolve : (caller base : ℕ) → CanResolve (state_of pairs words log) caller base → (node i word : ℕ) → ((change : ℕ) → ref_of word ≢ Some (ChangeAt change))
-      → Keeping (state_of pairs words log) log (Resolve caller base) (state_of pairs words (Resolve caller base ∷ log)) node i word
+  keeps_resolve : (caller base : ℕ) → CanResolve (state_of pairs words log) caller base
+      → (node i word : ℕ) → ((change : ℕ) → ref_of word ≢ Some (ChangeAt change))
+      → Keeping (state_of pairs words log) log (Resolve caller base)
+      (state_of pairs words (Resolve caller base ∷ log)) node i word
   keeps_resolve caller base h node i word plain (holds_it slot) =
       let writes = resolve_writes (state_of pairs words log) caller base h free_there in
       ⊎_elim
@@ -182,8 +202,11 @@ module _ (pairs : List Pair) (words : ℕ) (opens : CanOpen pairs words) (log : 
       (λ stays. vain_stays (Resolve caller base) h tt node i word v (λ n. n) stays)
       (writes.others node i (word_of (ChangeAt v.base)) v.in_slot)
 
-  keeps_place : (caller rebuild j new : ℕ) (rows : List Row) → CanPlace (state_of pairs words log) caller rebuild j new rows → (node i word : ℕ) → word ≢ unset_word
-      → Keeping (state_of pairs words log) log (Place caller rebuild j new rows) (state_of pairs words (Place caller rebuild j new rows ∷ log)) node i word
+  keeps_place : (caller rebuild j new : ℕ) (rows : List Row)
+      → CanPlace (state_of pairs words log) caller rebuild j new rows → (node i word : ℕ)
+      → word ≢ unset_word
+      → Keeping (state_of pairs words log) log (Place caller rebuild j new rows)
+      (state_of pairs words (Place caller rebuild j new rows ∷ log)) node i word
   keeps_place caller rebuild j new rows h node i word set (holds_it slot) =
       let writes = place_writes (state_of pairs words log) caller rebuild j new rows h rows_sound free_there in
       ⊎_elim (λ w. absurd (set w.0)) (λ stays. holds_it stays) (writes.others node i word slot)
@@ -194,8 +217,10 @@ module _ (pairs : List Pair) (words : ℕ) (opens : CanOpen pairs words) (log : 
       (λ stays. vain_stays (Place caller rebuild j new rows) h tt node i word v (λ n. n) stays)
       (writes.others node i (word_of (ChangeAt v.base)) v.in_slot)
 
-  keeps_decide : (caller base : ℕ) (said : Bool) → CanDecide (state_of pairs words log) log caller base said → (node i word : ℕ)
-      → Keeping (state_of pairs words log) log (Decide caller base said) (state_of pairs words (Decide caller base said ∷ log)) node i word
+  keeps_decide : (caller base : ℕ) (said : Bool)
+      → CanDecide (state_of pairs words log) log caller base said → (node i word : ℕ)
+      → Keeping (state_of pairs words log) log (Decide caller base said)
+      (state_of pairs words (Decide caller base said ∷ log)) node i word
   keeps_decide caller base said h node i word (holds_it slot) = holds_it (slot_stays (start pairs words) log (Decide caller base said) h rows_sound tt node i word slot)
   keeps_decide caller base true h node i word (holds_change v) =
       let t = state_of pairs words log in
@@ -224,8 +249,11 @@ module _ (pairs : List Pair) (words : ℕ) (opens : CanOpen pairs words) (log : 
       (eqb_tells v.base base)
 
   -- the change that stands in a slot is one of this slot, so that its node isn't open
-  keeps_okay : (caller base : ℕ) → CanOkay (state_of pairs words log) caller base → (node i word : ℕ) (r : InnerRow) → (state_of pairs words log).pieces node ≡ Some (Inner r) → r.status ≢ open_word
-      → Keeping (state_of pairs words log) log (Okay caller base) (state_of pairs words log) node i word
+  keeps_okay : (caller base : ℕ) → CanOkay (state_of pairs words log) caller base
+      → (node i word : ℕ) (r : InnerRow) → (state_of pairs words log).pieces node ≡ Some (Inner r)
+      → r.status ≢ open_word
+      → Keeping (state_of pairs words log) log (Okay caller base)
+      (state_of pairs words log) node i word
   keeps_okay caller base h node i word r e closed (holds_it slot) = holds_it slot
   keeps_okay caller base h node i word r e closed (holds_change v) =
       let t = state_of pairs words log in
@@ -236,8 +264,10 @@ module _ (pairs : List Pair) (words : ℕ) (opens : CanOpen pairs words) (log : 
       not_open t node r free_there e closed (subst (λ n. IsOpen t n) (ap (λ c. c.node) row ∙ here.node_is) h.node_open))
 
   -- an event keeps the word of a closed slot, which is neither a change nor Unset
-  pub closed_step : (event : Event) → Enabled (start pairs words) log event → (node i word : ℕ) → word ≢ unset_word → ((change : ℕ) → ref_of word ≢ Some (ChangeAt change))
-      → IsClosedOver (state_of pairs words log) log node i word → IsClosedOver (state_of pairs words (event ∷ log)) (event ∷ log) node i word
+  pub closed_step : (event : Event) → Enabled (start pairs words) log event → (node i word : ℕ)
+      → word ≢ unset_word → ((change : ℕ) → ref_of word ≢ Some (ChangeAt change))
+      → IsClosedOver (state_of pairs words log) log node i word
+      → IsClosedOver (state_of pairs words (event ∷ log)) (event ∷ log) node i word
   closed_step event h node i word set plain c =
       let it = inner_there (state_of pairs words log).pieces (state_of pairs words (event ∷ log)).pieces (grow_step (start pairs words) log event h rows_sound) node c.row c.published in
       record {
@@ -247,7 +277,9 @@ module _ (pairs : List Pair) (words : ℕ) (opens : CanOpen pairs words) (log : 
         keeps = at event h c.keeps;
       }
     where
-      at : (event : Event) → Enabled (start pairs words) log event → Keeping (state_of pairs words log) log event (state_of pairs words (event ∷ log)) node i word
+      at : (event : Event) → Enabled (start pairs words) log event
+          → Keeping (state_of pairs words log) log event
+          (state_of pairs words (event ∷ log)) node i word
       at (Install caller base rows) h = keeps_install caller base rows h node i word
       at (Resolve caller base) h = keeps_resolve caller base h node i word plain
       at (Place caller rebuild j new rows) h = keeps_place caller rebuild j new rows h node i word set

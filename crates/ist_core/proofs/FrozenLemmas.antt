@@ -26,7 +26,8 @@ record IsPlain (word : ℕ) : Type 0 where
 abbrev PassedBy : Snapshot → ℕ → ℕ → ℕ → Type 0
 PassedBy t node i word = (caller : ℕ) × CanPass t caller node i word
 
-passed_now : (first : Snapshot) (log : Log) (event : Event) (node i word : ℕ) → Enabled first log event → Passes node i word event → PassedBy (state first log) node i word
+passed_now : (first : Snapshot) (log : Log) (event : Event) (node i word : ℕ)
+    → Enabled first log event → Passes node i word event → PassedBy (state first log) node i word
 passed_now first log (Pass caller n j w) node i word h is =
     (caller, subst (λ x. CanPass (state first log) caller node i x) is.2 (subst (λ x. CanPass (state first log) caller node x w) is.1 (subst (λ x. CanPass (state first log) caller x j w) is.0 h)))
 passed_now first log (Enter caller) node i word h is = absurd is
@@ -44,7 +45,8 @@ passed_now first log (Place caller rebuild j w rows) node i word h is = absurd i
 passed_now first log (Lose caller bases) node i word h is = absurd is
 
 -- a Pass writes nothing
-pass_same : (t : Snapshot) (log : Log) (event : Event) (first : Snapshot) (node i word : ℕ) → Passes node i word event → state first (event ∷ log) ≡ state first log
+pass_same : (t : Snapshot) (log : Log) (event : Event) (first : Snapshot) (node i word : ℕ)
+    → Passes node i word event → state first (event ∷ log) ≡ state first log
 pass_same t log (Pass caller n j w) first node i word is = refl
 pass_same t log (Enter caller) first node i word is = absurd is
 pass_same t log (Reserve caller base size) first node i word is = absurd is
@@ -61,19 +63,22 @@ pass_same t log (Place caller rebuild j w rows) first node i word is = absurd is
 pass_same t log (Lose caller bases) first node i word is = absurd is
 
 -- a passed word is neither a change nor Unset
-passed_plain : (first : Snapshot) (log : Log) (node i word : ℕ) → EachEnabled first log → Happened (Passes node i word) log → IsPlain word
+passed_plain : (first : Snapshot) (log : Log) (node i word : ℕ) → EachEnabled first log
+    → Happened (Passes node i word) log → IsPlain word
 passed_plain first [] node i word h p = absurd p
 passed_plain first (event ∷ log) node i word h (inl now) = let can = (passed_now first log event node i word h.1 now).1 in record { set = can.set; no_change = can.no_change }
 passed_plain first (event ∷ log) node i word h (inr before) = passed_plain first log node i word h.0 before
 
 -- a node that is marked is closed
-closed_now : (t : Snapshot) (log : Log) (caller node i word : ℕ) → CanPass t caller node i word → IsClosedOver t log node i word
+closed_now : (t : Snapshot) (log : Log) (caller node i word : ℕ) → CanPass t caller node i word
+    → IsClosedOver t log node i word
 closed_now t log caller node i word h =
     let one = h.marked in
     record { row = h.row; published = h.published; closed = λ e. omega arith; keeps = holds_it (in_row h.row h.published h.in_slot) }
 
 -- a change is read away
-past_no_change : (ps : Pieces) (ref : Option Ref) → ((change : ℕ) → ref ≢ Some (ChangeAt change)) → past_change ps ref ≡ ref
+past_no_change : (ps : Pieces) (ref : Option Ref) → ((change : ℕ) → ref ≢ Some (ChangeAt change))
+    → past_change ps ref ≡ ref
 past_no_change ps (Some (ChangeAt base)) plain = absurd (plain base refl)
 past_no_change ps (Some Empty) plain = refl
 past_no_change ps (Some Unset) plain = refl
@@ -84,7 +89,8 @@ past_no_change ps None plain = refl
 
 module _ (pairs : List Pair) (words : ℕ) (opens : CanOpen pairs words) where
   -- a slot that was passed keeps its word
-  pub closed : (log : Log) → EachEnabled (start pairs words) log → (node i word : ℕ) → Happened (Passes node i word) log → IsClosedOver (state_of pairs words log) log node i word
+  pub closed : (log : Log) → EachEnabled (start pairs words) log → (node i word : ℕ)
+      → Happened (Passes node i word) log → IsClosedOver (state_of pairs words log) log node i word
   closed [] h node i word p = absurd p
   closed (event ∷ log) h node i word (inl now) =
       let can = passed_now (start pairs words) log event node i word h.1 now in
@@ -94,7 +100,9 @@ module _ (pairs : List Pair) (words : ℕ) (opens : CanOpen pairs words) where
       closed_step pairs words opens log h.0 event h.1 node i word plain.set plain.no_change (closed log h.0 node i word before)
 
   -- what a closed slot holds where it holds no change
-  held_word : (log : Log) → EachEnabled (start pairs words) log → (node i v w : ℕ) → IsClosedOver (state_of pairs words log) log node i v → SlotHolds (state_of pairs words log) node i w
+  held_word : (log : Log) → EachEnabled (start pairs words) log → (node i v w : ℕ)
+      → IsClosedOver (state_of pairs words log) log node i v
+      → SlotHolds (state_of pairs words log) node i w
       → ((change : ℕ) → ref_of w ≢ Some (ChangeAt change)) → w ≡ v
   held_word log h node i v w c slot plain = at c.keeps
     where
@@ -105,7 +113,8 @@ module _ (pairs : List Pair) (words : ℕ) (opens : CanOpen pairs words) where
           absurd (plain x.base (ap ref_of same ∙ change_read pairs words opens log h x.base x.change x.published))
 
   -- all passes of a slot name one word
-  pub passes_agree : (log : Log) → EachEnabled (start pairs words) log → (node i v w : ℕ) → Happened (Passes node i v) log → Happened (Passes node i w) log → v ≡ w
+  pub passes_agree : (log : Log) → EachEnabled (start pairs words) log → (node i v w : ℕ)
+      → Happened (Passes node i v) log → Happened (Passes node i w) log → v ≡ w
   passes_agree [] h node i v w p q = absurd p
   passes_agree (event ∷ log) h node i v w (inl p) (inl q) =
       let first = passed_now (start pairs words) log event node i v h.1 p in
@@ -120,14 +129,18 @@ module _ (pairs : List Pair) (words : ℕ) (opens : CanOpen pairs words) where
   passes_agree (event ∷ log) h node i v w (inr p) (inr q) = passes_agree log h.0 node i v w p q
 
   -- a frozen slot reads as its word
-  pub frozen_reads : (log : Log) → EachEnabled (start pairs words) log → (node i v w : ℕ) → Happened (Passes node i v) log → SlotHolds (state_of pairs words log) node i w
-      → logical (state_of pairs words log).pieces w ≡ past_rebuild (state_of pairs words log).pieces (ref_of v)
+  pub frozen_reads : (log : Log) → EachEnabled (start pairs words) log → (node i v w : ℕ)
+      → Happened (Passes node i v) log → SlotHolds (state_of pairs words log) node i w
+      → logical (state_of pairs words log).pieces w ≡ past_rebuild (state_of pairs words log).pieces
+      (ref_of v)
   frozen_reads log h node i v w p slot = at (closed log h node i v p).keeps
     where
       plain : IsPlain v
       plain = passed_plain (start pairs words) log node i v h p
 
-      at : KeepsWord (state_of pairs words log) log node i v → logical (state_of pairs words log).pieces w ≡ past_rebuild (state_of pairs words log).pieces (ref_of v)
+      at : KeepsWord (state_of pairs words log) log node i v
+          → logical (state_of pairs words log).pieces w ≡ past_rebuild
+          (state_of pairs words log).pieces (ref_of v)
       at (holds_it k) =
           let ps = (state_of pairs words log).pieces in
           ap (logical ps) (slot_once (state_of pairs words log) node i w v (anchor_free pairs words log h) slot k) ∙ ap (past_rebuild ps) (past_no_change ps (ref_of v) plain.no_change)

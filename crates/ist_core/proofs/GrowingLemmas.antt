@@ -101,15 +101,18 @@ grows-drawn (Change r) = grows_same (Change r)
 grows-drawn (Rebuild r) = rebuild_grows record { target = refl; parent = refl; index = refl; rooted = λ _. refl; draw = omega arith }
 
 -- a status that goes on
-pub grows-with_status : (r : InnerRow) (status : ℕ) → StatusGoesOn r.status status → Grows (Inner r) (with_status status (Inner r))
+pub grows-with_status : (r : InnerRow) (status : ℕ) → StatusGoesOn r.status status
+    → Grows (Inner r) (with_status status (Inner r))
 grows-with_status r status h = inner_grows record { status = h; count = le_refl _; degree = refl; size = refl; keys = refl; slots = refl }
 
 -- a change that is decided now
-pub grows-with_decision : (r : ChangeRow) (decision : ℕ) → r.decision ≡ undecided → Grows (Change r) (with_decision decision (Change r))
+pub grows-with_decision : (r : ChangeRow) (decision : ℕ) → r.decision ≡ undecided
+    → Grows (Change r) (with_decision decision (Change r))
 grows-with_decision r decision e = change_grows record { decided = λ set. absurd (set e); others = refl }
 
 -- a rebuild that gets its root now
-pub grows-with_root : (r : RebuildRow) (word : ℕ) → r.root ≡ unset_word → Grows (Rebuild r) (with_root word (Rebuild r))
+pub grows-with_root : (r : RebuildRow) (word : ℕ) → r.root ≡ unset_word
+    → Grows (Rebuild r) (with_root word (Rebuild r))
 grows-with_root r word e = rebuild_grows record { target = refl; parent = refl; index = refl; rooted = λ set. absurd (set e); draw = le_refl _ }
 
 -- ---- all rows
@@ -126,42 +129,52 @@ all_grow_on ps qs rs h k base p e =
     (second.0, second.1, grows_on p first.0 second.0 first.2 second.2)
 
 -- where one row is changed into what may become of it
-pub all_grow-changed_at : (ps : Pieces) (at : ℕ) (f : Piece → Piece) → ((p : Piece) → ps at ≡ Some p → Grows p (f p)) → AllGrow ps (changed_at ps at f)
+pub all_grow-changed_at : (ps : Pieces) (at : ℕ) (f : Piece → Piece)
+    → ((p : Piece) → ps at ≡ Some p → Grows p (f p)) → AllGrow ps (changed_at ps at f)
 all_grow-changed_at ps at f grows base p e = here (base == at) refl
   where
-    here : (v : Bool) → (base == at) ≡ v → (q : Piece) × ((if v then option_map f (ps base) else ps base) ≡ Some q) × Grows p q
+    here : (v : Bool) → (base == at) ≡ v
+        → (q : Piece) × ((if v then option_map f (ps base) else ps base) ≡ Some q) × Grows p q
     here true same = (f p, ap (option_map f) e, grows p (subst (λ b. ps b ≡ Some p) (let is : base ≡ at = grind (arith, nat_tests) in is) e))
     here false same = (p, e, grows_same p)
 
 -- where rows are only added
-pub all_grow_added : (ps qs : Pieces) → ((base : ℕ) (p : Piece) → ps base ≡ Some p → qs base ≡ Some p) → AllGrow ps qs
+pub all_grow_added : (ps qs : Pieces)
+    → ((base : ℕ) (p : Piece) → ps base ≡ Some p → qs base ≡ Some p) → AllGrow ps qs
 all_grow_added ps qs stay base p e = (p, stay base p e, grows_same p)
 
 -- ---- a row of a kind stays one
 
-pub leaf_there : (ps qs : Pieces) → AllGrow ps qs → (base : ℕ) (r : LeafRow) → ps base ≡ Some (Leaf r) → qs base ≡ Some (Leaf r)
+pub leaf_there : (ps qs : Pieces) → AllGrow ps qs → (base : ℕ) (r : LeafRow)
+    → ps base ≡ Some (Leaf r) → qs base ≡ Some (Leaf r)
 leaf_there ps qs g base r e = at (g base (Leaf r) e).0 (g base (Leaf r) e).1 (g base (Leaf r) e).2
   where
     at : (q : Piece) → qs base ≡ Some q → Grows (Leaf r) q → qs base ≡ Some (Leaf r)
     at _ i leaf_stays = i
 
-pub inner_there : (ps qs : Pieces) → AllGrow ps qs → (base : ℕ) (r : InnerRow) → ps base ≡ Some (Inner r)
+pub inner_there : (ps qs : Pieces) → AllGrow ps qs → (base : ℕ) (r : InnerRow)
+    → ps base ≡ Some (Inner r)
     → (s : InnerRow) × (qs base ≡ Some (Inner s)) × InnerGrows r s
 inner_there ps qs g base r e = at (g base (Inner r) e).0 (g base (Inner r) e).1 (g base (Inner r) e).2
   where
-    at : (q : Piece) → qs base ≡ Some q → Grows (Inner r) q → (s : InnerRow) × (qs base ≡ Some (Inner s)) × InnerGrows r s
+    at : (q : Piece) → qs base ≡ Some q → Grows (Inner r) q
+        → (s : InnerRow) × (qs base ≡ Some (Inner s)) × InnerGrows r s
     at _ i (inner_grows {new = s} h) = (s, i, h)
 
-pub change_there : (ps qs : Pieces) → AllGrow ps qs → (base : ℕ) (r : ChangeRow) → ps base ≡ Some (Change r)
+pub change_there : (ps qs : Pieces) → AllGrow ps qs → (base : ℕ) (r : ChangeRow)
+    → ps base ≡ Some (Change r)
     → (s : ChangeRow) × (qs base ≡ Some (Change s)) × ChangeGrows r s
 change_there ps qs g base r e = at (g base (Change r) e).0 (g base (Change r) e).1 (g base (Change r) e).2
   where
-    at : (q : Piece) → qs base ≡ Some q → Grows (Change r) q → (s : ChangeRow) × (qs base ≡ Some (Change s)) × ChangeGrows r s
+    at : (q : Piece) → qs base ≡ Some q → Grows (Change r) q
+        → (s : ChangeRow) × (qs base ≡ Some (Change s)) × ChangeGrows r s
     at _ i (change_grows {new = s} h) = (s, i, h)
 
-pub rebuild_there : (ps qs : Pieces) → AllGrow ps qs → (base : ℕ) (r : RebuildRow) → ps base ≡ Some (Rebuild r)
+pub rebuild_there : (ps qs : Pieces) → AllGrow ps qs → (base : ℕ) (r : RebuildRow)
+    → ps base ≡ Some (Rebuild r)
     → (s : RebuildRow) × (qs base ≡ Some (Rebuild s)) × RebuildGrows r s
 rebuild_there ps qs g base r e = at (g base (Rebuild r) e).0 (g base (Rebuild r) e).1 (g base (Rebuild r) e).2
   where
-    at : (q : Piece) → qs base ≡ Some q → Grows (Rebuild r) q → (s : RebuildRow) × (qs base ≡ Some (Rebuild s)) × RebuildGrows r s
+    at : (q : Piece) → qs base ≡ Some q → Grows (Rebuild r) q
+        → (s : RebuildRow) × (qs base ≡ Some (Rebuild s)) × RebuildGrows r s
     at _ i (rebuild_grows {new = s} h) = (s, i, h)

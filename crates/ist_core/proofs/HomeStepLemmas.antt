@@ -35,7 +35,9 @@ none_new : (t : Snapshot) → AreNew t NoneNew
 none_new t = record { unpublished = λ node i child h. absurd h; one = λ n i k j child h l. absurd h }
 
 -- a word that names no inner row
-pub word_of_other : (t : Snapshot) (New : ℕ → ℕ → ℕ → Type 0) (node i : ℕ) (word : Option Ref) (ref : Ref) → word ≡ Some ref → ((child : ℕ) → ref ≢ InnerAt child) → WordCame t New node i word
+pub word_of_other : (t : Snapshot) (New : ℕ → ℕ → ℕ → Type 0) (node i : ℕ) (word : Option Ref)
+    (ref : Ref)
+    → word ≡ Some ref → ((child : ℕ) → ref ≢ InnerAt child) → WordCame t New node i word
 unfolding WordCame
 word_of_other t New node i word ref e other child f = absurd (other child (same word ref (InnerAt child) e f))
   where
@@ -43,19 +45,24 @@ word_of_other t New node i word ref e other child f = absurd (other child (same 
     same o a b h k = cc
 
 -- a word that is named already
-word_mentioned : (t : Snapshot) (New : ℕ → ℕ → ℕ → Type 0) (node i : ℕ) (word : Option Ref) → ((child : ℕ) → word ≡ Some (InnerAt child) → Mentions t node i (InnerAt child)) → WordCame t New node i word
+word_mentioned : (t : Snapshot) (New : ℕ → ℕ → ℕ → Type 0) (node i : ℕ) (word : Option Ref)
+    → ((child : ℕ) → word ≡ Some (InnerAt child) → Mentions t node i (InnerAt child))
+    → WordCame t New node i word
 unfolding WordCame
 word_mentioned t New node i word h child e = inl (h child e)
 
 -- a word that is new
-word_new : (t : Snapshot) (New : ℕ → ℕ → ℕ → Type 0) (node i : ℕ) (word : Option Ref) → ((child : ℕ) → word ≡ Some (InnerAt child) → New node i child) → WordCame t New node i word
+word_new : (t : Snapshot) (New : ℕ → ℕ → ℕ → Type 0) (node i : ℕ) (word : Option Ref)
+    → ((child : ℕ) → word ≡ Some (InnerAt child) → New node i child) → WordCame t New node i word
 unfolding WordCame
 word_new t New node i word h child e = inr (h child e)
 
 -- ---- one row changed
 
-pub one_home_changed : (t u : Snapshot) (at : ℕ) (f : Piece → Piece) → u.anchor ≡ t.anchor → u.pieces ≡ changed_at t.pieces at f
-    → ((New : ℕ → ℕ → ℕ → Type 0) (p : Piece) → SaysCame t New at p → SaysCame t New at (f p)) → WordsName t → HasOneHome t → HasOneHome u
+pub one_home_changed : (t u : Snapshot) (at : ℕ) (f : Piece → Piece) → u.anchor ≡ t.anchor
+    → u.pieces ≡ changed_at t.pieces at f
+    → ((New : ℕ → ℕ → ℕ → Type 0) (p : Piece) → SaysCame t New at p → SaysCame t New at (f p))
+    → WordsName t → HasOneHome t → HasOneHome u
 one_home_changed t u at f word pieces keeps names home =
     one_home_from t u NoneNew home names (none_new t)
     (subst (λ ps. AllCame t NoneNew ps) (sym pieces) (came-changed_at t NoneNew t.pieces at f (came_old t NoneNew) (λ p _ old. keeps NoneNew p old)))
@@ -63,7 +70,9 @@ one_home_changed t u at f word pieces keeps names home =
 
 -- ---- Resolve
 
-pub one_home_resolve : (t : Snapshot) (caller base : ℕ) → (h : CanResolve t caller base) → t.pieces anchor ≡ None → WordsName t → HasOneHome t → HasOneHome (after t (Resolve caller base))
+pub one_home_resolve : (t : Snapshot) (caller base : ℕ) → (h : CanResolve t caller base)
+    → t.pieces anchor ≡ None → WordsName t → HasOneHome t
+    → HasOneHome (after t (Resolve caller base))
 one_home_resolve t caller base h free names home =
     let change = h.change in
     let side = word_mentioned t NoneNew change.node change.index (ref_of (side_of change)) (λ child e. inr (base, Change change, h.published, (refl, refl, either child e))) in
@@ -73,7 +82,9 @@ one_home_resolve t caller base h free names home =
     (came-changed_at t NoneNew t.pieces change.node (with_slot change.index (side_of change)) (came_old t NoneNew) (λ p _ old. came-with_slot t NoneNew change.node change.index (side_of change) p side old))
     (anchor_came t u NoneNew change.node change.index (side_of change) refl (anchor_slot t change.node change.index (word_of (ChangeAt base)) free h.in_slot) side))
   where
-    either : (child : ℕ) → ref_of (side_of h.change) ≡ Some (InnerAt child) → (ref_of h.change.from ≡ Some (InnerAt child)) ⊎ (ref_of h.change.to ≡ Some (InnerAt child))
+    either : (child : ℕ) → ref_of (side_of h.change) ≡ Some (InnerAt child)
+        → (ref_of h.change.from ≡ Some (InnerAt child)) ⊎
+        (ref_of h.change.to ≡ Some (InnerAt child))
     either child =
         elim (h.change.decision == decided_yes) as (λ v. ref_of (if v then h.change.to else h.change.from) ≡ Some (InnerAt child) → (ref_of h.change.from ≡ Some (InnerAt child)) ⊎ (ref_of h.change.to ≡ Some (InnerAt child))) [
           | true ↦ λ e. inr e
@@ -83,7 +94,8 @@ one_home_resolve t caller base h free names home =
 -- ---- rows of a tree
 
 -- what a row of the tree names hangs in the tree
-tree_says : (t : Snapshot) (ps : Pieces) (parent at : ℕ) (ref : Ref) (rows : List ℕ) → Each (IsTreeRow ps) rows → (base : ℕ) (p : Piece) → Among base rows → ps base ≡ Some p
+tree_says : (t : Snapshot) (ps : Pieces) (parent at : ℕ) (ref : Ref) (rows : List ℕ)
+    → Each (IsTreeRow ps) rows → (base : ℕ) (p : Piece) → Among base rows → ps base ≡ Some p
     → SaysCame t (HangsIn ps parent at ref rows) base p
 unfolding SaysCame
 tree_says t ps parent at ref rows all base p i e =
@@ -99,7 +111,9 @@ tree_says t ps parent at ref rows all base p i e =
       reads = says.3;
     }))
 
-pub one_home_root : (t : Snapshot) (caller rebuild word : ℕ) (rows : List Row) → (h : CanRoot t caller rebuild word rows) → IsSound t → WordsName t → HasOneHome t → HasOneHome (after t (Root caller rebuild word rows))
+pub one_home_root : (t : Snapshot) (caller rebuild word : ℕ) (rows : List Row)
+    → (h : CanRoot t caller rebuild word rows) → IsSound t → WordsName t → HasOneHome t
+    → HasOneHome (after t (Root caller rebuild word rows))
 one_home_root t caller rebuild word rows h sound names home =
     let u = after t (Root caller rebuild word rows) in
     let qs = with_inners t.pieces rows in
@@ -123,7 +137,9 @@ one_home_root t caller rebuild word rows h sound names home =
     same_ref : (o : Option Ref) (a b : Ref) → o ≡ Some a → o ≡ Some b → a ≡ b
     same_ref o a b e f = cc
 
-pub one_home_place : (t : Snapshot) (caller rebuild i word : ℕ) (rows : List Row) → (h : CanPlace t caller rebuild i word rows) → IsSound t → WordsName t → HasOneHome t → HasOneHome (after t (Place caller rebuild i word rows))
+pub one_home_place : (t : Snapshot) (caller rebuild i word : ℕ) (rows : List Row)
+    → (h : CanPlace t caller rebuild i word rows) → IsSound t → WordsName t → HasOneHome t
+    → HasOneHome (after t (Place caller rebuild i word rows))
 one_home_place t caller rebuild i word rows h sound names home =
     let u = after t (Place caller rebuild i word rows) in
     let qs = with_inners t.pieces rows in
@@ -149,14 +165,16 @@ one_home_place t caller rebuild i word rows h sound names home =
 -- ---- Install
 
 -- the pair row of a put is named for the change's slot
-abbrev pub NewPair : (first : Snapshot) (log : Log) (change : ChangeRow) (fresh : List Row) → FitsKind first log change fresh → ℕ → ℕ → ℕ → Type 0
+abbrev pub NewPair : (first : Snapshot) (log : Log) (change : ChangeRow) (fresh : List Row)
+    → FitsKind first log change fresh → ℕ → ℕ → ℕ → Type 0
 NewPair first log change fresh (a_pair h) node i child = (node ≡ change.node) × (i ≡ change.index) × (child ≡ h.pair)
 NewPair first log change fresh _ node i child = ⊥
 
 module _ (first : Snapshot) (log : Log) (caller at : ℕ) (change : ChangeRow) (fresh : List Row) (sound : IsSound (state first log))
     (holds : HoldsRows (state first log) caller (row_at at (Change change) ∷ fresh)) (in_slot : SlotHolds (state first log) change.node change.index change.from) where
   -- it is new
-  pub pair_new : (fits : FitsKind first log change fresh) → AreNew (state first log) (NewPair first log change fresh fits)
+  pub pair_new : (fits : FitsKind first log change fresh)
+      → AreNew (state first log) (NewPair first log change fresh fits)
   pair_new (a_pair h) =
       record {
         unpublished = λ node i child x.
@@ -171,11 +189,14 @@ module _ (first : Snapshot) (log : Log) (caller at : ℕ) (change : ChangeRow) (
   pair_new (a_finish h) = record { unpublished = λ node i child x. absurd x; one = λ n i k j child x y. absurd x }
 
   -- what a change takes out is named already
-  from_came : (New : ℕ → ℕ → ℕ → Type 0) → WordCame (state first log) New change.node change.index (ref_of change.from)
+  from_came : (New : ℕ → ℕ → ℕ → Type 0)
+      → WordCame (state first log) New change.node change.index (ref_of change.from)
   from_came New = word_mentioned (state first log) New change.node change.index (ref_of change.from) (λ child e. slot_mentions (state first log) change.node change.index change.from (InnerAt child) in_slot e)
 
   -- what it puts in is a new pair row, or the root of its rebuild, or no inner row
-  to_came : (fits : FitsKind first log change fresh) → WordCame (state first log) (NewPair first log change fresh fits) change.node change.index (ref_of change.to)
+  to_came : (fits : FitsKind first log change fresh)
+      → WordCame (state first log) (NewPair first log change fresh fits) change.node change.index
+      (ref_of change.to)
   to_came (a_put h) = word_of_other (state first log) NoneNew change.node change.index (ref_of change.to) (LeafAt h.leaf) h.to (λ child e. cc)
   to_came (a_pair h) =
       word_new (state first log) (NewPair first log change fresh (a_pair h)) change.node change.index (ref_of change.to) (λ child e. (refl, refl, same (ref_of change.to) child h.pair e h.to))
@@ -189,7 +210,8 @@ module _ (first : Snapshot) (log : Log) (caller at : ℕ) (change : ChangeRow) (
       (λ child e. inr (h.rebuild, Rebuild h.row, h.published, (sym h.parent, sym h.index, inr (ap ref_of (sym h.to) ∙ e))))
 
   -- the slots of a pair row name leaves
-  over_says : (New : ℕ → ℕ → ℕ → Type 0) (base key left right : ℕ) → IsGoodBase left → IsGoodBase right → SaysCame (state first log) New base (pair_over key left right)
+  over_says : (New : ℕ → ℕ → ℕ → Type 0) (base key left right : ℕ) → IsGoodBase left
+      → IsGoodBase right → SaysCame (state first log) New base (pair_over key left right)
   unfolding SaysCame
   over_says New base key left right gl gr node zero child says =
       absurd (clash left child (sym (ref_of-word_of (LeafAt left) gl) ∙ ap ref_of (word_is (word_of (LeafAt left)) says.1 says.2) ∙ says.3))
@@ -209,7 +231,8 @@ module _ (first : Snapshot) (log : Log) (caller at : ℕ) (change : ChangeRow) (
       word_is a b e = cc
   over_says New base key left right gl gr node (suc (suc i)) child says = absurd (let e = says.2 in cc)
 
-  pair_says : (New : ℕ → ℕ → ℕ → Type 0) (base key leaf other_key other : ℕ) → IsGoodBase leaf → IsGoodBase other → SaysCame (state first log) New base (pair_row key leaf other_key other)
+  pair_says : (New : ℕ → ℕ → ℕ → Type 0) (base key leaf other_key other : ℕ) → IsGoodBase leaf
+      → IsGoodBase other → SaysCame (state first log) New base (pair_row key leaf other_key other)
   pair_says New base key leaf other_key other gl go =
       elim (nat_lt other_key key) as (λ v. SaysCame (state first log) New base (if v then pair_over key other leaf else pair_over other_key leaf other)) [
         | true ↦ over_says New base key other leaf go gl
@@ -217,9 +240,12 @@ module _ (first : Snapshot) (log : Log) (caller at : ℕ) (change : ChangeRow) (
       ]
 
   -- what all rows of an Install name
-  pub installed_says : (fits : FitsKind first log change fresh) → (leaf_good : (base : ℕ) → IsFresh first log change fresh fits base (new_leaf change) → IsGoodBase base)
-      → (other_good : (base : ℕ) → (r : Piece) → (state first log).pieces base ≡ Some r → IsGoodBase base) → (base : ℕ) (p : Piece)
-      → IsInstalled first log at change fresh fits base p → SaysCame (state first log) (NewPair first log change fresh fits) base p
+  pub installed_says : (fits : FitsKind first log change fresh)
+      → (leaf_good : (base : ℕ) → IsFresh first log change fresh fits base (new_leaf change) → IsGoodBase base)
+      → (other_good : (base : ℕ) → (r : Piece) → (state first log).pieces base ≡ Some r → IsGoodBase base)
+      → (base : ℕ) (p : Piece)
+      → IsInstalled first log at change fresh fits base p
+      → SaysCame (state first log) (NewPair first log change fresh fits) base p
   unfolding SaysCame WordCame
   installed_says fits leaf_good other_good base p (inl (here, new)) =
       subst (λ x. SaysCame (state first log) (NewPair first log change fresh fits) base x) (sym new)

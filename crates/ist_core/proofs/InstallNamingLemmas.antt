@@ -19,12 +19,14 @@ use Rattle.ist_core.proofs.GrowingLemmas.{leaf_there}
 use Rattle.ist_core.proofs.NamingLemmas.{LeafHere, SideNames, SlotNames, RootNames, RowNames, WordsName, side_grows, inner_here_grows}
 
 -- a pair row is an inner row
-pub pair_is_inner : (key base other_key other : ℕ) → (r : InnerRow) × (pair_row key base other_key other ≡ Inner r)
+pub pair_is_inner : (key base other_key other : ℕ)
+    → (r : InnerRow) × (pair_row key base other_key other ≡ Inner r)
 pair_is_inner key base other_key other =
     elim (nat_lt other_key key) as (λ v. (r : InnerRow) × ((if v then pair_over key other base else pair_over other_key base other) ≡ Inner r)) [ true ↦ (_, refl) | false ↦ (_, refl) ]
 
 -- the slots of a pair row name its two leaves
-over_names : (ps : Pieces) (at key left right : ℕ) → IsGoodBase left → IsGoodBase right → LeafHere ps left → LeafHere ps right → RowNames ps at (pair_over key left right)
+over_names : (ps : Pieces) (at key left right : ℕ) → IsGoodBase left → IsGoodBase right
+    → LeafHere ps left → LeafHere ps right → RowNames ps at (pair_over key left right)
 over_names ps at key left right gl gr l r zero word e =
     let is : word_of (LeafAt left) ≡ word = cc in
     subst (λ w. SlotNames ps at 0 (ref_of w)) is (subst (λ o. SlotNames ps at 0 o) (sym (ref_of-word_of (LeafAt left) gl)) l)
@@ -33,7 +35,9 @@ over_names ps at key left right gl gr l r (suc zero) word e =
     subst (λ w. SlotNames ps at 1 (ref_of w)) is (subst (λ o. SlotNames ps at 1 o) (sym (ref_of-word_of (LeafAt right) gr)) r)
 over_names ps at key left right gl gr l r (suc (suc i)) word e = absurd (cc)
 
-pub pair_names : (ps : Pieces) (at key base other_key other : ℕ) → IsGoodBase base → IsGoodBase other → LeafHere ps base → LeafHere ps other → RowNames ps at (pair_row key base other_key other)
+pub pair_names : (ps : Pieces) (at key base other_key other : ℕ) → IsGoodBase base
+    → IsGoodBase other → LeafHere ps base → LeafHere ps other
+    → RowNames ps at (pair_row key base other_key other)
 pair_names ps at key base other_key other gb go b o =
     elim (nat_lt other_key key) as (λ v. RowNames ps at (if v then pair_over key other base else pair_over other_key base other)) [
       | true ↦ over_names ps at key other base go gb o b
@@ -45,7 +49,8 @@ pub not_unset : (word : ℕ) → word ≢ unset_word → ref_of word ≢ Some Un
 not_unset word ne e = let read = word_of-ref_of word Unset e in let same = read.same_word in ne (sym same)
 
 -- a root that is set may be put into the slot of its rebuild
-root_side : (ps : Pieces) (node i target : ℕ) (ref : Option Ref) → node < target → ref ≢ Some Unset → RootNames ps target ref → SideNames ps node i ref
+root_side : (ps : Pieces) (node i target : ℕ) (ref : Option Ref) → node < target → ref ≢ Some Unset
+    → RootNames ps target ref → SideNames ps node i ref
 root_side ps node i target (Some Unset) low set h = absurd (set refl)
 root_side ps node i target (Some Empty) low set h = tt
 root_side ps node i target (Some (LeafAt base)) low set h = h
@@ -55,7 +60,8 @@ root_side ps node i target (Some (RebuildAt base)) low set h = absurd h
 root_side ps node i target None low set h = absurd h
 
 -- no change is taken out of a slot
-pub from_plain : (first : Snapshot) (log : Log) (change : ChangeRow) (fresh : List Row) → FitsKind first log change fresh → (base : ℕ) → ref_of change.from ≢ Some (ChangeAt base)
+pub from_plain : (first : Snapshot) (log : Log) (change : ChangeRow) (fresh : List Row)
+    → FitsKind first log change fresh → (base : ℕ) → ref_of change.from ≢ Some (ChangeAt base)
 from_plain first log change fresh (a_put h) base e = at h.from
   where
     at : HasRoomFor (state first log) change.key change.from → ⊥
@@ -77,10 +83,12 @@ module _ (first : Snapshot) (log : Log) (caller at : ℕ) (change : ChangeRow) (
     (names : WordsName (state first log)) (slot : SlotNames (state first log).pieces change.node change.index (ref_of change.from))
     (qs : Pieces) (is : qs ≡ with_installed (state first log).pieces at change fresh) (grows : AllGrow (state first log).pieces qs) where
   -- what a change takes out of its slot
-  pub from_side : FitsKind first log change fresh → SideNames (state first log).pieces change.node change.index (ref_of change.from)
+  pub from_side : FitsKind first log change fresh
+      → SideNames (state first log).pieces change.node change.index (ref_of change.from)
   from_side (a_put h) = room h.from
     where
-      room : HasRoomFor (state first log) change.key change.from → SideNames (state first log).pieces change.node change.index (ref_of change.from)
+      room : HasRoomFor (state first log) change.key change.from
+          → SideNames (state first log).pieces change.node change.index (ref_of change.from)
       room (nothing e) = subst (λ o. SideNames (state first log).pieces change.node change.index o) (sym e) tt
       room (same_key leaf e l) = subst (λ o. SideNames (state first log).pieces change.node change.index o) (sym e) (l.row, l.published)
   from_side (a_pair h) = subst (λ o. SideNames (state first log).pieces change.node change.index o) (sym h.from) (h.stands.row, h.stands.published)
@@ -91,11 +99,13 @@ module _ (first : Snapshot) (log : Log) (caller at : ℕ) (change : ChangeRow) (
       subst (λ o. SideNames (state first log).pieces change.node change.index o) (sym h.from) (subst (λ o. SlotNames (state first log).pieces change.node change.index o) h.from slot)
 
   -- a fresh row stands
-  stands : (fits : FitsKind first log change fresh) (base : ℕ) (p : Piece) → IsFresh first log change fresh fits base p → qs base ≡ Some p
+  stands : (fits : FitsKind first log change fresh) (base : ℕ) (p : Piece)
+      → IsFresh first log change fresh fits base p → qs base ≡ Some p
   stands fits base p f = ap (λ ps. ps base) is ∙ fresh_stands first log caller at change fresh sound (state first log).pieces fits holds base p f
 
   -- what a change puts into its slot
-  pub to_side : FitsKind first log change fresh → SideNames qs change.node change.index (ref_of change.to)
+  pub to_side : FitsKind first log change fresh
+      → SideNames qs change.node change.index (ref_of change.to)
   to_side (a_put h) =
       subst (λ o. SideNames qs change.node change.index o) (sym h.to) (record { key = change.key; value = change.value }, stands (a_put h) h.leaf (new_leaf change) (refl, refl))
   to_side (a_pair h) =
@@ -114,7 +124,8 @@ module _ (first : Snapshot) (log : Log) (caller at : ℕ) (change : ChangeRow) (
       subst (λ w. SideNames qs change.node change.index (ref_of w)) (sym h.to) (side_grows (state first log).pieces qs grows change.node change.index (ref_of h.row.root) side)
 
   -- what the fresh rows name. A pair row names the leaf that stands in the slot and the new one
-  fresh_names : (fits : FitsKind first log change fresh) → ((base : ℕ) (p : Piece) → qs base ≡ Some p → IsGoodBase base) → (base : ℕ) (p : Piece)
+  fresh_names : (fits : FitsKind first log change fresh)
+      → ((base : ℕ) (p : Piece) → qs base ≡ Some p → IsGoodBase base) → (base : ℕ) (p : Piece)
       → IsFresh first log change fresh fits base p → RowNames qs base p
   fresh_names (a_put h) good base p (here, new) = subst (λ x. RowNames qs base x) (sym new) tt
   fresh_names (a_pair h) good base p (inl (here, new)) =
@@ -131,7 +142,8 @@ module _ (first : Snapshot) (log : Log) (caller at : ℕ) (change : ChangeRow) (
   fresh_names (a_finish h) good base p f = absurd f
 
   -- what all rows of the Install name
-  pub installed_names : (fits : FitsKind first log change fresh) → ((base : ℕ) (p : Piece) → qs base ≡ Some p → IsGoodBase base) → (base : ℕ) (p : Piece)
+  pub installed_names : (fits : FitsKind first log change fresh)
+      → ((base : ℕ) (p : Piece) → qs base ≡ Some p → IsGoodBase base) → (base : ℕ) (p : Piece)
       → IsInstalled first log at change fresh fits base p → RowNames qs base p
   installed_names fits good base p (inl (here, new)) =
       subst (λ x. RowNames qs base x) (sym new)

@@ -24,7 +24,8 @@ Fills from [] to = from ≡ to
 Fills from (row ∷ rows) to = (row.0 ≡ from) × Fills (from + size_of row.1) rows to
 
 -- rows behind rows
-fills_append : (from mid to : ℕ) (xs ys : List (ℕ × Piece)) → Fills from xs mid → Fills mid ys to → Fills from (xs ++ ys) to
+fills_append : (from mid to : ℕ) (xs ys : List (ℕ × Piece)) → Fills from xs mid → Fills mid ys to
+    → Fills from (xs ++ ys) to
 fills_append from mid to [] ys h k = subst (λ n. Fills n ys to) (sym h) k
 fills_append from mid to (x ∷ xs) ys h k = (h.0, fills_append (from + size_of x.1) mid to xs ys h.1 k)
 
@@ -34,7 +35,8 @@ fills_le from to [] h = omega arith
 fills_le from to (x ∷ xs) h = let rest = fills_le (from + size_of x.1) to xs h.1 in omega arith
 
 -- each lies between the two places
-pub fills_within : (from to : ℕ) (xs : List (ℕ × Piece)) (base : ℕ) (p : Piece) → Fills from xs to → Among (base, p) xs → (from ≤ base) × (base + size_of p ≤ to)
+pub fills_within : (from to : ℕ) (xs : List (ℕ × Piece)) (base : ℕ) (p : Piece) → Fills from xs to
+    → Among (base, p) xs → (from ≤ base) × (base + size_of p ≤ to)
 fills_within from to [] base p h i = absurd i
 fills_within from to (x ∷ xs) base p h (inl e) =
     let here : base ≡ x.0 = ap (λ y. y.0) e in
@@ -48,7 +50,8 @@ fills_within from to (x ∷ xs) base p h (inr i) =
     (omega arith, rest.1)
 
 -- two of them at different bases share no word
-pub fills_apart : (from to : ℕ) (xs : List (ℕ × Piece)) (base other : ℕ) (p q : Piece) → Fills from xs to → Among (base, p) xs → Among (other, q) xs → base ≢ other
+pub fills_apart : (from to : ℕ) (xs : List (ℕ × Piece)) (base other : ℕ) (p q : Piece)
+    → Fills from xs to → Among (base, p) xs → Among (other, q) xs → base ≢ other
     → (base + size_of p ≤ other) ⊎ (other + size_of q ≤ base)
 fills_apart from to [] base other p q h i j differ = absurd i
 fills_apart from to (x ∷ xs) base other p q h (inl e) (inl f) differ = absurd (differ (ap (λ y. y.0) e ∙ sym (ap (λ y. y.0) f)))
@@ -82,13 +85,15 @@ length-bases_from : (base : ℕ) (ns : List ℕ) → length (bases_from base ns)
 length-bases_from base [] = refl
 length-bases_from base (n ∷ ns) = omega (arith, length-bases_from (base + ideal_words n) ns)
 
-length_zipped : {A B : Type 0} (xs : List A) (ys : List B) → length xs ≡ length ys → length (zip xs ys) ≡ length xs
+length_zipped : {A B : Type 0} (xs : List A) (ys : List B) → length xs ≡ length ys
+    → length (zip xs ys) ≡ length xs
 length_zipped [] ys e = refl
 length_zipped (x ∷ xs) [] e = absurd (omega arith)
 length_zipped (x ∷ xs) (y ∷ ys) e = let rest = length_zipped xs ys (omega arith) in omega arith
 
 -- no part is empty, so that each has a first key
-length-first_keys : {A : Type 0} (key : A → ℕ) (ns : List ℕ) (xs : List A) → AllSome ns → sum ns ≤ length xs → length (first_keys key (cut ns xs)) ≡ length ns
+length-first_keys : {A : Type 0} (key : A → ℕ) (ns : List ℕ) (xs : List A) → AllSome ns
+    → sum ns ≤ length xs → length (first_keys key (cut ns xs)) ≡ length ns
 length-first_keys key [] xs some fits = refl
 length-first_keys key (zero ∷ ns) xs some fits = let none = some.0 in absurd (omega arith)
 length-first_keys key (suc n ∷ ns) [] some fits = let all = sum_by-cons (λ x. x) (suc n) ns in absurd (omega arith)
@@ -99,7 +104,9 @@ length-first_keys key (suc n ∷ ns) (x ∷ xs) some fits =
     omega arith
 
 -- the same for all but the first part
-keys_behind_first : {A : Type 0} (key : A → ℕ) (ns : List ℕ) (xs : List A) → AllSome ns → sum ns ≤ length xs → 1 ≤ length ns → length (first_keys key (drop 1 (cut ns xs))) + 1 ≡ length ns
+keys_behind_first : {A : Type 0} (key : A → ℕ) (ns : List ℕ) (xs : List A) → AllSome ns
+    → sum ns ≤ length xs → 1 ≤ length ns
+    → length (first_keys key (drop 1 (cut ns xs))) + 1 ≡ length ns
 keys_behind_first key [] xs some fits one = absurd (omega arith)
 keys_behind_first key (n ∷ ns) xs some fits one =
     let all = sum_by-cons (λ x. x) n ns in
@@ -120,7 +127,8 @@ unfolding part_lens
 length-part_lens n = length-map-range_with_len (part_len n) 0 (degree n)
 
 -- a list of two or more has one key less than parts
-pub keys_of_parts : {A : Type 0} (key : A → ℕ) (xs : List A) → 2 ≤ length xs → length (first_keys key (drop 1 (parts xs))) + 1 ≡ degree (length xs)
+pub keys_of_parts : {A : Type 0} (key : A → ℕ) (xs : List A) → 2 ≤ length xs
+    → length (first_keys key (drop 1 (parts xs))) + 1 ≡ degree (length xs)
 keys_of_parts key xs two =
     let n = length xs in
     let many = length-part_lens n in
@@ -132,7 +140,9 @@ pub length-parts : {A : Type 0} (xs : List A) → length (parts xs) ≡ degree (
 length-parts xs = length-cut (part_lens (length xs)) xs ∙ length-part_lens (length xs)
 
 -- a top row has as many slots as its degree says
-pub slots_of-top_row : (base : ℕ) (pairs : List Pair) → length (map (λ part. word_of (tree_at part.0 part.1)) (placed_parts base pairs)) ≡ degree (length pairs)
+pub slots_of-top_row : (base : ℕ) (pairs : List Pair)
+    → length (map (λ part. word_of (tree_at part.0 part.1)) (placed_parts base pairs)) ≡ degree
+    (length pairs)
 slots_of-top_row base pairs =
     let n = length pairs in
     let lens = part_lens n in
@@ -145,7 +155,8 @@ slots_of-top_row base pairs =
     omega arith
 
 -- a top row has as many words as its degree says
-size_of-top_row : (base : ℕ) (pairs : List Pair) → 2 ≤ length pairs → size_of (top_row base pairs) ≡ inner_words (degree (length pairs))
+size_of-top_row : (base : ℕ) (pairs : List Pair) → 2 ≤ length pairs
+    → size_of (top_row base pairs) ≡ inner_words (degree (length pairs))
 size_of-top_row base pairs two =
     let keys = keys_of_parts (λ pair. pair.key) pairs two in
     let slots = slots_of-top_row base pairs in
@@ -157,7 +168,9 @@ size_of-top_row base pairs two =
 -- the trees of parts fill their words, where each does
 fills_parts : (fuel from : ℕ) (ns : List ℕ) (xs : List Pair) → sum ns ≤ length xs
     → ((n base : ℕ) (part : List Pair) → Among n ns → length part ≡ n → Fills base (rows_within fuel base part) (base + ideal_words n))
-    → Fills from (flat_map (λ part. rows_within fuel part.0 part.1) (zip (bases_from from ns) (cut ns xs))) (from + sum_by ideal_words ns)
+    → Fills from
+    (flat_map (λ part. rows_within fuel part.0 part.1) (zip (bases_from from ns) (cut ns xs)))
+    (from + sum_by ideal_words ns)
 fills_parts fuel from [] xs fits each = omega arith
 fills_parts fuel from (n ∷ ns) xs fits each =
     let all = sum_by-cons (λ x. x) n ns in
@@ -181,7 +194,8 @@ unfolding part_lens
 among_part_lens n x i = among_parts n x (range_with_len 0 (degree n)) i
 
 -- the rows of a tree fill its words
-pub fills_rows : (fuel base : ℕ) (pairs : List Pair) → length pairs ≤ fuel → Fills base (rows_within fuel base pairs) (base + ideal_words (length pairs))
+pub fills_rows : (fuel base : ℕ) (pairs : List Pair) → length pairs ≤ fuel
+    → Fills base (rows_within fuel base pairs) (base + ideal_words (length pairs))
 unfolding rows_within
 fills_rows fuel base [] h = let none = ideal_words_none in omega arith
 fills_rows fuel base (pair ∷ []) h = let two = ideal_words_one in (refl, omega arith)

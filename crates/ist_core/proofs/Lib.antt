@@ -48,6 +48,7 @@ pub mod ShapedLemmas
 pub mod ImageLemmas
 pub mod ChainLemmas
 pub mod TouchLemmas
+pub mod ImageEventLemmas
 pub mod ImageStepLemmas
 pub mod RefusalLemmas
 pub mod PutExampleLemmas

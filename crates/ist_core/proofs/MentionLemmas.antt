@@ -35,15 +35,20 @@ clash_refs o a b e f = cc
 
 module _ (pairs : List Pair) (words : ℕ) (opens : CanOpen pairs words) where
   -- an event that writes no slot
-  still : (log : Log) (event : Event) → EachEnabled (start pairs words) (event ∷ log) → WritesNoSlot event → (node i word : ℕ) (ref : Ref) → ref_of word ≡ Some ref
-      → SlotHolds (state_of pairs words log) node i word → Mentions (state_of pairs words (event ∷ log)) node i ref
+  still : (log : Log) (event : Event) → EachEnabled (start pairs words) (event ∷ log)
+      → WritesNoSlot event → (node i word : ℕ) (ref : Ref) → ref_of word ≡ Some ref
+      → SlotHolds (state_of pairs words log) node i word
+      → Mentions (state_of pairs words (event ∷ log)) node i ref
   still log event h none node i word ref is slot =
       slot_mentions (state_of pairs words (event ∷ log)) node i word ref
       (slot_stays (start pairs words) log event h.1 (sound (start pairs words) log (sound_start pairs words) h.0) none node i word slot) is
 
   -- a slot that names a row keeps naming it, or a change of it does, which takes it out. The reference is neither a change nor Unset
-  slot_step : (log : Log) (event : Event) → EachEnabled (start pairs words) (event ∷ log) → (node i word : ℕ) (ref : Ref) → ref_of word ≡ Some ref → ((base : ℕ) → ref ≢ ChangeAt base) → ref ≢ Unset
-      → SlotHolds (state_of pairs words log) node i word → Mentions (state_of pairs words (event ∷ log)) node i ref
+  slot_step : (log : Log) (event : Event) → EachEnabled (start pairs words) (event ∷ log)
+      → (node i word : ℕ) (ref : Ref) → ref_of word ≡ Some ref → ((base : ℕ) → ref ≢ ChangeAt base)
+      → ref ≢ Unset
+      → SlotHolds (state_of pairs words log) node i word
+      → Mentions (state_of pairs words (event ∷ log)) node i ref
   slot_step log (Install caller base rows) h node i word ref is no_change set slot =
       let first = start pairs words in
       let s = sound first log (sound_start pairs words) h.0 in
@@ -80,15 +85,18 @@ module _ (pairs : List Pair) (words : ℕ) (opens : CanOpen pairs words) where
   slot_step log (Lose caller bases) h node i word ref is no_change set slot = still log (Lose caller bases) h tt node i word ref is slot
 
   -- what is named for a slot stays named for it
-  pub mentions_step : (log : Log) (event : Event) → EachEnabled (start pairs words) (event ∷ log) → (node i : ℕ) (ref : Ref) → ((base : ℕ) → ref ≢ ChangeAt base) → ref ≢ Unset
-      → Mentions (state_of pairs words log) node i ref → Mentions (state_of pairs words (event ∷ log)) node i ref
+  pub mentions_step : (log : Log) (event : Event) → EachEnabled (start pairs words) (event ∷ log)
+      → (node i : ℕ) (ref : Ref) → ((base : ℕ) → ref ≢ ChangeAt base) → ref ≢ Unset
+      → Mentions (state_of pairs words log) node i ref
+      → Mentions (state_of pairs words (event ∷ log)) node i ref
   mentions_step log event h node i ref no_change set (inl m) = slot_step log event h node i (state_of pairs words log).anchor ref m.2 no_change set (in_anchor m.0 m.1 refl)
   mentions_step log event h node i ref no_change set (inr m) = at m.1 m.2 m.3
     where
       grows : AllGrow (state_of pairs words log).pieces (state_of pairs words (event ∷ log)).pieces
       grows = grow_step (start pairs words) log event h.1 (sound (start pairs words) log (sound_start pairs words) h.0)
 
-      at : (p : Piece) → (state_of pairs words log).pieces m.0 ≡ Some p → Says m.0 p node i ref → Mentions (state_of pairs words (event ∷ log)) node i ref
+      at : (p : Piece) → (state_of pairs words log).pieces m.0 ≡ Some p → Says m.0 p node i ref
+          → Mentions (state_of pairs words (event ∷ log)) node i ref
       at (Leaf r) e says = absurd says
       at (Inner r) e says = slot_step log event h node i says.1 ref says.3 no_change set (in_row r (subst (λ b. (state_of pairs words log).pieces b ≡ Some (Inner r)) (sym says.0) e) says.2)
       at (Change r) e says =
@@ -121,15 +129,19 @@ module _ (pairs : List Pair) (words : ℕ) (opens : CanOpen pairs words) where
           )
 
   -- over a whole log
-  pub mentions_stay : (earlier log : Log) → GoesOn earlier log → EachEnabled (start pairs words) log → (node i : ℕ) (ref : Ref) → ((base : ℕ) → ref ≢ ChangeAt base) → ref ≢ Unset
-      → Mentions (state_of pairs words earlier) node i ref → Mentions (state_of pairs words log) node i ref
+  pub mentions_stay : (earlier log : Log) → GoesOn earlier log → EachEnabled (start pairs words) log
+      → (node i : ℕ) (ref : Ref) → ((base : ℕ) → ref ≢ ChangeAt base) → ref ≢ Unset
+      → Mentions (state_of pairs words earlier) node i ref
+      → Mentions (state_of pairs words log) node i ref
   mentions_stay earlier _ same_log h node i ref no_change set m = m
   mentions_stay earlier _ (one_event {log = log} event g) h node i ref no_change set m = mentions_step log event h node i ref no_change set (mentions_stay earlier log g h.0 node i ref no_change set m)
 
 -- ---- children
 
 -- a side of a change is named
-side_mentioned : (t : Snapshot) (base : ℕ) (r : ChangeRow) (ref : Ref) → t.pieces base ≡ Some (Change r) → ref_of (side_of r) ≡ Some ref → Mentions t r.node r.index ref
+side_mentioned : (t : Snapshot) (base : ℕ) (r : ChangeRow) (ref : Ref)
+    → t.pieces base ≡ Some (Change r) → ref_of (side_of r) ≡ Some ref
+    → Mentions t r.node r.index ref
 side_mentioned t base r ref e is = inr (base, Change r, e, (refl, refl, either is))
   where
     either : ref_of (side_of r) ≡ Some ref → (ref_of r.from ≡ Some ref) ⊎ (ref_of r.to ≡ Some ref)
@@ -140,10 +152,13 @@ side_mentioned t base r ref e is = inr (base, Change r, e, (refl, refl, either i
         ]
 
 -- what a slot reads as once changes are read away is named for it
-past_change_mentioned : (t : Snapshot) (node i word : ℕ) (ref : Ref) → WordsName t → SlotHolds t node i word → past_change t.pieces (ref_of word) ≡ Some ref → Mentions t node i ref
+past_change_mentioned : (t : Snapshot) (node i word : ℕ) (ref : Ref) → WordsName t
+    → SlotHolds t node i word → past_change t.pieces (ref_of word) ≡ Some ref
+    → Mentions t node i ref
 past_change_mentioned t node i word ref o slot e = at (ref_of word) refl (slot_names t node i word o slot) e
   where
-    at : (x : Option Ref) → ref_of word ≡ x → SlotNames t.pieces node i x → past_change t.pieces x ≡ Some ref → Mentions t node i ref
+    at : (x : Option Ref) → ref_of word ≡ x → SlotNames t.pieces node i x
+        → past_change t.pieces x ≡ Some ref → Mentions t node i ref
     at (Some (ChangeAt base)) is h f =
         let side : ref_of (side_of h.row) ≡ Some ref = sym (ap change_reads h.published) ∙ f in
         subst (λ n. Mentions t n i ref) h.node_is (subst (λ j. Mentions t h.row.node j ref) h.index (side_mentioned t base h.row ref h.published side))
@@ -155,22 +170,27 @@ past_change_mentioned t node i word ref o slot e = at (ref_of word) refl (slot_n
     at None is h f = absurd (cc)
 
 -- so is what it reads as once rebuilds are read away, if that is an inner row
-pub child_mentioned : (t : Snapshot) (node i child : ℕ) → WordsName t → IsChild t node i child → Mentions t node i (InnerAt child)
+pub child_mentioned : (t : Snapshot) (node i child : ℕ) → WordsName t → IsChild t node i child
+    → Mentions t node i (InnerAt child)
 child_mentioned t node i child o c = at (past_change t.pieces (ref_of c.word)) refl c.reads
   where
-    at : (x : Option Ref) → past_change t.pieces (ref_of c.word) ≡ x → past_rebuild t.pieces x ≡ Some (InnerAt child) → Mentions t node i (InnerAt child)
+    at : (x : Option Ref) → past_change t.pieces (ref_of c.word) ≡ x
+        → past_rebuild t.pieces x ≡ Some (InnerAt child) → Mentions t node i (InnerAt child)
     at (Some (InnerAt base)) is e = past_change_mentioned t node i c.word (InnerAt child) o c.holds (is ∙ e)
     at (Some (RebuildAt base)) is e =
         -- the rebuild is one for this slot
         by_rebuild base is e (rebuild_here base is)
       where
-        rebuild_here : (base : ℕ) → past_change t.pieces (ref_of c.word) ≡ Some (RebuildAt base) → SideNames t.pieces node i (Some (RebuildAt base))
+        rebuild_here : (base : ℕ) → past_change t.pieces (ref_of c.word) ≡ Some (RebuildAt base)
+            → SideNames t.pieces node i (Some (RebuildAt base))
         rebuild_here base is = ⊎_elim (λ side. subst (λ x. SideNames t.pieces node i x) is side) (λ unset. absurd (clash (past_change t.pieces (ref_of c.word)) unset is)) (past_change_names t node i (ref_of c.word) o (slot_names t node i c.word o c.holds))
           where
             clash : (x : Option Ref) → x ≡ Some Unset → x ≡ Some (RebuildAt base) → ⊥
             clash x e f = cc
 
-        by_rebuild : (base : ℕ) → past_change t.pieces (ref_of c.word) ≡ Some (RebuildAt base) → past_rebuild t.pieces (Some (RebuildAt base)) ≡ Some (InnerAt child) → SideNames t.pieces node i (Some (RebuildAt base)) → Mentions t node i (InnerAt child)
+        by_rebuild : (base : ℕ) → past_change t.pieces (ref_of c.word) ≡ Some (RebuildAt base)
+            → past_rebuild t.pieces (Some (RebuildAt base)) ≡ Some (InnerAt child)
+            → SideNames t.pieces node i (Some (RebuildAt base)) → Mentions t node i (InnerAt child)
         by_rebuild base is e r =
             let read : Some (InnerAt r.row.target) ≡ Some (InnerAt child) = sym (ap rebuild_reads r.published) ∙ e in
             let same : InnerAt r.row.target ≡ InnerAt child = cc in
@@ -182,8 +202,10 @@ child_mentioned t node i child o c = at (past_change t.pieces (ref_of c.word)) r
     at None is e = absurd (cc)
 
 -- an inner row is the child of one slot only, now and before
-pub one_parent : (pairs : List Pair) (words : ℕ) → CanOpen pairs words → (earlier log : Log) → GoesOn earlier log → EachEnabled (start pairs words) log → (n i k j child : ℕ)
-    → IsChild (state_of pairs words earlier) n i child → IsChild (state_of pairs words log) k j child → (n ≡ k) × (i ≡ j)
+pub one_parent : (pairs : List Pair) (words : ℕ) → CanOpen pairs words → (earlier log : Log)
+    → GoesOn earlier log → EachEnabled (start pairs words) log → (n i k j child : ℕ)
+    → IsChild (state_of pairs words earlier) n i child
+    → IsChild (state_of pairs words log) k j child → (n ≡ k) × (i ≡ j)
 one_parent pairs words opens earlier log g h n i k j child c d =
     let before = names pairs words opens earlier (enabled_before (start pairs words) earlier log g h) in
     let now = names pairs words opens log h in

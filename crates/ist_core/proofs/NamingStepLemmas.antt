@@ -32,7 +32,8 @@ use Rattle.ist_core.proofs.InstallNamingLemmas.{installed_names}
 use Rattle.ist_core.proofs.TreeLemmas.{IsTreeRow, root_tree, tree_of_ideal, tree_slot, tree_root, tree_rows}
 
 -- a row that the change leaves stands still
-pub changed_at-fixed : (ps : Pieces) (at base : ℕ) (f : Piece → Piece) (p : Piece) → ps base ≡ Some p → f p ≡ p → changed_at ps at f base ≡ Some p
+pub changed_at-fixed : (ps : Pieces) (at base : ℕ) (f : Piece → Piece) (p : Piece)
+    → ps base ≡ Some p → f p ≡ p → changed_at ps at f base ≡ Some p
 changed_at-fixed ps at base f p e same =
     elim (base == at) as (λ v. (if v then option_map f (ps base) else ps base) ≡ Some p) [
       | true ↦ ap (option_map f) e ∙ ap (λ x. Some x) same
@@ -42,8 +43,10 @@ changed_at-fixed ps at base f p e same =
 -- ---- the shapes of events
 
 -- an event that changes one row, and no word that names a row
-names_changed : (t u : Snapshot) (at : ℕ) (f : Piece → Piece) → AllGrow t.pieces u.pieces → u.pieces ≡ changed_at t.pieces at f → u.anchor ≡ t.anchor
-    → ((ps : Pieces) (p : Piece) → RowNames ps at p → RowNames ps at (f p)) → WordsName t → WordsName u
+names_changed : (t u : Snapshot) (at : ℕ) (f : Piece → Piece) → AllGrow t.pieces u.pieces
+    → u.pieces ≡ changed_at t.pieces at f → u.anchor ≡ t.anchor
+    → ((ps : Pieces) (p : Piece) → RowNames ps at p → RowNames ps at (f p)) → WordsName t
+    → WordsName u
 unfolding AllName
 names_changed t u at f g pieces word keeps o =
     record {
@@ -53,8 +56,11 @@ names_changed t u at f g pieces word keeps o =
     }
 
 -- an event that writes a slot, behind rows that name what they may
-names_written : (t u : Snapshot) (ps : Pieces) (node i word : ℕ) → AllName ps ps → AllGrow t.pieces u.pieces → u.pieces ≡ changed_at ps node (with_slot i word)
-    → u.anchor ≡ (if node == anchor then word else t.anchor) → (node ≡ anchor → i ≡ 0) → SlotNames (changed_at ps node (with_slot i word)) node i (ref_of word) → WordsName t → WordsName u
+names_written : (t u : Snapshot) (ps : Pieces) (node i word : ℕ) → AllName ps ps
+    → AllGrow t.pieces u.pieces → u.pieces ≡ changed_at ps node (with_slot i word)
+    → u.anchor ≡ (if node == anchor then word else t.anchor) → (node ≡ anchor → i ≡ 0)
+    → SlotNames (changed_at ps node (with_slot i word)) node i (ref_of word) → WordsName t
+    → WordsName u
 unfolding AllName
 names_written t u ps node i word all g pieces is zero_there h o =
     let here = subst (λ qs. SlotNames qs node i (ref_of word)) (sym pieces) h in
@@ -65,7 +71,9 @@ names_written t u ps node i word all g pieces is zero_there h o =
       anchor_slot = subst (λ x. SlotNames u.pieces anchor 0 (ref_of x)) (sym is) (at here (node == anchor) (eqb_tells node anchor));
     }
   where
-    at : SlotNames u.pieces node i (ref_of word) → (v : Bool) → (((node == anchor) ≡ true) × (node ≡ anchor)) ⊎ (((node == anchor) ≡ false) × (node ≢ anchor))
+    at : SlotNames u.pieces node i (ref_of word) → (v : Bool)
+        → (((node == anchor) ≡ true) × (node ≡ anchor)) ⊎
+        (((node == anchor) ≡ false) × (node ≢ anchor))
         → SlotNames u.pieces anchor 0 (ref_of (if node == anchor then word else t.anchor))
     at here v (inl k) =
         subst (λ b. SlotNames u.pieces anchor 0 (ref_of (if b then word else t.anchor))) (sym k.0)
@@ -76,7 +84,8 @@ names_written t u ps node i word all g pieces is zero_there h o =
 -- ---- the events that do something
 
 -- the change of an Install stands behind it
-pub installed_stands : (ps : Pieces) (base : ℕ) (change : ChangeRow) (fresh : List Row) → with_installed ps base change fresh base ≡ Some (Change change)
+pub installed_stands : (ps : Pieces) (base : ℕ) (change : ChangeRow) (fresh : List Row)
+    → with_installed ps base change fresh base ≡ Some (Change change)
 installed_stands ps base change fresh = with_row-same (with_fresh ps change fresh) base (Change change)
 
 -- all rows of a table name what they may
@@ -84,8 +93,12 @@ pub all_name : (t : Snapshot) → WordsName t → AllName t.pieces t.pieces
 unfolding AllName
 all_name t o = o.rows
 
-names_install : (first : Snapshot) (log : Log) (caller base : ℕ) (rows : List Row) → (h : CanInstall first log caller base rows) → IsSound (state first log) → (state first log).pieces anchor ≡ None
-    → IsGoodBase base → ((at : ℕ) (p : Piece) → with_installed (state first log).pieces base h.change h.fresh at ≡ Some p → IsGoodBase at) → WordsName (state first log) → WordsName (after (state first log) (Install caller base rows))
+names_install : (first : Snapshot) (log : Log) (caller base : ℕ) (rows : List Row)
+    → (h : CanInstall first log caller base rows) → IsSound (state first log)
+    → (state first log).pieces anchor ≡ None
+    → IsGoodBase base
+    → ((at : ℕ) (p : Piece) → with_installed (state first log).pieces base h.change h.fresh at ≡ Some p → IsGoodBase at)
+    → WordsName (state first log) → WordsName (after (state first log) (Install caller base rows))
 names_install first log caller base rows h sound free good_here good o =
     let t = state first log in
     let holds = holds_installed first log caller base rows h in
@@ -111,11 +124,15 @@ names_install first log caller base rows h sound free good_here good o =
     (subst (λ ref. SlotNames rs h.change.node h.change.index ref) (sym (ref_of-change base good_here)) there) o)
 
 -- the side that a change leaves in its slot is one of its two
-pub side_names : (ps : Pieces) (node i : ℕ) (change : ChangeRow) → SideNames ps node i (ref_of change.from) → SideNames ps node i (ref_of change.to) → SideNames ps node i (ref_of (side_of change))
+pub side_names : (ps : Pieces) (node i : ℕ) (change : ChangeRow)
+    → SideNames ps node i (ref_of change.from) → SideNames ps node i (ref_of change.to)
+    → SideNames ps node i (ref_of (side_of change))
 side_names ps node i change from to =
     elim (change.decision == decided_yes) as (λ v. SideNames ps node i (ref_of (if v then change.to else change.from))) [ true ↦ to | false ↦ from ]
 
-names_resolve : (first : Snapshot) (log : Log) (caller base : ℕ) → (h : CanResolve (state first log) caller base) → IsSound (state first log) → (state first log).pieces anchor ≡ None
+names_resolve : (first : Snapshot) (log : Log) (caller base : ℕ)
+    → (h : CanResolve (state first log) caller base) → IsSound (state first log)
+    → (state first log).pieces anchor ≡ None
     → WordsName (state first log) → WordsName (after (state first log) (Resolve caller base))
 names_resolve first log caller base h sound free o =
     let t = state first log in
@@ -130,13 +147,16 @@ names_resolve first log caller base h sound free o =
     (slot_grows t.pieces rs grows h.change.node h.change.index (ref_of word) (side_slot t.pieces h.change.node h.change.index (ref_of word) side)) o)
 
 -- the rows of a tree name what they may
-tree_born : (ps : Pieces) (rows : List ℕ) → Each (IsTreeRow ps) rows → (base : ℕ) (p : Piece) → Among base rows → ps base ≡ Some p → RowNames ps base p
+tree_born : (ps : Pieces) (rows : List ℕ) → Each (IsTreeRow ps) rows → (base : ℕ) (p : Piece)
+    → Among base rows → ps base ≡ Some p → RowNames ps base p
 tree_born ps rows all base p i e =
     let it = each-among (IsTreeRow ps) base rows all i in
     known (λ x. RowNames ps base x) (ps base) p (Inner it.row) e it.published it.names
 
-names_root : (first : Snapshot) (log : Log) (caller rebuild word : ℕ) (rows : List Row) → (h : CanRoot (state first log) caller rebuild word rows) → IsSound (state first log)
-    → WordsName (state first log) → WordsName (after (state first log) (Root caller rebuild word rows))
+names_root : (first : Snapshot) (log : Log) (caller rebuild word : ℕ) (rows : List Row)
+    → (h : CanRoot (state first log) caller rebuild word rows) → IsSound (state first log)
+    → WordsName (state first log)
+    → WordsName (after (state first log) (Root caller rebuild word rows))
 unfolding AllName
 names_root first log caller rebuild word rows h sound o =
     let t = state first log in
@@ -159,8 +179,10 @@ names_root first log caller rebuild word rows h sound o =
       anchor_slot = slot_grows t.pieces u.pieces (grow_step first log (Root caller rebuild word rows) h sound) anchor 0 (ref_of t.anchor) o.anchor_slot;
     }
 
-names_place : (first : Snapshot) (log : Log) (caller rebuild i word : ℕ) (rows : List Row) → (h : CanPlace (state first log) caller rebuild i word rows) → IsSound (state first log)
-    → WordsName (state first log) → WordsName (after (state first log) (Place caller rebuild i word rows))
+names_place : (first : Snapshot) (log : Log) (caller rebuild i word : ℕ) (rows : List Row)
+    → (h : CanPlace (state first log) caller rebuild i word rows) → IsSound (state first log)
+    → WordsName (state first log)
+    → WordsName (after (state first log) (Place caller rebuild i word rows))
 unfolding AllName
 names_place first log caller rebuild i word rows h sound o =
     let t = state first log in
@@ -184,7 +206,8 @@ names_place first log caller rebuild i word rows h sound o =
 -- ---- all events
 
 -- an enabled event keeps what words name, where bases are good
-pub names_step : (first : Snapshot) (log : Log) (event : Event) → Enabled first log event → IsSound (state first log) → (state first log).pieces anchor ≡ None
+pub names_step : (first : Snapshot) (log : Log) (event : Event) → Enabled first log event
+    → IsSound (state first log) → (state first log).pieces anchor ≡ None
     → ((caller base : ℕ) (rows : List Row) (h : CanInstall first log caller base rows) → IsGoodBase base × ((at : ℕ) (p : Piece) → with_installed (state first log).pieces base h.change h.fresh at ≡ Some p → IsGoodBase at))
     → WordsName (state first log) → WordsName (state first (event ∷ log))
 names_step first log (Install caller base rows) h s free good o = let ok = good caller base rows h in names_install first log caller base rows h s free ok.0 ok.1 o

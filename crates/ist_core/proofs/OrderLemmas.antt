@@ -25,8 +25,11 @@ use Rattle.ist_core.proofs.StartTreeLemmas.{names_start}
 
 module _ (pairs : List Pair) (words : ℕ) (opens : CanOpen pairs words) where
   -- the rows of an Install lie at good bases
-  pub install_good : (log : Log) → EachEnabled (start pairs words) log → (caller base : ℕ) (rows : List Row) (h : CanInstall (start pairs words) log caller base rows)
-      → IsGoodBase base × ((at : ℕ) (p : Piece) → with_installed (state_of pairs words log).pieces base h.change h.fresh at ≡ Some p → IsGoodBase at)
+  pub install_good : (log : Log) → EachEnabled (start pairs words) log
+      → (caller base : ℕ) (rows : List Row)
+      (h : CanInstall (start pairs words) log caller base rows)
+      → IsGoodBase base ×
+      ((at : ℕ) (p : Piece) → with_installed (state_of pairs words log).pieces base h.change h.fresh at ≡ Some p → IsGoodBase at)
   install_good log e caller base rows h =
       let t = state_of pairs words log in
       let holds = holds_installed (start pairs words) log caller base rows h in
@@ -42,7 +45,8 @@ module _ (pairs : List Pair) (words : ℕ) (opens : CanOpen pairs words) where
       )
 
   -- each word behind a log from a new table names what it may
-  pub names : (log : Log) → EachEnabled (start pairs words) log → WordsName (state_of pairs words log)
+  pub names : (log : Log) → EachEnabled (start pairs words) log
+      → WordsName (state_of pairs words log)
   names [] h = names_start pairs words opens
   names (event ∷ log) h =
       names_step (start pairs words) log event h.1 (sound (start pairs words) log (sound_start pairs words) h.0) (anchor_free pairs words log h.0) (install_good log h.0) (names log h.0)
@@ -50,7 +54,9 @@ module _ (pairs : List Pair) (words : ℕ) (opens : CanOpen pairs words) where
 -- ---- what a slot reads as
 
 -- what a slot reads as once changes are read away may be put into it, or isn't set yet
-pub past_change_names : (t : Snapshot) (node i : ℕ) (ref : Option Ref) → WordsName t → SlotNames t.pieces node i ref → SideNames t.pieces node i (past_change t.pieces ref) ⊎ (past_change t.pieces ref ≡ Some Unset)
+pub past_change_names : (t : Snapshot) (node i : ℕ) (ref : Option Ref) → WordsName t
+    → SlotNames t.pieces node i ref
+    → SideNames t.pieces node i (past_change t.pieces ref) ⊎ (past_change t.pieces ref ≡ Some Unset)
 past_change_names t node i (Some Empty) o h = inl h
 past_change_names t node i (Some Unset) o h = inr refl
 past_change_names t node i (Some (LeafAt base)) o h = inl h
@@ -64,7 +70,9 @@ past_change_names t node i (Some (ChangeAt base)) o h =
     inl (subst (λ ref. SideNames t.pieces node i ref) (sym (ap change_reads h.published)) here)
 
 -- what may be put into a slot reads as a row above its node, if as an inner row
-pub past_rebuild_above : (t : Snapshot) (node i child : ℕ) (ref : Option Ref) → WordsName t → SideNames t.pieces node i ref → past_rebuild t.pieces ref ≡ Some (InnerAt child) → node < child
+pub past_rebuild_above : (t : Snapshot) (node i child : ℕ) (ref : Option Ref) → WordsName t
+    → SideNames t.pieces node i ref → past_rebuild t.pieces ref ≡ Some (InnerAt child)
+    → node < child
 past_rebuild_above t node i child (Some Empty) o h e = absurd (cc)
 past_rebuild_above t node i child (Some Unset) o h e = absurd h
 past_rebuild_above t node i child (Some (LeafAt base)) o h e = absurd (cc)
@@ -78,14 +86,16 @@ past_rebuild_above t node i child (Some (RebuildAt base)) o h e =
 past_rebuild_above t node i child None o h e = absurd h
 
 -- an inner child lies above its parent
-pub child_above : (t : Snapshot) (node i child : ℕ) → WordsName t → IsChild t node i child → node < child
+pub child_above : (t : Snapshot) (node i child : ℕ) → WordsName t → IsChild t node i child
+    → node < child
 child_above t node i child o c =
     ⊎_elim
     (λ side. past_rebuild_above t node i child (past_change t.pieces (ref_of c.word)) o side c.reads)
     (λ unset. absurd (clash (past_change t.pieces (ref_of c.word)) unset c.reads))
     (past_change_names t node i (ref_of c.word) o (slot_names t node i c.word o c.holds))
   where
-    clash : (ref : Option Ref) → ref ≡ Some Unset → past_rebuild t.pieces ref ≡ Some (InnerAt child) → ⊥
+    clash : (ref : Option Ref) → ref ≡ Some Unset → past_rebuild t.pieces ref ≡ Some (InnerAt child)
+        → ⊥
     clash (Some Unset) e f = cc
     clash (Some Empty) e f = cc
     clash (Some (LeafAt base)) e f = cc

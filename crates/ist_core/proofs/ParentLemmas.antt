@@ -36,7 +36,10 @@ use Rattle.ist_core.proofs.HomeStepLemmas.{NewPair, one_home_changed, one_home_r
 module _ (pairs : List Pair) (words : ℕ) (opens : CanOpen pairs words) where
   -- ---- one home behind each event
 
-  one_home_install : (log : Log) → EachEnabled (start pairs words) log → (caller base : ℕ) (rows : List Row) (h : CanInstall (start pairs words) log caller base rows) → HasOneHome (state_of pairs words log)
+  one_home_install : (log : Log) → EachEnabled (start pairs words) log
+      → (caller base : ℕ) (rows : List Row)
+      (h : CanInstall (start pairs words) log caller base rows)
+      → HasOneHome (state_of pairs words log)
       → HasOneHome (after (state_of pairs words log) (Install caller base rows))
   one_home_install log e caller base rows h home =
       let t = state_of pairs words log in
@@ -59,7 +62,8 @@ module _ (pairs : List Pair) (words : ℕ) (opens : CanOpen pairs words) where
       (λ p _ old. came-with_slot t New h.change.node h.change.index word p slot old))
       (anchor_came t u New h.change.node h.change.index word refl (anchor_slot t h.change.node h.change.index h.change.from (anchor_free pairs words log e) h.in_slot) slot))
 
-  one_home_step : (log : Log) (event : Event) → EachEnabled (start pairs words) (event ∷ log) → HasOneHome (state_of pairs words log) → HasOneHome (state_of pairs words (event ∷ log))
+  one_home_step : (log : Log) (event : Event) → EachEnabled (start pairs words) (event ∷ log)
+      → HasOneHome (state_of pairs words log) → HasOneHome (state_of pairs words (event ∷ log))
   one_home_step log (Install caller base rows) h home = one_home_install log h.0 caller base rows h.1 home
   one_home_step log (Resolve caller base) h home = one_home_resolve (state_of pairs words log) caller base h.1 (anchor_free pairs words log h.0) (names pairs words opens log h.0) home
   one_home_step log (Root caller rebuild word rows) h home =
@@ -82,8 +86,11 @@ module _ (pairs : List Pair) (words : ℕ) (opens : CanOpen pairs words) where
 
   -- ---- a new table
 
-  start_says : (rows : List ℕ) → Each (IsTreeRow (start pairs words).pieces) rows → (base : ℕ) (p : Piece) → (start pairs words).pieces base ≡ Some p → IsLeafRow p ⊎ Among base rows
-      → (node i child : ℕ) → Says base p node i (InnerAt child) → HangsIn (start pairs words).pieces anchor 0 (tree_at first_row pairs) rows node i child
+  start_says : (rows : List ℕ) → Each (IsTreeRow (start pairs words).pieces) rows
+      → (base : ℕ) (p : Piece) → (start pairs words).pieces base ≡ Some p
+      → IsLeafRow p ⊎ Among base rows
+      → (node i child : ℕ) → Says base p node i (InnerAt child)
+      → HangsIn (start pairs words).pieces anchor 0 (tree_at first_row pairs) rows node i child
   start_says rows all base _ e (inl (leaf_row r)) node i child says = absurd says
   start_says rows all base p e (inr k) node i child says =
       let ps = (start pairs words).pieces in
@@ -113,13 +120,16 @@ module _ (pairs : List Pair) (words : ℕ) (opens : CanOpen pairs words) where
       same_ref : (o : Option Ref) (a b : Ref) → o ≡ Some a → o ≡ Some b → a ≡ b
       same_ref o a b e f = cc
 
-      came : (node i child : ℕ) → Mentions (start pairs words) node i (InnerAt child) → HangsIn (start pairs words).pieces anchor 0 (tree_at first_row pairs) hang.rows node i child
+      came : (node i child : ℕ) → Mentions (start pairs words) node i (InnerAt child)
+          → HangsIn (start pairs words).pieces anchor 0
+          (tree_at first_row pairs) hang.rows node i child
       came node i child (inl h) = inl (h.0, h.1, same_ref (ref_of (start pairs words).anchor) (tree_at first_row pairs) (InnerAt child) (start_anchor pairs words opens) h.2)
       came node i child (inr h) =
           start_says hang.rows (tree_rows (start pairs words).pieces (tree_at first_row pairs) anchor hang.rows hang.tree) h.0 h.1 h.2
           (hang.each h.0 h.1 (among-pieces_of (rows_from first_row pairs) h.0 h.1 h.2)) node i child h.3
 
   -- each inner row behind a log from a new table has one home
-  pub one_home : (log : Log) → EachEnabled (start pairs words) log → HasOneHome (state_of pairs words log)
+  pub one_home : (log : Log) → EachEnabled (start pairs words) log
+      → HasOneHome (state_of pairs words log)
   one_home [] h = one_home_start
   one_home (event ∷ log) h = one_home_step log event h (one_home log h.0)

@@ -46,14 +46,16 @@ module _ (pairs : List Pair) (words : ℕ) where
   Claimed [] base size = (p : Piece) × ((start pairs words).pieces base ≡ Some p) × (size_of p ≡ size)
   Claimed (event ∷ log) base size = ((caller : ℕ) × Reserves caller base size event) ⊎ Claimed log base size
 
-  pub claimed_set_aside : (log : Log) (base size : ℕ) → IsSetAside pairs words log base size → Claimed log base size
+  pub claimed_set_aside : (log : Log) (base size : ℕ) → IsSetAside pairs words log base size
+      → Claimed log base size
   claimed_set_aside [] base size (at_start p e f) = (p, e, f)
   claimed_set_aside [] base size (by_caller caller h) = absurd h
   claimed_set_aside (event ∷ log) base size (at_start p e f) = inr (claimed_set_aside log base size (at_start p e f))
   claimed_set_aside (event ∷ log) base size (by_caller caller (inl h)) = inl (caller, h)
   claimed_set_aside (event ∷ log) base size (by_caller caller (inr h)) = inr (claimed_set_aside log base size (by_caller caller h))
 
-  pub set_aside_claimed : (log : Log) (base size : ℕ) → Claimed log base size → IsSetAside pairs words log base size
+  pub set_aside_claimed : (log : Log) (base size : ℕ) → Claimed log base size
+      → IsSetAside pairs words log base size
   set_aside_claimed [] base size h = at_start h.0 h.1 h.2
   set_aside_claimed (event ∷ log) base size (inl h) = by_caller h.0 (inl h.1)
   set_aside_claimed (event ∷ log) base size (inr h) = longer (set_aside_claimed log base size h)
@@ -63,7 +65,8 @@ module _ (pairs : List Pair) (words : ℕ) where
       longer (by_caller caller k) = by_caller caller (inr k)
 
   -- the first free word lies behind the fixed ones
-  pub next_behind_fixed : (log : Log) → EachEnabled (start pairs words) log → first_row ≤ (state_of pairs words log).next
+  pub next_behind_fixed : (log : Log) → EachEnabled (start pairs words) log
+      → first_row ≤ (state_of pairs words log).next
   next_behind_fixed [] h = omega arith
   next_behind_fixed (event ∷ log) h =
       let low = next_behind_fixed log h.0 in
@@ -71,8 +74,10 @@ module _ (pairs : List Pair) (words : ℕ) where
       omega arith
 
   -- what an event reserves begins at the first free word, and has a word
-  reserve_place : (log : Log) (event : Event) (caller base size : ℕ) → Enabled (start pairs words) log event → Reserves caller base size event
-      → (base ≡ (state_of pairs words log).next) × (0 < size) × ((state_of pairs words (event ∷ log)).next ≡ base + size)
+  reserve_place : (log : Log) (event : Event) (caller base size : ℕ)
+      → Enabled (start pairs words) log event → Reserves caller base size event
+      → (base ≡ (state_of pairs words log).next) × (0 < size) ×
+      ((state_of pairs words (event ∷ log)).next ≡ base + size)
   reserve_place log (Reserve c b z) caller base size h r =
       let some = reserve_positive (state_of pairs words log) c b z h in
       let same = r.2 in
@@ -92,7 +97,8 @@ module _ (pairs : List Pair) (words : ℕ) where
   reserve_place log (Lose c bases) caller base size h r = absurd r
 
   -- what was set aside lies within the table
-  pub claimed_within : (log : Log) (base size : ℕ) → EachEnabled (start pairs words) log → Claimed log base size → IsWithin (state_of pairs words log) base size
+  pub claimed_within : (log : Log) (base size : ℕ) → EachEnabled (start pairs words) log
+      → Claimed log base size → IsWithin (state_of pairs words log) base size
   claimed_within [] base size h c =
       let rows = fills_rows (length pairs) first_row pairs (omega arith) in
       let inside = fills_within first_row (first_row + ideal_words (length pairs)) (rows_from first_row pairs) base c.0 rows (among-pieces_of (rows_from first_row pairs) base c.0 c.1) in
@@ -114,7 +120,8 @@ module _ (pairs : List Pair) (words : ℕ) where
       record { some = before.some; behind_fixed = before.behind_fixed; below_next = omega arith }
 
   -- rows that were set aside are one, or share no word
-  pub claimed_apart : (log : Log) (base size other more : ℕ) → EachEnabled (start pairs words) log → Claimed log base size → Claimed log other more
+  pub claimed_apart : (log : Log) (base size other more : ℕ) → EachEnabled (start pairs words) log
+      → Claimed log base size → Claimed log other more
       → ((base ≡ other) × (size ≡ more)) ⊎ ((base ≢ other) × Apart base size other more)
   claimed_apart [] base size other more h c d =
       ⊎_elim
@@ -158,7 +165,9 @@ module _ (pairs : List Pair) (words : ℕ) where
     pub held : (h : HeldRow) → Among h t.held → Claimed log h.base h.size
 
   -- an event that moves rows publishes none where a row is lost
-  lost_free : (log : Log) (event : Event) (base : ℕ) → Loses base event → (state_of pairs words log).pieces base ≡ None → (state_of pairs words (event ∷ log)).pieces base ≡ None
+  lost_free : (log : Log) (event : Event) (base : ℕ) → Loses base event
+      → (state_of pairs words log).pieces base ≡ None
+      → (state_of pairs words (event ∷ log)).pieces base ≡ None
   lost_free log (Lose caller bases) base l e = e
   lost_free log (Enter c) base l e = absurd l
   lost_free log (Reserve c b z) base l e = absurd l
@@ -174,8 +183,10 @@ module _ (pairs : List Pair) (words : ℕ) where
   lost_free log (Draw c rebuild part) base l e = absurd l
   lost_free log (Place c rebuild i word rows) base l e = absurd l
 
-  placed_moves : (log : Log) (event : Event) → IsSound (state_of pairs words log) → IsSound (state_of pairs words (event ∷ log)) → IsPlaced log (state_of pairs words log)
-      → Moves (state_of pairs words log) (state_of pairs words (event ∷ log)) event → IsPlaced (event ∷ log) (state_of pairs words (event ∷ log))
+  placed_moves : (log : Log) (event : Event) → IsSound (state_of pairs words log)
+      → IsSound (state_of pairs words (event ∷ log)) → IsPlaced log (state_of pairs words log)
+      → Moves (state_of pairs words log) (state_of pairs words (event ∷ log)) event
+      → IsPlaced (event ∷ log) (state_of pairs words (event ∷ log))
   placed_moves log event s v k m =
       let t = state_of pairs words log in
       let u = state_of pairs words (event ∷ log) in
@@ -185,14 +196,18 @@ module _ (pairs : List Pair) (words : ℕ) where
       }
     where
       -- a row that stood has its size still
-      stood : (base : ℕ) (p : Piece) → (state_of pairs words (event ∷ log)).pieces base ≡ Some p → (q : Piece) × ((state_of pairs words log).pieces base ≡ Some q) → Claimed log base (size_of p)
+      stood : (base : ℕ) (p : Piece) → (state_of pairs words (event ∷ log)).pieces base ≡ Some p
+          → (q : Piece) × ((state_of pairs words log).pieces base ≡ Some q)
+          → Claimed log base (size_of p)
       stood base p e q =
           let there = m.stays base q.0 q.1 in
           let same = one_piece ((state_of pairs words (event ∷ log)).pieces base) p there.0 e there.1 in
           subst (λ z. Claimed log base z) (sym (ap size_of same ∙ there.2)) (k.published base q.0 q.1)
 
       -- a row that was held has the size that was held
-      was_held : (base : ℕ) (p : Piece) → (state_of pairs words (event ∷ log)).pieces base ≡ Some p → (h : HeldRow) × Among h (state_of pairs words log).held × (h.base ≡ base) → Claimed log base (size_of p)
+      was_held : (base : ℕ) (p : Piece) → (state_of pairs words (event ∷ log)).pieces base ≡ Some p
+          → (h : HeldRow) × Among h (state_of pairs words log).held × (h.base ≡ base)
+          → Claimed log base (size_of p)
       was_held base p e h =
           let here : (state_of pairs words (event ∷ log)).pieces h.0.base ≡ Some p = subst (λ b. (state_of pairs words (event ∷ log)).pieces b ≡ Some p) (sym h.2) e in
           subst (λ b. Claimed log b (size_of p)) h.2
@@ -204,7 +219,8 @@ module _ (pairs : List Pair) (words : ℕ) where
           (λ l. absurd (no_piece ((state_of pairs words (event ∷ log)).pieces h.0.base) p (lost_free log event h.0.base l (s.unpublished h.0 h.1)) here))
           (m.fate h.0 h.1))
 
-  placed_reserve : (log : Log) (c b z : ℕ) → IsPlaced log (state_of pairs words log) → IsPlaced (Reserve c b z ∷ log) (state_of pairs words (Reserve c b z ∷ log))
+  placed_reserve : (log : Log) (c b z : ℕ) → IsPlaced log (state_of pairs words log)
+      → IsPlaced (Reserve c b z ∷ log) (state_of pairs words (Reserve c b z ∷ log))
   placed_reserve log c b z k =
       record {
         published = λ base p e. inr (k.published base p e);
@@ -216,7 +232,8 @@ module _ (pairs : List Pair) (words : ℕ) where
       }
 
   -- the rows behind a log from a new table were set aside
-  pub placed : (log : Log) → EachEnabled (start pairs words) log → IsPlaced log (state_of pairs words log)
+  pub placed : (log : Log) → EachEnabled (start pairs words) log
+      → IsPlaced log (state_of pairs words log)
   placed [] h = record { published = λ base p e. (p, e, refl); held = λ g i. absurd i }
   placed (event ∷ log) h =
       let s = sound (start pairs words) log (sound_start pairs words) h.0 in
@@ -228,7 +245,8 @@ module _ (pairs : List Pair) (words : ℕ) where
       (moves_or_reserves (start pairs words) log event h.1 s)
 
   -- no row lies at the anchor
-  pub anchor_free : (log : Log) → EachEnabled (start pairs words) log → (state_of pairs words log).pieces anchor ≡ None
+  pub anchor_free : (log : Log) → EachEnabled (start pairs words) log
+      → (state_of pairs words log).pieces anchor ≡ None
   anchor_free log h =
       absent ((state_of pairs words log).pieces anchor) (λ p e.
       let inside = claimed_within log anchor (size_of p) h ((placed log h).published anchor p e) in

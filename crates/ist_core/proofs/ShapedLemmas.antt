@@ -58,7 +58,9 @@ pair_shaped key base other_key other =
       | false ↦ record { keys = refl; slots = refl }
     ]
 
-installed_shaped : (first : Snapshot) (log : Log) (at : ℕ) (change : ChangeRow) (fresh : List Row) (fits : FitsKind first log change fresh) (base : ℕ) (p : Piece) → IsInstalled first log at change fresh fits base p → IsShaped p
+installed_shaped : (first : Snapshot) (log : Log) (at : ℕ) (change : ChangeRow) (fresh : List Row)
+    (fits : FitsKind first log change fresh) (base : ℕ) (p : Piece)
+    → IsInstalled first log at change fresh fits base p → IsShaped p
 installed_shaped first log at change fresh fits base p (inl h) = subst IsShaped (sym h.1) tt
 installed_shaped first log at change fresh (a_put f) base p (inr h) = subst IsShaped (sym h.1) tt
 installed_shaped first log at change fresh (a_pair f) base p (inr (inl h)) = subst IsShaped (sym h.1) (pair_shaped change.key f.leaf f.other_key f.other)
@@ -74,12 +76,15 @@ record StandsShaped (ps : Pieces) (base : ℕ) : Type 0 where
   shaped : IsShapedRow row
 
 -- slots over parts are as many as these
-slots_of_parts : (ps : Pieces) (words : List ℕ) (behind : List (List PlacedLeaf)) (above : ℕ) (rows : List ℕ) → AreIdeal ps words behind above rows → length words ≡ length behind
+slots_of_parts : (ps : Pieces) (words : List ℕ) (behind : List (List PlacedLeaf)) (above : ℕ)
+    (rows : List ℕ)
+    → AreIdeal ps words behind above rows → length words ≡ length behind
 slots_of_parts ps _ _ above _ no_part = refl
 slots_of_parts ps _ _ above _ (one_part {words = words} {rest = rest} {behind = behind} ref e first more) = let rest_same = slots_of_parts ps words behind above rest more in omega arith
 
 -- the top row of an ideal subtree with as many slots as it has parts
-top_shaped : (ps : Pieces) (base : ℕ) (r : InnerRow) (leaves : List PlacedLeaf) (above : ℕ) → IsTop ps base r leaves above → length r.slots ≡ degree (length leaves) → IsShapedRow r
+top_shaped : (ps : Pieces) (base : ℕ) (r : InnerRow) (leaves : List PlacedLeaf) (above : ℕ)
+    → IsTop ps base r leaves above → length r.slots ≡ degree (length leaves) → IsShapedRow r
 top_shaped ps base r leaves above top slots =
     record {
       keys = ap (λ ks. length ks + 1) top.keys ∙ keys_of_parts (λ leaf. leaf.row.key) leaves top.two ∙ sym top.degree;
@@ -87,7 +92,8 @@ top_shaped ps base r leaves above top slots =
     }
 
 mutual
-  ideal_shaped : (ps : Pieces) (ref : Ref) (leaves : List PlacedLeaf) (above : ℕ) (rows : List ℕ) → IsIdeal ps ref leaves above rows → Each (StandsShaped ps) rows
+  ideal_shaped : (ps : Pieces) (ref : Ref) (leaves : List PlacedLeaf) (above : ℕ) (rows : List ℕ)
+      → IsIdeal ps ref leaves above rows → Each (StandsShaped ps) rows
   ideal_shaped ps _ _ _ _ of_none = tt
   ideal_shaped ps _ _ _ _ (of_one same e) = tt
   ideal_shaped ps _ _ above _ (of_more {base = base} {leaves = leaves} {rows = rows} r top below) = (
@@ -95,7 +101,9 @@ mutual
     parts_shaped ps r.slots (parts leaves) base rows below,
   )
 
-  parts_shaped : (ps : Pieces) (words : List ℕ) (behind : List (List PlacedLeaf)) (above : ℕ) (rows : List ℕ) → AreIdeal ps words behind above rows → Each (StandsShaped ps) rows
+  parts_shaped : (ps : Pieces) (words : List ℕ) (behind : List (List PlacedLeaf)) (above : ℕ)
+      (rows : List ℕ)
+      → AreIdeal ps words behind above rows → Each (StandsShaped ps) rows
   parts_shaped ps _ _ _ _ no_part = tt
   parts_shaped ps _ _ above _ (one_part {words = words} {here = here} {rest = rest} {part = part} {behind = behind} ref e first more) =
       each_append (StandsShaped ps) here rest (ideal_shaped ps ref part above here first) (parts_shaped ps words behind above rest more)
@@ -104,17 +112,20 @@ length_unset : (n : ℕ) → length (replicate n unset_word) ≡ n
 length_unset zero = refl
 length_unset (suc n) = let rest = length_unset n in omega arith
 
-root_shaped : (ps : Pieces) (word k : ℕ) (leaves : List PlacedLeaf) (target : ℕ) (rows : List ℕ) → IsRoot ps word k leaves target rows → Each (StandsShaped ps) rows
+root_shaped : (ps : Pieces) (word k : ℕ) (leaves : List PlacedLeaf) (target : ℕ) (rows : List ℕ)
+    → IsRoot ps word k leaves target rows → Each (StandsShaped ps) rows
 root_shaped ps word k leaves target rows (root_whole ref few e ideal) = ideal_shaped ps ref leaves target rows ideal
 root_shaped ps word k leaves target rows (root_top base row many e top unset one) =
     subst (λ bs. Each (StandsShaped ps) bs) (sym one)
     (record { row = row; published = top.published; shaped = top_shaped ps base row leaves target top (ap length unset ∙ length_unset (degree (length leaves))) }, tt)
 
-tree_shaped : (ps : Pieces) (rows : List ℕ) (base : ℕ) (p : Piece) → Each (StandsShaped ps) rows → Among base rows → ps base ≡ Some p → IsShaped p
+tree_shaped : (ps : Pieces) (rows : List ℕ) (base : ℕ) (p : Piece) → Each (StandsShaped ps) rows
+    → Among base rows → ps base ≡ Some p → IsShaped p
 tree_shaped ps rows base p all i e = let it = each-among (StandsShaped ps) base rows all i in known IsShaped (ps base) p (Inner it.row) e it.published it.shaped
 
 -- each row that an event publishes has its shape
-born_shaped : (first : Snapshot) (log : Log) (event : Event) (base : ℕ) (p : Piece) → Enabled first log event → Born first log base p event → IsShaped p
+born_shaped : (first : Snapshot) (log : Log) (event : Event) (base : ℕ) (p : Piece)
+    → Enabled first log event → Born first log base p event → IsShaped p
 born_shaped first log _ base p can (by_install {change = at} h born) = installed_shaped first log at h.change h.fresh h.fits base p born
 born_shaped first log _ base p can (by_root {word = word} {rows = rows} i e) =
     tree_shaped (with_inners (state first log).pieces rows) (bases_of rows) base p (root_shaped (with_inners (state first log).pieces rows) word can.k can.leaves can.row.target (bases_of rows) can.root) i e
@@ -125,11 +136,13 @@ born_shaped first log _ base p can (by_place {rows = rows} i e) =
 
 module _ {A B : Type 0} where
   -- what is true of all that is made of each element is true of all that is made
-  each-flat_map : (P : B → Type 0) (f : A → List B) (xs : List A) → ((x : A) → Each P (f x)) → Each P (flat_map f xs)
+  each-flat_map : (P : B → Type 0) (f : A → List B) (xs : List A) → ((x : A) → Each P (f x))
+      → Each P (flat_map f xs)
   each-flat_map P f [] all = tt
   each-flat_map P f (x ∷ xs) all = each_append P (f x) (flat_map f xs) (all x) (each-flat_map P f xs all)
 
-rows_shaped : (fuel base : ℕ) (pairs : List Pair) → Each (λ row. IsShaped row.1) (rows_within fuel base pairs)
+rows_shaped : (fuel base : ℕ) (pairs : List Pair)
+    → Each (λ row. IsShaped row.1) (rows_within fuel base pairs)
 unfolding rows_within
 rows_shaped fuel base [] = tt
 rows_shaped fuel base (pair ∷ []) = (tt, tt)
@@ -141,12 +154,14 @@ rows_shaped (suc fuel) base (pair ∷ more ∷ pairs) =
     )
 
 -- each row behind a log from a new table has its shape
-pub shaped : (pairs : List Pair) (words : ℕ) (log : Log) → EachEnabled (start pairs words) log → (base : ℕ) (p : Piece) → (state_of pairs words log).pieces base ≡ Some p → IsShaped p
+pub shaped : (pairs : List Pair) (words : ℕ) (log : Log) → EachEnabled (start pairs words) log
+    → (base : ℕ) (p : Piece) → (state_of pairs words log).pieces base ≡ Some p → IsShaped p
 shaped pairs words [] h base p e =
     each-among (λ row. IsShaped row.1) (base, p) (rows_from first_row pairs) (rows_shaped (length pairs) first_row pairs) (among-pieces_of (rows_from first_row pairs) base p e)
 shaped pairs words (event ∷ log) h base q e =
     at (λ p there. shaped pairs words log h.0 base p there) (comes (start pairs words) log event h.1 (sound (start pairs words) log (sound_start pairs words) h.0) base q e)
   where
-    at : ((p : Piece) → (state_of pairs words log).pieces base ≡ Some p → IsShaped p) → Comes (start pairs words) log event base q → IsShaped q
+    at : ((p : Piece) → (state_of pairs words log).pieces base ≡ Some p → IsShaped p)
+        → Comes (start pairs words) log event base q → IsShaped q
     at before (from_old p there g) = grows_shaped p q g (before p there)
     at before (from_born p born g) = grows_shaped p q g (born_shaped (start pairs words) log event base p h.1 born)

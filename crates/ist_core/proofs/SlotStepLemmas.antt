@@ -28,7 +28,9 @@ use Rattle.ist_core.proofs.NamingStepLemmas.{changed_at-fixed, installed_stands}
 -- ---- the events that write a slot
 
 -- the change of an Install stands behind it
-pub install_stands : (first : Snapshot) (log : Log) (caller base : ℕ) (rows : List Row) (h : CanInstall first log caller base rows) → (after (state first log) (Install caller base rows)).pieces base ≡ Some (Change h.change)
+pub install_stands : (first : Snapshot) (log : Log) (caller base : ℕ) (rows : List Row)
+    (h : CanInstall first log caller base rows)
+    → (after (state first log) (Install caller base rows)).pieces base ≡ Some (Change h.change)
 install_stands first log caller base rows h =
     let t = state first log in
     let qs = with_installed t.pieces base h.change h.fresh in
@@ -39,10 +41,15 @@ install_stands first log caller base rows h =
 pub record WritesSlot (t u : Snapshot) (node i new old : ℕ) : Type 0 where
   pub here : SlotHolds t node i old
   pub now : SlotHolds u node i new
-  pub others : (at j w : ℕ) → SlotHolds t at j w → ((w ≡ old) × (at ≡ node) × (j ≡ i)) ⊎ SlotHolds u at j w
+  pub others : (at j w : ℕ) → SlotHolds t at j w
+      → ((w ≡ old) × (at ≡ node) × (j ≡ i)) ⊎ SlotHolds u at j w
 
-pub install_writes : (first : Snapshot) (log : Log) (caller base : ℕ) (rows : List Row) → (h : CanInstall first log caller base rows) → IsSound (state first log) → (state first log).pieces anchor ≡ None
-    → WritesSlot (state first log) (after (state first log) (Install caller base rows)) h.change.node h.change.index (word_of (ChangeAt base)) h.change.from
+pub install_writes : (first : Snapshot) (log : Log) (caller base : ℕ) (rows : List Row)
+    → (h : CanInstall first log caller base rows) → IsSound (state first log)
+    → (state first log).pieces anchor ≡ None
+    → WritesSlot (state first log)
+    (after (state first log) (Install caller base rows)) h.change.node h.change.index
+    (word_of (ChangeAt base)) h.change.from
 install_writes first log caller base rows h sound free =
     let t = state first log in
     let qs = with_installed t.pieces base h.change h.fresh in
@@ -56,8 +63,10 @@ install_writes first log caller base rows h sound free =
       others = slot_written t u qs h.change.node h.change.index word h.change.from free keeps refl refl h.in_slot;
     }
 
-pub resolve_writes : (t : Snapshot) (caller base : ℕ) → (h : CanResolve t caller base) → t.pieces anchor ≡ None
-    → WritesSlot t (after t (Resolve caller base)) h.change.node h.change.index (side_of h.change) (word_of (ChangeAt base))
+pub resolve_writes : (t : Snapshot) (caller base : ℕ) → (h : CanResolve t caller base)
+    → t.pieces anchor ≡ None
+    → WritesSlot t (after t (Resolve caller base)) h.change.node h.change.index (side_of h.change)
+    (word_of (ChangeAt base))
 resolve_writes t caller base h free =
     let u = resolved t (Some h.change) in
     let old = word_of (ChangeAt base) in
@@ -76,7 +85,8 @@ elsewhere node word old ne = at (node == anchor) refl
     at true e = let same : node ≡ anchor = grind (arith, nat_tests) in absurd (ne same)
     at false e = refl
 
-pub place_writes : (t : Snapshot) (caller rebuild i word : ℕ) (rows : List Row) → (h : CanPlace t caller rebuild i word rows) → IsSound t → t.pieces anchor ≡ None
+pub place_writes : (t : Snapshot) (caller rebuild i word : ℕ) (rows : List Row)
+    → (h : CanPlace t caller rebuild i word rows) → IsSound t → t.pieces anchor ≡ None
     → WritesSlot t (after t (Place caller rebuild i word rows)) h.root i word unset_word
 place_writes t caller rebuild i word rows h sound free =
     let u = after t (Place caller rebuild i word rows) in
@@ -104,7 +114,8 @@ unfoldable KeepsSlots : (Piece → Piece) → Type 0
 KeepsSlots f = (r : InnerRow) → (s : InnerRow) × (f (Inner r) ≡ Inner s) × (s.slots ≡ r.slots)
 
 -- an inner row has its slots behind such a change
-inner_kept : (ps : Pieces) (at : ℕ) (f : Piece → Piece) → KeepsSlots f → (base : ℕ) (r : InnerRow) → ps base ≡ Some (Inner r)
+inner_kept : (ps : Pieces) (at : ℕ) (f : Piece → Piece) → KeepsSlots f → (base : ℕ) (r : InnerRow)
+    → ps base ≡ Some (Inner r)
     → (s : InnerRow) × (changed_at ps at f base ≡ Some (Inner s)) × (s.slots ≡ r.slots)
 unfolding KeepsSlots
 inner_kept ps at f keeps base r e =
@@ -113,15 +124,19 @@ inner_kept ps at f keeps base r e =
       | false ↦ (r, e, refl)
     ]
 
-slots_changed : (t u : Snapshot) (at : ℕ) (f : Piece → Piece) → u.anchor ≡ t.anchor → u.pieces ≡ changed_at t.pieces at f → KeepsSlots f → (node i w : ℕ) → SlotHolds t node i w → SlotHolds u node i w
+slots_changed : (t u : Snapshot) (at : ℕ) (f : Piece → Piece) → u.anchor ≡ t.anchor
+    → u.pieces ≡ changed_at t.pieces at f → KeepsSlots f → (node i w : ℕ) → SlotHolds t node i w
+    → SlotHolds u node i w
 slots_changed t u at f word pieces keeps node i w h =
     slot_kept t u word (λ base r e. subst (λ ps. (s : InnerRow) × (ps base ≡ Some (Inner s)) × (s.slots ≡ r.slots)) (sym pieces) (inner_kept t.pieces at f keeps base r e)) node i w h
 
-slots_same : (t u : Snapshot) → u.anchor ≡ t.anchor → u.pieces ≡ t.pieces → (node i w : ℕ) → SlotHolds t node i w → SlotHolds u node i w
+slots_same : (t u : Snapshot) → u.anchor ≡ t.anchor → u.pieces ≡ t.pieces → (node i w : ℕ)
+    → SlotHolds t node i w → SlotHolds u node i w
 slots_same t u word pieces node i w h = slot_kept t u word (λ base r e. (r, subst (λ ps. ps base ≡ Some (Inner r)) (sym pieces) e, refl)) node i w h
 
 -- an event that writes no slot leaves each as it is
-pub slot_stays : (first : Snapshot) (log : Log) (event : Event) → Enabled first log event → IsSound (state first log) → WritesNoSlot event → (node i w : ℕ)
+pub slot_stays : (first : Snapshot) (log : Log) (event : Event) → Enabled first log event
+    → IsSound (state first log) → WritesNoSlot event → (node i w : ℕ)
     → SlotHolds (state first log) node i w → SlotHolds (state first (event ∷ log)) node i w
 unfolding KeepsSlots
 slot_stays first log (Install caller change rows) h s none = absurd none
@@ -151,8 +166,10 @@ IsNoDecide (Decide caller change said) = ⊥
 IsNoDecide _ = Unit {0}
 
 -- an event that decides nothing leaves each change as it is
-pub change_stays : (first : Snapshot) (log : Log) (event : Event) → Enabled first log event → IsSound (state first log) → IsNoDecide event → (at : ℕ) (r : ChangeRow)
-    → (state first log).pieces at ≡ Some (Change r) → (state first (event ∷ log)).pieces at ≡ Some (Change r)
+pub change_stays : (first : Snapshot) (log : Log) (event : Event) → Enabled first log event
+    → IsSound (state first log) → IsNoDecide event → (at : ℕ) (r : ChangeRow)
+    → (state first log).pieces at ≡ Some (Change r)
+    → (state first (event ∷ log)).pieces at ≡ Some (Change r)
 change_stays first log (Install caller base rows) h s none at r e =
     let t = state first log in
     let qs = with_installed t.pieces base h.change h.fresh in

@@ -28,7 +28,8 @@ use Rattle.ist_core.proofs.NamingLemmas.{RowNames, SlotNames, WordsName}
 use Rattle.ist_core.proofs.TreeLemmas.{IsTree, AreTrees, tree_none, tree_leaf, tree_row, no_tree, one_tree, IsTreeRow, tree_rows, tree_slot}
 
 -- rows that lie one behind another are each found at their bases
-pub pieces_of-among : (from to : ℕ) (rows : List (ℕ × Piece)) (base : ℕ) (p : Piece) → Fills from rows to → Among (base, p) rows → pieces_of rows base ≡ Some p
+pub pieces_of-among : (from to : ℕ) (rows : List (ℕ × Piece)) (base : ℕ) (p : Piece)
+    → Fills from rows to → Among (base, p) rows → pieces_of rows base ≡ Some p
 pieces_of-among from to [] base p h i = absurd i
 pieces_of-among from to (row ∷ rows) base p h (inl e) =
     let here : base ≡ row.0 = ap (λ x. x.0) e in
@@ -54,15 +55,18 @@ abbrev pub Between : ℕ → List ℕ → ℕ → Type 0
 Between from [] to = from ≤ to
 Between from (base ∷ bases) to = (from ≤ base) × Between (base + 1) bases to
 
-between_wider : (low from to : ℕ) (bases : List ℕ) → low ≤ from → Between from bases to → Between low bases to
+between_wider : (low from to : ℕ) (bases : List ℕ) → low ≤ from → Between from bases to
+    → Between low bases to
 between_wider low from to [] le h = omega arith
 between_wider low from to (base ∷ bases) le h = let first = h.0 in (omega arith, h.1)
 
-between_append : (from mid to : ℕ) (xs ys : List ℕ) → Between from xs mid → Between mid ys to → Between from (xs ++ ys) to
+between_append : (from mid to : ℕ) (xs ys : List ℕ) → Between from xs mid → Between mid ys to
+    → Between from (xs ++ ys) to
 between_append from mid to [] ys h k = between_wider from mid to ys h k
 between_append from mid to (x ∷ xs) ys h k = (h.0, between_append (x + 1) mid to xs ys h.1 k)
 
-between_above : (from to base : ℕ) (bases : List ℕ) → Between from bases to → Among base bases → from ≤ base
+between_above : (from to base : ℕ) (bases : List ℕ) → Between from bases to → Among base bases
+    → from ≤ base
 between_above from to base [] h i = absurd i
 between_above from to base (b ∷ bases) h (inl e) = let first = h.0 in omega arith
 between_above from to base (b ∷ bases) h (inr i) = let first = h.0 in let rest = between_above (b + 1) to base bases h.1 i in omega arith
@@ -87,7 +91,8 @@ record HangAs (ps : Pieces) (words : List ℕ) (above : ℕ) (listed : List (ℕ
   each : (base : ℕ) (p : Piece) → Among (base, p) listed → IsLeafRow p ⊎ Among base rows
 
 -- a tree lies at a good base where it has a word
-tree_good : (base : ℕ) (pairs : List Pair) → GoodFrom base (ideal_words (length pairs)) → IsGoodRef (tree_at base pairs)
+tree_good : (base : ℕ) (pairs : List Pair) → GoodFrom base (ideal_words (length pairs))
+    → IsGoodRef (tree_at base pairs)
 tree_good base [] good = tt
 tree_good base (pair ∷ []) good = let low = good.0 in let high = good.1 in let two = ideal_words_one in record { behind_fixed = low; below_limit = omega arith }
 tree_good base (pair ∷ more ∷ pairs) good =
@@ -102,10 +107,13 @@ module _ (ps : Pieces) where
   Stand listed = (base : ℕ) (p : Piece) → Among (base, p) listed → ps base ≡ Some p
 
   -- trees of parts, where each part is one
-  parts_hang : (fuel from above : ℕ) (ns : List ℕ) (xs : List Pair) → sum ns ≤ length xs → above < from → GoodFrom from (sum_by ideal_words ns)
+  parts_hang : (fuel from above : ℕ) (ns : List ℕ) (xs : List Pair) → sum ns ≤ length xs
+      → above < from → GoodFrom from (sum_by ideal_words ns)
       → Stand (flat_map (λ part. rows_within fuel part.0 part.1) (zip (bases_from from ns) (cut ns xs)))
       → ((n base : ℕ) (part : List Pair) → Among n ns → length part ≡ n → above < base → GoodFrom base (ideal_words n) → Stand (rows_within fuel base part) → HangsAs ps (tree_at base part) above (rows_within fuel base part) base (base + ideal_words n))
-      → HangAs ps (map (λ part. word_of (tree_at part.0 part.1)) (zip (bases_from from ns) (cut ns xs))) above (flat_map (λ part. rows_within fuel part.0 part.1) (zip (bases_from from ns) (cut ns xs))) from (from + sum_by ideal_words ns)
+      → HangAs ps
+      (map (λ part. word_of (tree_at part.0 part.1)) (zip (bases_from from ns) (cut ns xs))) above
+      (flat_map (λ part. rows_within fuel part.0 part.1) (zip (bases_from from ns) (cut ns xs))) from (from + sum_by ideal_words ns)
   parts_hang fuel from above [] xs fits higher good stand each = record { rows = []; trees = no_tree; between = omega arith; each = λ base p i. absurd i }
   parts_hang fuel from above (n ∷ ns) xs fits higher good stand each =
       let all = sum_by-cons (λ x. x) n ns in
@@ -133,8 +141,10 @@ module _ (ps : Pieces) where
       }
 
   -- the rows of a tree are one
-  pub rows_hang : (fuel base above : ℕ) (pairs : List Pair) → length pairs ≤ fuel → above < base → GoodFrom base (ideal_words (length pairs)) → Stand (rows_within fuel base pairs)
-      → HangsAs ps (tree_at base pairs) above (rows_within fuel base pairs) base (base + ideal_words (length pairs))
+  pub rows_hang : (fuel base above : ℕ) (pairs : List Pair) → length pairs ≤ fuel → above < base
+      → GoodFrom base (ideal_words (length pairs)) → Stand (rows_within fuel base pairs)
+      → HangsAs ps (tree_at base pairs) above (rows_within fuel base pairs) base
+      (base + ideal_words (length pairs))
   unfolding rows_within
   rows_hang fuel base above [] h higher good stand = record { rows = []; tree = tree_none; between = omega arith; each = λ b p i. absurd i }
   rows_hang fuel base above (pair ∷ []) h higher good stand =
@@ -165,8 +175,11 @@ module _ (ps : Pieces) where
       top_hangs base above all higher below (stand base (top_row base all) (inl refl)) from (base + ideal_words n) (omega arith)
       (subst (λ to. HangAs ps (map (λ part. word_of (tree_at part.0 part.1)) (placed_parts base all)) base below from to) end hang)
     where
-      top_hangs : (base above : ℕ) (all : List Pair) → above < base → (below : List (ℕ × Piece)) → ps base ≡ Some (top_row base all)
-          → (from to : ℕ) → base + 1 ≤ from → HangAs ps (map (λ part. word_of (tree_at part.0 part.1)) (placed_parts base all)) base below from to
+      top_hangs : (base above : ℕ) (all : List Pair) → above < base → (below : List (ℕ × Piece))
+          → ps base ≡ Some (top_row base all)
+          → (from to : ℕ) → base + 1 ≤ from
+          → HangAs ps
+          (map (λ part. word_of (tree_at part.0 part.1)) (placed_parts base all)) base below from to
           → HangsAs ps (InnerAt base) above ((base, top_row base all) ∷ below) base to
       top_hangs base above all higher below there from to behind hang =
           record {
@@ -178,7 +191,8 @@ module _ (ps : Pieces) where
 
 module _ (pairs : List Pair) (words : ℕ) (opens : CanOpen pairs words) where
   -- the rows of a new table stand
-  start_stands : (base : ℕ) (p : Piece) → Among (base, p) (rows_from first_row pairs) → (start pairs words).pieces base ≡ Some p
+  start_stands : (base : ℕ) (p : Piece) → Among (base, p) (rows_from first_row pairs)
+      → (start pairs words).pieces base ≡ Some p
   start_stands base p i =
       pieces_of-among first_row (first_row + ideal_words (length pairs)) (rows_from first_row pairs) base p (fills_rows (length pairs) first_row pairs (omega arith)) i
 
@@ -186,7 +200,9 @@ module _ (pairs : List Pair) (words : ℕ) (opens : CanOpen pairs words) where
   start_good = let room = opens.room in let most = opens.within in (omega arith, omega arith)
 
   -- a new table is one tree
-  pub start_hangs : (above : ℕ) → above < first_row → HangsAs (start pairs words).pieces (tree_at first_row pairs) above (rows_from first_row pairs) first_row (first_row + ideal_words (length pairs))
+  pub start_hangs : (above : ℕ) → above < first_row
+      → HangsAs (start pairs words).pieces (tree_at first_row pairs) above
+      (rows_from first_row pairs) first_row (first_row + ideal_words (length pairs))
   start_hangs above low = rows_hang (start pairs words).pieces (length pairs) first_row above pairs (omega arith) low start_good start_stands
 
   -- the word of the anchor leads to it

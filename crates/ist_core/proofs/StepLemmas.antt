@@ -28,7 +28,8 @@ rows_resolved t caller base h = ap (λ o. resolved t (as_change o)) h.published
 
 -- behind a Place the root's slot holds the word
 pub rows_placed : (t : Snapshot) (caller rebuild i word : ℕ) (rows : List Row) (h : CanPlace t caller rebuild i word rows)
-    → (after t (Place caller rebuild i word rows)).pieces ≡ changed_at (with_inners t.pieces rows) h.root (with_slot i word)
+    → (after t (Place caller rebuild i word rows)).pieces ≡ changed_at
+    (with_inners t.pieces rows) h.root (with_slot i word)
 rows_placed t caller rebuild i word rows h =
     let qs = with_inners t.pieces rows in
     ap (λ o. placed qs o i word) (ap as_rebuild h.published) ∙ ap (λ o. with_part qs o i word) h.root_is
@@ -41,10 +42,12 @@ holds_installed first log caller base rows h = subst (λ rs. HoldsRows (state fi
 -- ---- rows grow
 
 -- a row that is known grows so
-pub known : (P : Piece → Type 0) (o : Option Piece) (p q : Piece) → o ≡ Some p → o ≡ Some q → P q → P p
+pub known : (P : Piece → Type 0) (o : Option Piece) (p q : Piece) → o ≡ Some p → o ≡ Some q → P q
+    → P p
 known P o p q h k x = let same : q ≡ p = cc in subst P same x
 
-grow_install : (first : Snapshot) (log : Log) (caller base : ℕ) (rows : List Row) → CanInstall first log caller base rows → IsSound (state first log)
+grow_install : (first : Snapshot) (log : Log) (caller base : ℕ) (rows : List Row)
+    → CanInstall first log caller base rows → IsSound (state first log)
     → AllGrow (state first log).pieces (after (state first log) (Install caller base rows)).pieces
 grow_install first log caller base rows h sound =
     let t = state first log in
@@ -55,12 +58,15 @@ grow_install first log caller base rows h sound =
     (all_grow_added t.pieces qs adds.keeps)
     (all_grow-changed_at qs h.change.node (with_slot h.change.index (word_of (ChangeAt base))) (λ p _. grows-with_slot h.change.index (word_of (ChangeAt base)) p)))
 
-grow_resolve : (t : Snapshot) (caller base : ℕ) → CanResolve t caller base → AllGrow t.pieces (after t (Resolve caller base)).pieces
+grow_resolve : (t : Snapshot) (caller base : ℕ) → CanResolve t caller base
+    → AllGrow t.pieces (after t (Resolve caller base)).pieces
 grow_resolve t caller base h =
     subst (λ u. AllGrow t.pieces u.pieces) (sym (rows_resolved t caller base h))
     (all_grow-changed_at t.pieces h.change.node (with_slot h.change.index (side_of h.change)) (λ p _. grows-with_slot h.change.index (side_of h.change) p))
 
-grow_root : (t : Snapshot) (caller rebuild word : ℕ) (rows : List Row) → CanRoot t caller rebuild word rows → IsSound t → AllGrow t.pieces (after t (Root caller rebuild word rows)).pieces
+grow_root : (t : Snapshot) (caller rebuild word : ℕ) (rows : List Row)
+    → CanRoot t caller rebuild word rows → IsSound t
+    → AllGrow t.pieces (after t (Root caller rebuild word rows)).pieces
 grow_root t caller rebuild word rows h sound =
     let qs = with_inners t.pieces rows in
     let adds = adds-with_inners t caller rows h.held sound in
@@ -68,7 +74,9 @@ grow_root t caller rebuild word rows h sound =
     (all_grow-changed_at qs rebuild (with_root word)
     (λ p e. known (λ x. Grows x (with_root word x)) (qs rebuild) p (Rebuild h.row) e (adds.keeps rebuild (Rebuild h.row) h.published) (grows-with_root h.row word h.rootless)))
 
-grow_place : (t : Snapshot) (caller rebuild i word : ℕ) (rows : List Row) → CanPlace t caller rebuild i word rows → IsSound t → AllGrow t.pieces (after t (Place caller rebuild i word rows)).pieces
+grow_place : (t : Snapshot) (caller rebuild i word : ℕ) (rows : List Row)
+    → CanPlace t caller rebuild i word rows → IsSound t
+    → AllGrow t.pieces (after t (Place caller rebuild i word rows)).pieces
 grow_place t caller rebuild i word rows h sound =
     let qs = with_inners t.pieces rows in
     let adds = adds-with_inners t caller rows h.held sound in
@@ -77,7 +85,9 @@ grow_place t caller rebuild i word rows h sound =
     (all_grow-changed_at qs h.root (with_slot i word) (λ p _. grows-with_slot i word p)))
 
 -- an enabled event lets the rows grow
-pub grow_step : (first : Snapshot) (log : Log) (event : Event) → Enabled first log event → IsSound (state first log) → AllGrow (state first log).pieces (state first (event ∷ log)).pieces
+pub grow_step : (first : Snapshot) (log : Log) (event : Event) → Enabled first log event
+    → IsSound (state first log)
+    → AllGrow (state first log).pieces (state first (event ∷ log)).pieces
 grow_step first log (Enter caller) h s = all_grow_same _
 grow_step first log (Reserve caller base size) h s = all_grow_same _
 grow_step first log (Install caller change rows) h s = grow_install first log caller change rows h s

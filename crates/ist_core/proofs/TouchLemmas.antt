@@ -24,7 +24,8 @@ use Rattle.ist_core.proofs.ImageLemmas.{slot_found}
 use Rattle.ist_core.proofs.ChainLemmas.{on_chain_inner}
 
 -- the status of an open node stands at its place
-status_found : (t : Snapshot) (words : List ℕ) (node : ℕ) → IsImage t words → t.pieces anchor ≡ None → IsOpen t node → slice_get words (place_of_status node) ≡ Some open_word
+status_found : (t : Snapshot) (words : List ℕ) (node : ℕ) → IsImage t words → t.pieces anchor ≡ None
+    → IsOpen t node → slice_get words (place_of_status node) ≡ Some open_word
 status_found t words node image free (anchor_is a) =
     subst (λ n. slice_get words (if n == anchor then anchor_status_place else n + 0) ≡ Some open_word) (sym a) image.anchor_status
 status_found t words node image free (row_is r p e) =
@@ -33,18 +34,21 @@ status_found t words node image free (row_is r p e) =
     place : node ≢ anchor → place_of_status node ≡ node + 0
     place out = at (node == anchor) refl
       where
-        at : (v : Bool) → (node == anchor) ≡ v → (if v then anchor_status_place else node + 0) ≡ node + 0
+        at : (v : Bool) → (node == anchor) ≡ v
+            → (if v then anchor_status_place else node + 0) ≡ node + 0
         at true e = let same : node ≡ anchor = grind (arith, nat_tests) in absurd (out same)
         at false e = refl
 
 module _ (pairs : List Pair) (words : ℕ) (opens : CanOpen pairs words) (log : Log) (enabled : EachEnabled (start pairs words) log) (ws : List ℕ) (image : IsImage (state_of pairs words log) ws) where
   -- the word of a slot stands at its place
-  pub slot_there : (node i word : ℕ) → SlotHolds (state_of pairs words log) node i word → slice_get ws (place_of_slot (state_of pairs words log) node i) ≡ Some word
+  pub slot_there : (node i word : ℕ) → SlotHolds (state_of pairs words log) node i word
+      → slice_get ws (place_of_slot (state_of pairs words log) node i) ≡ Some word
   slot_there node i word slot =
       slot_found (state_of pairs words log) ws node i word image (anchor_free pairs words log enabled) (λ base r e. shaped pairs words log enabled base (Inner r) e) slot
 
   -- each event but a Lose finds its word
-  pub touches : (event : Event) → Enabled (start pairs words) log event → IsNoLose event → Touches (state_of pairs words log) event ws
+  pub touches : (event : Event) → Enabled (start pairs words) log event → IsNoLose event
+      → Touches (state_of pairs words log) event ws
   touches (Enter caller) h k = record { touch = _; is = refl; found = image.callers }
   touches (Reserve caller base size) h k = record { touch = _; is = refl; found = image.next ∙ ap (λ x. Some x) (sym h.base_is) }
   touches (Install caller base rows) h k =

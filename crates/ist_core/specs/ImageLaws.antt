@@ -24,20 +24,25 @@ pub record Touches (t : Snapshot) (event : Event) (words : List ℕ) : Type 0 wh
 -- each event but a Lose touches one word of the image, and finds there what it is to find
 abbrev pub WordsAreFound : Type 0
 WordsAreFound =
-    (pairs : List Pair) (words : ℕ) (log : Log) (event : Event) → Lawful pairs words (event ∷ log) → IsNoLose event
-    → (image : List ℕ) → IsImage (state_of pairs words log) image → Touches (state_of pairs words log) event image
+    (pairs : List Pair) (words : ℕ) (log : Log) (event : Event) → Lawful pairs words (event ∷ log)
+    → IsNoLose event
+    → (image : List ℕ) → IsImage (state_of pairs words log) image
+    → Touches (state_of pairs words log) event image
 
 -- an event changes the image in the word that it touches, to what it leaves there, and in no other word, where the rows that
 -- it publishes stood in their words already
 abbrev pub OneWordIsWritten : Type 0
 OneWordIsWritten =
-    (pairs : List Pair) (words : ℕ) (log : Log) (event : Event) → Lawful pairs words (event ∷ log) → (image : List ℕ)
+    (pairs : List Pair) (words : ℕ) (log : Log) (event : Event) → Lawful pairs words (event ∷ log)
+    → (image : List ℕ)
     → IsImage (state_of pairs words log) image → RowsStand image (published_by event)
-    → IsImage (state_of pairs words (event ∷ log)) (touched image (touch_of (state_of pairs words log) event))
+    → IsImage (state_of pairs words (event ∷ log))
+    (touched image (touch_of (state_of pairs words log) event))
 
 -- the word of a slot stands at its place
 abbrev pub SlotsStandInTheImage : Type 0
 SlotsStandInTheImage =
     (pairs : List Pair) (words : ℕ) (log : Log) → Lawful pairs words log → (image : List ℕ)
-    → IsImage (state_of pairs words log) image → (node i word : ℕ) → SlotHolds (state_of pairs words log) node i word
+    → IsImage (state_of pairs words log) image → (node i word : ℕ)
+    → SlotHolds (state_of pairs words log) node i word
     → slice_get image (place_of_slot (state_of pairs words log) node i) ≡ Some word

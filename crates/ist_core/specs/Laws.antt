@@ -32,7 +32,8 @@ RowsLieWithin =
 -- two rows that were set aside share no word
 abbrev pub RowsLieApart : Type 0
 RowsLieApart =
-    (pairs : List Pair) (words : ℕ) (log : Log) → Lawful pairs words log → (base size other more : ℕ)
+    (pairs : List Pair) (words : ℕ) (log : Log) → Lawful pairs words log
+    → (base size other more : ℕ)
     → IsSetAside pairs words log base size → IsSetAside pairs words log other more → base ≢ other
     → Apart base size other more
 
@@ -54,7 +55,8 @@ HeldRowsAreUnpublished =
 abbrev pub RowsAreHeldOnce : Type 0
 RowsAreHeldOnce =
     (pairs : List Pair) (words : ℕ) (log : Log) → Lawful pairs words log → (g h : HeldRow)
-    → Among g (state_of pairs words log).held → Among h (state_of pairs words log).held → g.base ≡ h.base → g ≡ h
+    → Among g (state_of pairs words log).held → Among h (state_of pairs words log).held
+    → g.base ≡ h.base → g ≡ h
 
 -- where a row was lost, none is published
 abbrev pub LostRowsAreUnpublished : Type 0
@@ -71,5 +73,6 @@ LostRowsAreFree =
 -- a published row stays, and only its status, count, slots, decision, root and draw change, as `Growing.antt` says
 abbrev pub RowsGrow : Type 0
 RowsGrow =
-    (pairs : List Pair) (words : ℕ) (earlier log : Log) → Lawful pairs words log → GoesOn earlier log
+    (pairs : List Pair) (words : ℕ) (earlier log : Log) → Lawful pairs words log
+    → GoesOn earlier log
     → AllGrow (state_of pairs words earlier).pieces (state_of pairs words log).pieces

@@ -10,8 +10,10 @@ use Rattle.ist_core.specs.Logs.{Log, Happened, Reserves}
 
 -- the words of a row were set aside for it: it is a row of the new table, or a caller reserved it
 pub data IsSetAside (pairs : List Pair) (words : ℕ) (log : Log) (base size : ℕ) : Type 0 where
-  at_start : (p : Piece) → (start pairs words).pieces base ≡ Some p → size_of p ≡ size → IsSetAside pairs words log base size
-  by_caller : (caller : ℕ) → Happened (Reserves caller base size) log → IsSetAside pairs words log base size
+  at_start : (p : Piece) → (start pairs words).pieces base ≡ Some p → size_of p ≡ size
+      → IsSetAside pairs words log base size
+  by_caller : (caller : ℕ) → Happened (Reserves caller base size) log
+      → IsSetAside pairs words log base size
 
 -- no word lies in both rows, of which each is given by its base and its size
 abbrev pub Apart : ℕ → ℕ → ℕ → ℕ → Type 0

@@ -22,7 +22,8 @@ ChildrenLieAbove =
 -- an inner row is the logical child of one slot only, ever: of the slot that it is the child of behind any prefix of the log
 abbrev pub ParentsAreOne : Type 0
 ParentsAreOne =
-    (pairs : List Pair) (words : ℕ) (earlier log : Log) → Lawful pairs words log → GoesOn earlier log
+    (pairs : List Pair) (words : ℕ) (earlier log : Log) → Lawful pairs words log
+    → GoesOn earlier log
     → (node i other j child : ℕ) → IsChild (state_of pairs words earlier) node i child
     → IsChild (state_of pairs words log) other j child → (node ≡ other) × (i ≡ j)
 
@@ -33,7 +34,8 @@ abbrev pub FrozenSlotsRead : Type 0
 FrozenSlotsRead =
     (pairs : List Pair) (words : ℕ) (log : Log) → Lawful pairs words log → (node i passed word : ℕ)
     → IsFrozen log node i passed → SlotHolds (state_of pairs words log) node i word
-    → logical (state_of pairs words log).pieces word ≡ past_rebuild (state_of pairs words log).pieces (ref_of passed)
+    → logical (state_of pairs words log).pieces word ≡ past_rebuild
+    (state_of pairs words log).pieces (ref_of passed)
 
 -- the node of a frozen slot isn't open, and the slot holds its word still, or a change in vain that would take it out
 abbrev pub FrozenSlotsKeep : Type 0
