@@ -50,6 +50,9 @@ pub mod ChainLemmas
 pub mod TouchLemmas
 pub mod ImageEventLemmas
 pub mod ImageStepLemmas
+pub mod CountLemmas
+pub mod TallyLemmas
+pub mod YesLemmas
 pub mod RefusalLemmas
 pub mod PutExampleLemmas
 pub mod StartExampleLemmas

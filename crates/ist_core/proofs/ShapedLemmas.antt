@@ -136,7 +136,7 @@ born_shaped first log _ base p can (by_place {rows = rows} i e) =
 
 module _ {A B : Type 0} where
   -- what is true of all that is made of each element is true of all that is made
-  each-flat_map : (P : B → Type 0) (f : A → List B) (xs : List A) → ((x : A) → Each P (f x))
+  pub each-flat_map : (P : B → Type 0) (f : A → List B) (xs : List A) → ((x : A) → Each P (f x))
       → Each P (flat_map f xs)
   each-flat_map P f [] all = tt
   each-flat_map P f (x ∷ xs) all = each_append P (f x) (flat_map f xs) (all x) (each-flat_map P f xs all)

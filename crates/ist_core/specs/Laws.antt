@@ -1,13 +1,16 @@
 -- The laws over lawful logs that speak of rows alone. `src/laws.rt` lists them.
-use Rattle.std.specs.Prelude.{◌≡◌, ℕ, ◌≢◌, List, Some, None}
+use Rattle.std.specs.Prelude.{◌≡◌, ℕ, ◌≤◌, ◌≢◌, List, length, Some, None}
 use Rattle.ist_core.specs.declared.pairs.Pair.{Pair}
 use Rattle.ist_core.specs.declared.lists.HeldRow.{HeldRow}
+use Rattle.ist_core.specs.declared.states.InnerRow.{InnerRow}
+use Rattle.ist_core.specs.RowLayout.{place_limit}
 use Rattle.ist_core.specs.Elements.{Among}
-use Rattle.ist_core.specs.Pieces.{Piece, size_of}
+use Rattle.ist_core.specs.Pieces.{Piece, Inner, size_of}
 use Rattle.ist_core.specs.Logs.{Log, GoesOn, Happened, Loses}
 use Rattle.ist_core.specs.Lawful.{Lawful, state_of}
 use Rattle.ist_core.specs.Rows.{IsSetAside, Apart, IsWithin}
 use Rattle.ist_core.specs.Growing.{AllGrow}
+use Rattle.ist_core.specs.Limits.{decided_yes_in}
 
 -- ---- where rows lie
 
@@ -76,3 +79,17 @@ RowsGrow =
     (pairs : List Pair) (words : ℕ) (earlier log : Log) → Lawful pairs words log
     → GoesOn earlier log
     → AllGrow (state_of pairs words earlier).pieces (state_of pairs words log).pieces
+
+-- ---- counts
+
+-- a row counts no more changes than were decided yes
+abbrev pub CountsAreFew : Type 0
+CountsAreFew =
+    (pairs : List Pair) (words : ℕ) (log : Log) → Lawful pairs words log → (node : ℕ) (row : InnerRow)
+    → (state_of pairs words log).pieces node ≡ Some (Inner row) → row.count ≤ length (decided_yes_in log)
+
+-- and no more than a table has places, so that adding 1 to a count never wraps
+abbrev pub CountsAreLow : Type 0
+CountsAreLow =
+    (pairs : List Pair) (words : ℕ) (log : Log) → Lawful pairs words log → (node : ℕ) (row : InnerRow)
+    → (state_of pairs words log).pieces node ≡ Some (Inner row) → row.count ≤ place_limit

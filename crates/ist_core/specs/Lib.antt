@@ -31,6 +31,7 @@ pub mod Rows
 pub mod Growing
 pub mod Freezing
 pub mod Writing
+pub mod Limits
 pub mod Changes
 pub mod Standing
 pub mod Histories

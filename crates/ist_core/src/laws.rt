@@ -9,6 +9,7 @@ ghost use Rattle.ist_core.specs.Lawful.{Lawful, state_of};
 ghost use Rattle.ist_core.specs.Spending.{spent, IsKnown};
 ghost use Rattle.ist_core.specs.Laws.{PublishedRowsAreSetAside, HeldRowsAreSetAside, RowsLieWithin, RowsLieApart, RowsHaveOneSize};
 ghost use Rattle.ist_core.specs.Laws.{HeldRowsAreUnpublished, RowsAreHeldOnce, LostRowsAreUnpublished, LostRowsAreFree, RowsGrow};
+ghost use Rattle.ist_core.specs.Laws.{CountsAreFew, CountsAreLow};
 ghost use Rattle.ist_core.specs.ImageLaws.{WordsAreFound, OneWordIsWritten, SlotsStandInTheImage};
 ghost use Rattle.ist_core.specs.TreeLaws.{ChildrenLieAbove, ParentsAreOne, FrozenSlotsRead, FrozenSlotsKeep, PassesAgree};
 
@@ -64,6 +65,12 @@ pub fn rows_lie_apart()
 /// gets its root once, and counts never fall.
 pub fn rows_grow()
     ensures grow { RowsGrow }
+{}
+
+/// A row counts no more changes than were decided yes, and so fewer than would wrap a word.
+pub fn counts_are_low()
+    ensures few { CountsAreFew }
+    ensures low { CountsAreLow }
 {}
 
 /// An inner child's base is above its parent's, so that a way down the tree ends.
