@@ -72,7 +72,7 @@ fresh-other ps change (pair ∷ leaf ∷ []) base out =
 fresh-other ps change (a ∷ b ∷ c ∷ rows) base out = refl
 
 -- a pair row is read from its words
-inner_of-pair_row : (key base other_key other : ℕ)
+pub inner_of-pair_row : (key base other_key other : ℕ)
     → inner_of (words_of (pair_row key base other_key other)) ≡ Some (pair_row key base other_key other)
 inner_of-pair_row key base other_key other =
     elim (nat_lt other_key key) as (λ v. inner_of (words_of (if v then pair_over key other base else pair_over other_key base other)) ≡ Some (if v then pair_over key other base else pair_over other_key base other)) [

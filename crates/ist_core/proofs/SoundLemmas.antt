@@ -69,15 +69,15 @@ module _ (t : Snapshot) (caller base size : ℕ) (h : CanReserve t caller base s
       both f g e (inr c) (inr d) = c ∙ sym d
 
 -- the event reserves a row
-record IsReserve (first : Snapshot) (log : Log) (event : Event) : Type 0 where
-  caller : ℕ
-  base : ℕ
-  size : ℕ
-  is : event ≡ Reserve caller base size
-  can : CanReserve (state first log) caller base size
+pub record IsReserve (first : Snapshot) (log : Log) (event : Event) : Type 0 where
+  pub caller : ℕ
+  pub base : ℕ
+  pub size : ℕ
+  pub is : event ≡ Reserve caller base size
+  pub can : CanReserve (state first log) caller base size
 
 -- each enabled event moves rows, or reserves one
-moves_or_reserves : (first : Snapshot) (log : Log) (event : Event) → Enabled first log event
+pub moves_or_reserves : (first : Snapshot) (log : Log) (event : Event) → Enabled first log event
     → IsSound (state first log)
     → Moves (state first log) (state first (event ∷ log)) event ⊎ IsReserve first log event
 moves_or_reserves first log (Reserve caller base size) h s = inr record { caller = caller; base = base; size = size; is = refl; can = h }

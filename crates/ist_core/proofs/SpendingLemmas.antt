@@ -28,7 +28,7 @@ next-resolved t None = refl
 next-resolved t (Some change) = refl
 
 -- an enabled event takes what it reserves from the free words
-next-state : (first : Snapshot) (log : Log) (event : Event) → Enabled first log event
+pub next-state : (first : Snapshot) (log : Log) (event : Event) → Enabled first log event
     → (state first (event ∷ log)).next ≡ (state first log).next + reserved_by event
 next-state first log (Enter caller) h = omega arith
 next-state first log (Reserve caller base size) h = ap (λ n. n + size) h.base_is

@@ -27,9 +27,17 @@ pub mod Building
 pub mod Enabled
 pub mod Lawful
 pub mod Spending
+pub mod Rows
+pub mod Growing
+pub mod Freezing
+pub mod Writing
+pub mod Limits
 pub mod Changes
 pub mod Standing
 pub mod Histories
 pub mod Resting
+pub mod Laws
+pub mod TreeLaws
+pub mod ImageLaws
 pub mod ExampleTables
 pub mod ExampleLogs

@@ -7,6 +7,11 @@ ghost use Rattle.ist_core.specs.Leaves.{HasContents};
 ghost use Rattle.ist_core.specs.Logs.{Log, Happened, Reserves};
 ghost use Rattle.ist_core.specs.Lawful.{Lawful, state_of};
 ghost use Rattle.ist_core.specs.Spending.{spent, IsKnown};
+ghost use Rattle.ist_core.specs.Laws.{PublishedRowsAreSetAside, HeldRowsAreSetAside, RowsLieWithin, RowsLieApart, RowsHaveOneSize};
+ghost use Rattle.ist_core.specs.Laws.{HeldRowsAreUnpublished, RowsAreHeldOnce, LostRowsAreUnpublished, LostRowsAreFree, RowsGrow};
+ghost use Rattle.ist_core.specs.Laws.{CountsAreFew, CountsAreLow};
+ghost use Rattle.ist_core.specs.ImageLaws.{WordsAreFound, OneWordIsWritten, SlotsStandInTheImage};
+ghost use Rattle.ist_core.specs.TreeLaws.{ChildrenLieAbove, ParentsAreOne, FrozenSlotsRead, FrozenSlotsKeep, PassesAgree};
 
 /// A snapshot is shown by one state, and a state shows the rows of one snapshot.
 pub fn states_are_shown()
@@ -34,4 +39,63 @@ pub fn rows_are_known()
     ensures known { (pairs : List Pair) (words : ℕ) (log : Log) → Lawful pairs words log
         → (caller base size : ℕ) → Happened (Reserves caller base size) log
         → IsKnown (state_of pairs words log) log caller base size }
+{}
+
+/// A reserved row has one fate: what is held is held once and isn't published, and what was lost is
+/// neither held nor published, ever again.
+pub fn fates_are_one()
+    ensures held_unpublished { HeldRowsAreUnpublished }
+    ensures held_once { RowsAreHeldOnce }
+    ensures lost_unpublished { LostRowsAreUnpublished }
+    ensures lost_unheld { LostRowsAreFree }
+{}
+
+/// Rows share no word. Each published or held row has the words that were set aside for it, in the
+/// new table or by a caller, and they lie behind the fixed words and below the first free one.
+pub fn rows_lie_apart()
+    ensures published { PublishedRowsAreSetAside }
+    ensures held { HeldRowsAreSetAside }
+    ensures within { RowsLieWithin }
+    ensures apart { RowsLieApart }
+    ensures one_size { RowsHaveOneSize }
+{}
+
+/// A published row stays a row of its kind, and only its status, count, slots, decision, root and
+/// draw change: a status goes from open to marked to finished, a change is decided once, a rebuild
+/// gets its root once, and counts never fall.
+pub fn rows_grow()
+    ensures grow { RowsGrow }
+{}
+
+/// A row counts no more changes than were decided yes, and so fewer than would wrap a word.
+pub fn counts_are_low()
+    ensures few { CountsAreFew }
+    ensures low { CountsAreLow }
+{}
+
+/// An inner child's base is above its parent's, so that a way down the tree ends.
+pub fn children_lie_above()
+    ensures above { ChildrenLieAbove }
+{}
+
+/// An inner row is the logical child of one slot only, ever, whatever changes and rebuilds come.
+pub fn parents_are_one()
+    ensures one { ParentsAreOne }
+{}
+
+/// A slot that was passed is frozen. It was passed with one word, reads as this word from then on,
+/// and holds it, or a change that would take it out and can't take effect; its node isn't open.
+pub fn frozen_slots_stay()
+    ensures reads { FrozenSlotsRead }
+    ensures keeps { FrozenSlotsKeep }
+    ensures agree { PassesAgree }
+{}
+
+/// The step of an event touches one word of the table: it finds there what the event's condition
+/// says, and leaves there what the state behind the event says. No other word of the image changes,
+/// where the rows that the event publishes stood in their words before. A Lose touches no word.
+pub fn one_word_is_written()
+    ensures found { WordsAreFound }
+    ensures written { OneWordIsWritten }
+    ensures slots { SlotsStandInTheImage }
 {}

@@ -1,0 +1,205 @@
+-- A row counts no more than what was decided yes, so that no count reaches the end of a word. Serves `laws.counts_are_low`.
+use Rattle.std.proofs.Common.{◌≡◌, ◌≢◌, ℕ, ◌+◌, ◌≤◌, ◌⊎◌, ◌==◌, if◌then◌else◌, Bool, true, false, not, List, [], ◌∷◌, ◌++◌, length, filter, Option, Some, None, refl, sym, ap, ◌∙◌, subst, inl, inr, arith, length-append}
+use Rattle.std.proofs.lemmas.Bool.Decides.{nat_tests, eqb_tells}
+use Rattle.ist_core.specs.declared.pairs.Pair.{Pair}
+use Rattle.ist_core.specs.declared.states.ChangeRow.{ChangeRow}
+use Rattle.ist_core.specs.declared.events.Event.{Event}
+use Rattle.ist_core.specs.declared.events.Event.TheVariants.{Enter, Reserve, Install, Okay, Decide, Resolve, Count, Mark, Pass, Finish, Root, Draw, Place, Lose}
+use Rattle.ist_core.specs.Elements.{Among}
+use Rattle.ist_core.specs.Pieces.{Piece, Leaf, Inner, Change, Rebuild}
+use Rattle.ist_core.specs.Snapshots.{Snapshot}
+use Rattle.ist_core.specs.StartLayout.{start}
+use Rattle.ist_core.specs.Logs.{Log, state, Happened, Counts, GoesOn, same_log, one_event}
+use Rattle.ist_core.specs.Deciding.{CanCount}
+use Rattle.ist_core.specs.Growing.{ChangeGrows}
+use Rattle.ist_core.specs.Lawful.{EachEnabled, state_of}
+use Rattle.ist_core.specs.Limits.{decided_yes_in}
+use Rattle.ist_core.proofs.ElementLemmas.{among_filter, among_left, among_right}
+use Rattle.ist_core.proofs.GrowingLemmas.{change_there}
+use Rattle.ist_core.proofs.FateLemmas.{enabled_before, grow_between}
+
+-- ---- counts and what may be counted
+
+-- the list without a number
+abbrev pub drop_all : ℕ → List ℕ → List ℕ
+drop_all x xs = filter (λ y. not (y == x)) xs
+
+-- the owner of a row, if it is a change
+abbrev pub owner_of : Option Piece → List ℕ
+owner_of (Some (Change r)) = r.owner ∷ []
+owner_of _ = []
+
+-- how many Counts of the node are in the log
+unfoldable pub counts : ℕ → Log → ℕ
+counts node [] = 0
+counts node (Count caller at ∷ log) = if at == node then counts node log + 1 else counts node log
+counts node (_ ∷ log) = counts node log
+
+-- the owners of changes that were decided yes and may be counted at the node still, one for each change
+unfoldable pub waiting : Snapshot → ℕ → Log → List ℕ
+waiting first node [] = []
+waiting first node (Decide caller base true ∷ log) = owner_of ((state first log).pieces base) ++ waiting first node log
+waiting first node (Count caller at ∷ log) = if at == node then drop_all caller (waiting first node log) else waiting first node log
+waiting first node (_ ∷ log) = waiting first node log
+
+-- dropping shortens, and where the number stands in the list by one at least
+pub drop_shorter : (x : ℕ) (xs : List ℕ) → length (drop_all x xs) ≤ length xs
+drop_shorter x [] = omega arith
+drop_shorter x (y ∷ ys) = at (drop_shorter x ys) (y == x)
+  where
+    at : length (drop_all x ys) ≤ length ys → (v : Bool)
+        → length (if not v then y ∷ drop_all x ys else drop_all x ys) ≤ length (y ∷ ys)
+    at rest true = omega arith
+    at rest false = omega arith
+
+pub drop_one : (x : ℕ) (xs : List ℕ) → Among x xs → length (drop_all x xs) + 1 ≤ length xs
+drop_one x [] i = absurd i
+drop_one x (y ∷ ys) i = at (λ j. drop_one x ys j) (y == x) (eqb_tells y x) i
+  where
+    at : (Among x ys → length (drop_all x ys) + 1 ≤ length ys) → (v : Bool)
+        → (((y == x) ≡ true) × (y ≡ x)) ⊎ (((y == x) ≡ false) × (y ≢ x)) → Among x (y ∷ ys)
+        → length (drop_all x (y ∷ ys)) + 1 ≤ length (y ∷ ys)
+    at again v (inl k) j =
+        let rest = drop_shorter x ys in
+        subst (λ b. length (if not b then y ∷ drop_all x ys else drop_all x ys) + 1 ≤ length (y ∷ ys)) (sym k.0) (omega arith)
+    at again v (inr k) (inl e) = absurd (k.1 (sym e))
+    at again v (inr k) (inr j) =
+        let rest = again j in
+        subst (λ b. length (if not b then y ∷ drop_all x ys else drop_all x ys) + 1 ≤ length (y ∷ ys)) (sym k.0) (omega arith)
+
+-- another number stays
+drop_keeps : (x c : ℕ) (xs : List ℕ) → c ≢ x → Among c xs → Among c (drop_all x xs)
+drop_keeps x c xs ne i = among_filter (λ y. not (y == x)) c xs i (other (c == x) refl)
+  where
+    other : (v : Bool) → (c == x) ≡ v → not (c == x) ≡ true
+    other true e = absurd (ne (grind (arith, nat_tests)))
+    other false e = ap not e
+
+-- a change that grew is the caller's still
+same_owner : (o : Option Piece) (old r s : ChangeRow) (caller : ℕ) → ChangeGrows old r
+    → o ≡ Some (Change r)
+    → o ≡ Some (Change s) → s.owner ≡ caller → old.owner ≡ caller
+same_owner o old r s caller grows e f owned =
+    let one : r ≡ s = cc in
+    sym (ap (λ c. c.owner) grows.others) ∙ ap (λ c. c.owner) one ∙ owned
+
+-- ---- each Count has a change of its own
+
+module _ (pairs : List Pair) (words : ℕ) (node : ℕ) where
+  -- an event that counts nothing for the caller here leaves it waiting
+  waiting_on : (log : Log) (event : Event) (caller : ℕ) → ¬ (Counts caller node event)
+      → Among caller (waiting (start pairs words) node log)
+      → Among caller (waiting (start pairs words) node (event ∷ log))
+  unfolding waiting
+  waiting_on log (Decide c base true) caller none i =
+      among_right caller (owner_of ((state_of pairs words log).pieces base)) (waiting (start pairs words) node log) i
+  waiting_on log (Decide c base false) caller none i = i
+  waiting_on log (Count c at) caller none i = here (at == node) (eqb_tells at node)
+    where
+      here : (v : Bool)
+          → (((at == node) ≡ true) × (at ≡ node)) ⊎ (((at == node) ≡ false) × (at ≢ node))
+          → Among caller
+          (if at == node then drop_all c (waiting (start pairs words) node log) else waiting (start pairs words) node log)
+      here v (inl k) =
+          subst (λ b. Among caller (if b then drop_all c (waiting (start pairs words) node log) else waiting (start pairs words) node log)) (sym k.0)
+          (drop_keeps c caller (waiting (start pairs words) node log) (λ e. none (sym e, k.1)) i)
+      here v (inr k) =
+          subst (λ b. Among caller (if b then drop_all c (waiting (start pairs words) node log) else waiting (start pairs words) node log)) (sym k.0) i
+  waiting_on log (Enter c) caller none i = i
+  waiting_on log (Reserve c base size) caller none i = i
+  waiting_on log (Install c change rows) caller none i = i
+  waiting_on log (Okay c change) caller none i = i
+  waiting_on log (Resolve c change) caller none i = i
+  waiting_on log (Mark c at) caller none i = i
+  waiting_on log (Pass c at j word) caller none i = i
+  waiting_on log (Finish c at keys) caller none i = i
+  waiting_on log (Root c rebuild word rows) caller none i = i
+  waiting_on log (Draw c rebuild part) caller none i = i
+  waiting_on log (Place c rebuild j word rows) caller none i = i
+  waiting_on log (Lose c bases) caller none i = i
+
+  -- a caller whose last change wasn't counted here waits
+  waits : (later : Log) (by base : ℕ) (earlier : Log) (caller : ℕ)
+      → ¬ (Happened (Counts caller node) later)
+      → Among caller (owner_of ((state_of pairs words earlier).pieces base))
+      → Among caller (waiting (start pairs words) node (later ++ Decide by base true ∷ earlier))
+  unfolding waiting
+  waits [] by base earlier caller none i = among_left caller (owner_of ((state_of pairs words earlier).pieces base)) (waiting (start pairs words) node earlier) i
+  waits (event ∷ later) by base earlier caller none i =
+      waiting_on (later ++ Decide by base true ∷ earlier) event caller (λ k. none (inl k)) (waits later by base earlier caller (λ k. none (inr k)) i)
+
+  -- the log behind a prefix
+  goes_on : (later earlier : Log) → GoesOn earlier (later ++ earlier)
+  goes_on [] earlier = same_log
+  goes_on (event ∷ later) earlier = one_event event (goes_on later earlier)
+
+  -- the caller of a Count waits
+  counter_waits : (log : Log) (caller : ℕ) → EachEnabled (start pairs words) log
+      → CanCount (start pairs words) log caller node
+      → Among caller (waiting (start pairs words) node log)
+  counter_waits log caller h can =
+      let earlier = can.earlier in
+      let whole = Decide can.by can.base true ∷ earlier in
+      let on : GoesOn whole log = subst (λ l. GoesOn whole l) (sym can.log_is) (goes_on can.later whole) in
+      let before = enabled_before (start pairs words) whole log on h in
+      let stood = before.1.pending.published in
+      let now = change_there (state_of pairs words earlier).pieces (state_of pairs words log).pieces
+      (grow_between pairs words earlier log h (further earlier whole log (one_event (Decide can.by can.base true) same_log) on)) can.base before.1.change stood in
+      let owner = same_owner ((state_of pairs words log).pieces can.base) before.1.change now.0 can.update.change caller now.2 now.1 can.update.published can.update.owned in
+      subst (λ l. Among caller (waiting (start pairs words) node l)) (sym can.log_is)
+      (waits can.later can.by can.base earlier caller can.uncounted
+      (subst (λ o. Among caller (owner_of o)) (sym stood) (inl (sym owner))))
+    where
+      further : (a b c : Log) → GoesOn a b → GoesOn b c → GoesOn a c
+      further a b _ g same_log = g
+      further a b _ g (one_event {log = l} event k) = one_event event (further a b l g k)
+
+  owner_few : (o : Option Piece) → length (owner_of o) ≤ 1
+  owner_few (Some (Change r)) = omega arith
+  owner_few (Some (Leaf r)) = omega arith
+  owner_few (Some (Inner r)) = omega arith
+  owner_few (Some (Rebuild r)) = omega arith
+  owner_few None = omega arith
+
+  -- counts and waiting owners are no more than what was decided yes
+  pub counts_few : (log : Log) → EachEnabled (start pairs words) log
+      → counts node log + length (waiting (start pairs words) node log) ≤ length
+      (decided_yes_in log)
+  unfolding counts waiting
+  counts_few [] h = omega arith
+  counts_few (Decide c base true ∷ log) h =
+      let before = counts_few log h.0 in
+      let few = owner_few ((state_of pairs words log).pieces base) in
+      let both = length-append (owner_of ((state_of pairs words log).pieces base)) (waiting (start pairs words) node log) in
+      omega arith
+  counts_few (Decide c base false ∷ log) h = counts_few log h.0
+  counts_few (Count c at ∷ log) h = here (counts_few log h.0) (λ e. drop_one c (waiting (start pairs words) node log) (counter_waits log c h.0 (subst (λ n. CanCount (start pairs words) log c n) e h.1))) (at == node) (eqb_tells at node)
+    where
+      here : counts node log + length (waiting (start pairs words) node log) ≤ length (decided_yes_in log)
+          → (at ≡ node → length (drop_all c (waiting (start pairs words) node log)) + 1 ≤ length (waiting (start pairs words) node log))
+          → (v : Bool)
+          → (((at == node) ≡ true) × (at ≡ node)) ⊎ (((at == node) ≡ false) × (at ≢ node))
+          → (if at == node then counts node log + 1 else counts node log)
+          + length (if at == node then drop_all c (waiting (start pairs words) node log) else waiting (start pairs words) node log)
+          ≤ length (decided_yes_in log)
+      here before less v (inl k) =
+          let one = less k.1 in
+          subst (λ b. (if b then counts node log + 1 else counts node log)
+          + length (if b then drop_all c (waiting (start pairs words) node log) else waiting (start pairs words) node log)
+          ≤ length (decided_yes_in log)) (sym k.0) (omega arith)
+      here before less v (inr k) =
+          subst (λ b. (if b then counts node log + 1 else counts node log)
+          + length (if b then drop_all c (waiting (start pairs words) node log) else waiting (start pairs words) node log)
+          ≤ length (decided_yes_in log)) (sym k.0) before
+  counts_few (Enter c ∷ log) h = counts_few log h.0
+  counts_few (Reserve c base size ∷ log) h = counts_few log h.0
+  counts_few (Install c change rows ∷ log) h = counts_few log h.0
+  counts_few (Okay c change ∷ log) h = counts_few log h.0
+  counts_few (Resolve c change ∷ log) h = counts_few log h.0
+  counts_few (Mark c at ∷ log) h = counts_few log h.0
+  counts_few (Pass c at j word ∷ log) h = counts_few log h.0
+  counts_few (Finish c at keys ∷ log) h = counts_few log h.0
+  counts_few (Root c rebuild word rows ∷ log) h = counts_few log h.0
+  counts_few (Draw c rebuild part ∷ log) h = counts_few log h.0
+  counts_few (Place c rebuild j word rows ∷ log) h = counts_few log h.0
+  counts_few (Lose c bases ∷ log) h = counts_few log h.0

@@ -1,0 +1,180 @@
+-- What each write makes of a row. Serves `laws.rows_stay`.
+use Rattle.std.proofs.Common.{◌≡◌, ℕ, ◌==◌, Bool, true, false, if◌then◌else◌, Some, option_map, refl, sym, ap, ◌∙◌, subst, arith, le_refl}
+use Rattle.std.proofs.lemmas.List.{length-set}
+use Rattle.std.proofs.lemmas.Bool.Decides.{nat_tests}
+use Rattle.ist_core.specs.declared.states.LeafRow.{LeafRow}
+use Rattle.ist_core.specs.declared.states.InnerRow.{InnerRow}
+use Rattle.ist_core.specs.declared.states.ChangeRow.{ChangeRow}
+use Rattle.ist_core.specs.declared.states.RebuildRow.{RebuildRow}
+use Rattle.ist_core.specs.References.{unset_word}
+use Rattle.ist_core.specs.Statuses.{undecided}
+use Rattle.ist_core.specs.Pieces.{Pieces, Piece, Leaf, Inner, Change, Rebuild, changed_at, with_slot, with_status, counted, with_decision, with_root, drawn}
+use Rattle.ist_core.specs.Growing.{StatusGoesOn, status_stays, is_marked, is_finished, is_closed, InnerGrows, ChangeGrows, RebuildGrows, Grows, leaf_stays, inner_grows, change_grows, rebuild_grows, AllGrow}
+
+-- ---- growing is an order
+
+-- an inner row may stay as it is
+inner_same : (r : InnerRow) → InnerGrows r r
+inner_same r = record { status = status_stays refl; count = le_refl _; degree = refl; size = refl; keys = refl; slots = refl }
+
+-- so may each row
+pub grows_same : (p : Piece) → Grows p p
+grows_same (Leaf r) = leaf_stays
+grows_same (Inner r) = inner_grows (inner_same r)
+grows_same (Change r) = change_grows record { decided = λ _. refl; others = refl }
+grows_same (Rebuild r) = rebuild_grows record { target = refl; parent = refl; index = refl; rooted = λ _. refl; draw = le_refl _ }
+
+-- a status goes on and on
+status_on : (a b c : ℕ) → StatusGoesOn a b → StatusGoesOn b c → StatusGoesOn a c
+status_on a b c (status_stays h) k = subst (λ x. StatusGoesOn x c) h k
+status_on a b c (is_marked h i) (status_stays k) = is_marked h (k ∙ i)
+status_on a b c (is_marked h i) (is_marked k l) = absurd (omega arith)
+status_on a b c (is_marked h i) (is_finished n k l) = is_closed n h l
+status_on a b c (is_marked h i) (is_closed n k l) = absurd (omega arith)
+status_on a b c (is_finished n h i) (status_stays k) = is_finished n h (k ∙ i)
+status_on a b c (is_finished n h i) (is_marked k l) = absurd (omega arith)
+status_on a b c (is_finished n h i) (is_finished m k l) = absurd (omega arith)
+status_on a b c (is_finished n h i) (is_closed m k l) = absurd (omega arith)
+status_on a b c (is_closed n h i) (status_stays k) = is_closed n h (k ∙ i)
+status_on a b c (is_closed n h i) (is_marked k l) = absurd (omega arith)
+status_on a b c (is_closed n h i) (is_finished m k l) = absurd (omega arith)
+status_on a b c (is_closed n h i) (is_closed m k l) = absurd (omega arith)
+
+inner_on : (a b c : InnerRow) → InnerGrows a b → InnerGrows b c → InnerGrows a c
+inner_on a b c h k =
+    let first = h.count in
+    let second = k.count in
+    record {
+      status = status_on a.status b.status c.status h.status k.status;
+      count = omega arith;
+      degree = k.degree ∙ h.degree;
+      size = k.size ∙ h.size;
+      keys = k.keys ∙ h.keys;
+      slots = k.slots ∙ h.slots;
+    }
+
+change_on : (a b c : ChangeRow) → ChangeGrows a b → ChangeGrows b c → ChangeGrows a c
+change_on a b c h k =
+    record {
+      decided = λ set. let first = h.decided set in k.decided (λ e. set (sym first ∙ e)) ∙ first;
+      others = k.others ∙ h.others;
+    }
+
+rebuild_on : (a b c : RebuildRow) → RebuildGrows a b → RebuildGrows b c → RebuildGrows a c
+rebuild_on a b c h k =
+    let before = h.draw in
+    let behind = k.draw in
+    record {
+      target = k.target ∙ h.target;
+      parent = k.parent ∙ h.parent;
+      index = k.index ∙ h.index;
+      rooted = λ set. let first = h.rooted set in k.rooted (λ e. set (sym first ∙ e)) ∙ first;
+      draw = omega arith;
+    }
+
+-- what becomes of a row may become of the first
+pub grows_on : (p q r : Piece) → Grows p q → Grows q r → Grows p r
+grows_on _ _ _ leaf_stays k = k
+grows_on _ _ _ (inner_grows {old = a} {new = b} h) (inner_grows {new = c} k) = inner_grows (inner_on a b c h k)
+grows_on _ _ _ (change_grows {old = a} {new = b} h) (change_grows {new = c} k) = change_grows (change_on a b c h k)
+grows_on _ _ _ (rebuild_grows {old = a} {new = b} h) (rebuild_grows {new = c} k) = rebuild_grows (rebuild_on a b c h k)
+
+-- ---- what each write makes of a row
+
+pub grows-with_slot : (i word : ℕ) (p : Piece) → Grows p (with_slot i word p)
+grows-with_slot i word (Leaf r) = leaf_stays
+grows-with_slot i word (Inner r) =
+    inner_grows record { status = status_stays refl; count = le_refl _; degree = refl; size = refl; keys = refl; slots = length-set r.slots i word }
+grows-with_slot i word (Change r) = grows_same (Change r)
+grows-with_slot i word (Rebuild r) = grows_same (Rebuild r)
+
+pub grows-counted : (p : Piece) → Grows p (counted p)
+grows-counted (Leaf r) = leaf_stays
+grows-counted (Inner r) = inner_grows record { status = status_stays refl; count = omega arith; degree = refl; size = refl; keys = refl; slots = refl }
+grows-counted (Change r) = grows_same (Change r)
+grows-counted (Rebuild r) = grows_same (Rebuild r)
+
+pub grows-drawn : (p : Piece) → Grows p (drawn p)
+grows-drawn (Leaf r) = leaf_stays
+grows-drawn (Inner r) = grows_same (Inner r)
+grows-drawn (Change r) = grows_same (Change r)
+grows-drawn (Rebuild r) = rebuild_grows record { target = refl; parent = refl; index = refl; rooted = λ _. refl; draw = omega arith }
+
+-- a status that goes on
+pub grows-with_status : (r : InnerRow) (status : ℕ) → StatusGoesOn r.status status
+    → Grows (Inner r) (with_status status (Inner r))
+grows-with_status r status h = inner_grows record { status = h; count = le_refl _; degree = refl; size = refl; keys = refl; slots = refl }
+
+-- a change that is decided now
+pub grows-with_decision : (r : ChangeRow) (decision : ℕ) → r.decision ≡ undecided
+    → Grows (Change r) (with_decision decision (Change r))
+grows-with_decision r decision e = change_grows record { decided = λ set. absurd (set e); others = refl }
+
+-- a rebuild that gets its root now
+pub grows-with_root : (r : RebuildRow) (word : ℕ) → r.root ≡ unset_word
+    → Grows (Rebuild r) (with_root word (Rebuild r))
+grows-with_root r word e = rebuild_grows record { target = refl; parent = refl; index = refl; rooted = λ set. absurd (set e); draw = le_refl _ }
+
+-- ---- all rows
+
+-- rows may stay as they are
+pub all_grow_same : (ps : Pieces) → AllGrow ps ps
+all_grow_same ps base p e = (p, e, grows_same p)
+
+-- and grow on and on
+pub all_grow_on : (ps qs rs : Pieces) → AllGrow ps qs → AllGrow qs rs → AllGrow ps rs
+all_grow_on ps qs rs h k base p e =
+    let first = h base p e in
+    let second = k base first.0 first.1 in
+    (second.0, second.1, grows_on p first.0 second.0 first.2 second.2)
+
+-- where one row is changed into what may become of it
+pub all_grow-changed_at : (ps : Pieces) (at : ℕ) (f : Piece → Piece)
+    → ((p : Piece) → ps at ≡ Some p → Grows p (f p)) → AllGrow ps (changed_at ps at f)
+all_grow-changed_at ps at f grows base p e = here (base == at) refl
+  where
+    here : (v : Bool) → (base == at) ≡ v
+        → (q : Piece) × ((if v then option_map f (ps base) else ps base) ≡ Some q) × Grows p q
+    here true same = (f p, ap (option_map f) e, grows p (subst (λ b. ps b ≡ Some p) (let is : base ≡ at = grind (arith, nat_tests) in is) e))
+    here false same = (p, e, grows_same p)
+
+-- where rows are only added
+pub all_grow_added : (ps qs : Pieces)
+    → ((base : ℕ) (p : Piece) → ps base ≡ Some p → qs base ≡ Some p) → AllGrow ps qs
+all_grow_added ps qs stay base p e = (p, stay base p e, grows_same p)
+
+-- ---- a row of a kind stays one
+
+pub leaf_there : (ps qs : Pieces) → AllGrow ps qs → (base : ℕ) (r : LeafRow)
+    → ps base ≡ Some (Leaf r) → qs base ≡ Some (Leaf r)
+leaf_there ps qs g base r e = at (g base (Leaf r) e).0 (g base (Leaf r) e).1 (g base (Leaf r) e).2
+  where
+    at : (q : Piece) → qs base ≡ Some q → Grows (Leaf r) q → qs base ≡ Some (Leaf r)
+    at _ i leaf_stays = i
+
+pub inner_there : (ps qs : Pieces) → AllGrow ps qs → (base : ℕ) (r : InnerRow)
+    → ps base ≡ Some (Inner r)
+    → (s : InnerRow) × (qs base ≡ Some (Inner s)) × InnerGrows r s
+inner_there ps qs g base r e = at (g base (Inner r) e).0 (g base (Inner r) e).1 (g base (Inner r) e).2
+  where
+    at : (q : Piece) → qs base ≡ Some q → Grows (Inner r) q
+        → (s : InnerRow) × (qs base ≡ Some (Inner s)) × InnerGrows r s
+    at _ i (inner_grows {new = s} h) = (s, i, h)
+
+pub change_there : (ps qs : Pieces) → AllGrow ps qs → (base : ℕ) (r : ChangeRow)
+    → ps base ≡ Some (Change r)
+    → (s : ChangeRow) × (qs base ≡ Some (Change s)) × ChangeGrows r s
+change_there ps qs g base r e = at (g base (Change r) e).0 (g base (Change r) e).1 (g base (Change r) e).2
+  where
+    at : (q : Piece) → qs base ≡ Some q → Grows (Change r) q
+        → (s : ChangeRow) × (qs base ≡ Some (Change s)) × ChangeGrows r s
+    at _ i (change_grows {new = s} h) = (s, i, h)
+
+pub rebuild_there : (ps qs : Pieces) → AllGrow ps qs → (base : ℕ) (r : RebuildRow)
+    → ps base ≡ Some (Rebuild r)
+    → (s : RebuildRow) × (qs base ≡ Some (Rebuild s)) × RebuildGrows r s
+rebuild_there ps qs g base r e = at (g base (Rebuild r) e).0 (g base (Rebuild r) e).1 (g base (Rebuild r) e).2
+  where
+    at : (q : Piece) → qs base ≡ Some q → Grows (Rebuild r) q
+        → (s : RebuildRow) × (qs base ≡ Some (Rebuild s)) × RebuildGrows r s
+    at _ i (rebuild_grows {new = s} h) = (s, i, h)

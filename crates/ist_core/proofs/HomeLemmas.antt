@@ -1,0 +1,226 @@
+-- The conjunct `one_home`: an inner row is named for one slot only, by the slot, a change of it or a rebuild for it.
+-- Serves the one-parent law.
+use Rattle.std.proofs.Common.{◌≡◌, ◌≢◌, ℕ, ◌⊎◌, ◌==◌, if◌then◌else◌, Bool, true, false, slice_get, Option, Some, None, refl, sym, ap, ◌∙◌, subst, inl, inr, ⊎_elim}
+use Rattle.std.proofs.lemmas.Bool.Decides.{eqb_tells}
+use Rattle.ist_core.specs.declared.states.RebuildRow.{RebuildRow}
+use Rattle.ist_core.specs.RowLayout.{anchor}
+use Rattle.ist_core.specs.References.{Ref, InnerAt, ref_of}
+use Rattle.ist_core.specs.Pieces.{Pieces, Piece, Leaf, Inner, Change, Rebuild, changed_at, with_slot, with_status, counted, with_decision, drawn}
+use Rattle.ist_core.specs.Snapshots.{Snapshot}
+use Rattle.ist_core.specs.Slots.{SlotHolds, in_anchor, in_row}
+use Rattle.ist_core.proofs.RowLemmas.{changed_at-some}
+use Rattle.ist_core.proofs.AddingLemmas.{Adds}
+use Rattle.ist_core.proofs.SlotLemmas.{get-set_some}
+use Rattle.ist_core.proofs.PlaceLemmas.{no_piece}
+use Rattle.ist_core.proofs.NamingLemmas.{InnerHere, SlotNames, RowNames, SideNames, RootNames, WordsName}
+
+-- ---- what is named for a slot
+
+-- the row at the base names the reference for slot i of the node: in this slot, as a side of a change of this slot, or as the
+-- target or the root of a rebuild for this slot
+abbrev pub Says : ℕ → Piece → ℕ → ℕ → Ref → Type 0
+Says base (Leaf r) node i ref = ⊥
+Says base (Inner r) node i ref = (node ≡ base) × (word : ℕ) × (slice_get r.slots i ≡ Some word) × (ref_of word ≡ Some ref)
+Says base (Change r) node i ref = (node ≡ r.node) × (i ≡ r.index) × ((ref_of r.from ≡ Some ref) ⊎ (ref_of r.to ≡ Some ref))
+Says base (Rebuild r) node i ref = (node ≡ r.parent) × (i ≡ r.index) × ((InnerAt r.target ≡ ref) ⊎ (ref_of r.root ≡ Some ref))
+
+-- the reference is named for slot i of the node
+abbrev pub Mentions : Snapshot → ℕ → ℕ → Ref → Type 0
+Mentions t node i ref =
+    ((node ≡ anchor) × (i ≡ 0) × (ref_of t.anchor ≡ Some ref))
+    ⊎ ((base : ℕ) × (p : Piece) × (t.pieces base ≡ Some p) × Says base p node i ref)
+
+-- an inner row is named for one slot only
+pub record HasOneHome (t : Snapshot) : Type 0 where
+  pub one : (n i k j child : ℕ) → Mentions t n i (InnerAt child) → Mentions t k j (InnerAt child)
+      → (n ≡ k) × (i ≡ j)
+
+-- what a slot holds is named for it
+pub slot_mentions : (t : Snapshot) (node i word : ℕ) (ref : Ref) → SlotHolds t node i word
+    → ref_of word ≡ Some ref → Mentions t node i ref
+slot_mentions t node i word ref (in_anchor a b e) is = inl (a, b, ap ref_of e ∙ is)
+slot_mentions t node i word ref (in_row r p e) is = inr (node, Inner r, p, (refl, word, e, is))
+
+-- an inner row that is named is published
+pub mentioned_here : (t : Snapshot) (node i child : ℕ) → WordsName t
+    → Mentions t node i (InnerAt child) → InnerHere t.pieces child
+mentioned_here t node i child o (inl h) = let it : SlotNames t.pieces anchor 0 (Some (InnerAt child)) = subst (λ ref. SlotNames t.pieces anchor 0 ref) h.2 o.anchor_slot in it.1
+mentioned_here t node i child o (inr h) = at h.1 (o.rows h.0 h.1 h.2) h.3
+  where
+    at : (p : Piece) → RowNames t.pieces h.0 p → Says h.0 p node i (InnerAt child)
+        → InnerHere t.pieces child
+    at (Leaf r) names says = absurd says
+    at (Inner r) names says = let it : SlotNames t.pieces h.0 i (Some (InnerAt child)) = subst (λ ref. SlotNames t.pieces h.0 i ref) says.3 (names i says.1 says.2) in it.1
+    at (Change r) names says =
+        ⊎_elim
+        (λ e. let it : SideNames t.pieces r.node r.index (Some (InnerAt child)) = subst (λ ref. SideNames t.pieces r.node r.index ref) e names.0 in it.1)
+        (λ e. let it : SideNames t.pieces r.node r.index (Some (InnerAt child)) = subst (λ ref. SideNames t.pieces r.node r.index ref) e names.1 in it.1)
+        says.2
+    at (Rebuild r) names says =
+        ⊎_elim
+        (λ e. let same : r.target ≡ child = cc in subst (λ b. InnerHere t.pieces b) same names.1)
+        (λ e. let it : RootNames t.pieces r.target (Some (InnerAt child)) = subst (λ ref. RootNames t.pieces r.target ref) e names.2 in it.1)
+        says.2
+
+-- ---- what an event names
+
+-- what is named was named before the event, or is new
+abbrev pub Came : Snapshot → (ℕ → ℕ → ℕ → Type 0) → ℕ → ℕ → ℕ → Type 0
+Came t New node i child = Mentions t node i (InnerAt child) ⊎ New node i child
+
+-- whatever the row names came so
+unfoldable pub SaysCame : Snapshot → (ℕ → ℕ → ℕ → Type 0) → ℕ → Piece → Type 0
+SaysCame t New base p = (node i child : ℕ) → Says base p node i (InnerAt child) → Came t New node i child
+
+-- whatever the word names came so
+unfoldable pub WordCame : Snapshot → (ℕ → ℕ → ℕ → Type 0) → ℕ → ℕ → Option Ref → Type 0
+WordCame t New node i ref = (child : ℕ) → ref ≡ Some (InnerAt child) → Came t New node i child
+
+-- whatever these rows name came so
+unfoldable pub AllCame : Snapshot → (ℕ → ℕ → ℕ → Type 0) → Pieces → Type 0
+AllCame t New ps = (base : ℕ) (p : Piece) → ps base ≡ Some p → SaysCame t New base p
+
+-- new rows are published now, and named for one slot
+pub record AreNew (t : Snapshot) (New : ℕ → ℕ → ℕ → Type 0) : Type 0 where
+  pub unpublished : (node i child : ℕ) → New node i child → t.pieces child ≡ None
+  pub one : (n i k j child : ℕ) → New n i child → New k j child → (n ≡ k) × (i ≡ j)
+
+pub came_old : (t : Snapshot) (New : ℕ → ℕ → ℕ → Type 0) → AllCame t New t.pieces
+unfolding AllCame SaysCame
+came_old t New base p e node i child says = inl (inr (base, p, e, says))
+
+pub came_added : (t : Snapshot) (New : ℕ → ℕ → ℕ → Type 0) (ps qs : Pieces)
+    (Born : ℕ → Piece → Type 0)
+    → Adds ps qs Born → AllCame t New ps
+    → ((base : ℕ) (p : Piece) → Born base p → qs base ≡ Some p → SaysCame t New base p)
+    → AllCame t New qs
+unfolding AllCame
+came_added t New ps qs Born adds all born base p e = ⊎_elim (λ old. all base p old) (λ new. born base p new e) (adds.from base p e)
+
+pub came-changed_at : (t : Snapshot) (New : ℕ → ℕ → ℕ → Type 0) (ps : Pieces) (at : ℕ)
+    (f : Piece → Piece)
+    → AllCame t New ps
+    → ((p : Piece) → ps at ≡ Some p → SaysCame t New at p → SaysCame t New at (f p))
+    → AllCame t New (changed_at ps at f)
+unfolding AllCame
+came-changed_at t New ps at f all keeps base q e =
+    let it = changed_at-some ps at base f q e in
+    let old = all base it.0 it.1 in
+    ⊎_elim
+    (λ same. subst (λ x. SaysCame t New base x) (sym same) old)
+    (λ new. subst (λ x. SaysCame t New base x) (sym new.1)
+    (subst (λ b. SaysCame t New b (f it.0)) (sym new.0) (keeps it.0 (subst (λ b. ps b ≡ Some it.0) new.0 it.1) (subst (λ b. SaysCame t New b it.0) new.0 old))))
+    it.2
+
+-- ---- writes
+
+pub came-with_slot : (t : Snapshot) (New : ℕ → ℕ → ℕ → Type 0) (node i word : ℕ) (p : Piece)
+    → WordCame t New node i (ref_of word) → SaysCame t New node p
+    → SaysCame t New node (with_slot i word p)
+unfolding SaysCame WordCame
+came-with_slot t New node i word (Inner r) came old n j child says =
+    ⊎_elim
+    (λ w. subst (λ x. Came t New x j child) (sym says.0) (subst (λ x. Came t New node x child) (sym w.0) (came child (ap ref_of (sym w.1) ∙ says.3))))
+    (λ w. old n j child (says.0, says.1, w, says.3))
+    (get-set_some r.slots i j word says.1 says.2)
+came-with_slot t New node i word (Leaf r) came old n j child says = old n j child says
+came-with_slot t New node i word (Change r) came old n j child says = old n j child says
+came-with_slot t New node i word (Rebuild r) came old n j child says = old n j child says
+
+pub came-with_root : (t : Snapshot) (New : ℕ → ℕ → ℕ → Type 0) (base word : ℕ) (r : RebuildRow)
+    → WordCame t New r.parent r.index (ref_of word) → SaysCame t New base (Rebuild r)
+    → SaysCame t New base (Rebuild record r { root = word })
+unfolding SaysCame WordCame
+came-with_root t New base word r came old node i child says =
+    ⊎_elim
+    (λ e. old node i child (says.0, says.1, inl e))
+    (λ e. subst (λ n. Came t New n i child) (sym says.0) (subst (λ j. Came t New r.parent j child) (sym says.1) (came child e)))
+    says.2
+
+pub came-with_status : (t : Snapshot) (New : ℕ → ℕ → ℕ → Type 0) (base status : ℕ) (p : Piece)
+    → SaysCame t New base p → SaysCame t New base (with_status status p)
+unfolding SaysCame
+came-with_status t New base status (Inner r) h = h
+came-with_status t New base status (Leaf r) h = h
+came-with_status t New base status (Change r) h = h
+came-with_status t New base status (Rebuild r) h = h
+
+pub came-counted : (t : Snapshot) (New : ℕ → ℕ → ℕ → Type 0) (base : ℕ) (p : Piece)
+    → SaysCame t New base p → SaysCame t New base (counted p)
+unfolding SaysCame
+came-counted t New base (Inner r) h = h
+came-counted t New base (Leaf r) h = h
+came-counted t New base (Change r) h = h
+came-counted t New base (Rebuild r) h = h
+
+pub came-drawn : (t : Snapshot) (New : ℕ → ℕ → ℕ → Type 0) (base : ℕ) (p : Piece)
+    → SaysCame t New base p → SaysCame t New base (drawn p)
+unfolding SaysCame
+came-drawn t New base (Inner r) h = h
+came-drawn t New base (Leaf r) h = h
+came-drawn t New base (Change r) h = h
+came-drawn t New base (Rebuild r) h = h
+
+pub came-with_decision : (t : Snapshot) (New : ℕ → ℕ → ℕ → Type 0) (base decision : ℕ) (p : Piece)
+    → SaysCame t New base p → SaysCame t New base (with_decision decision p)
+unfolding SaysCame
+came-with_decision t New base decision (Inner r) h = h
+came-with_decision t New base decision (Leaf r) h = h
+came-with_decision t New base decision (Change r) h = h
+came-with_decision t New base decision (Rebuild r) h = h
+
+-- ---- homes behind an event
+
+-- where all that is named came so, each inner row has one home still
+pub one_home_from : (t u : Snapshot) (New : ℕ → ℕ → ℕ → Type 0) → HasOneHome t → WordsName t
+    → AreNew t New → AllCame t New u.pieces → WordCame t New anchor 0 (ref_of u.anchor)
+    → HasOneHome u
+unfolding AllCame SaysCame WordCame
+one_home_from t u New home names new all word =
+    record {
+      one = λ n i k j child x y. both n i k j child (came n i child x) (came k j child y);
+    }
+  where
+    came : (node i child : ℕ) → Mentions u node i (InnerAt child) → Came t New node i child
+    came node i child (inl h) = subst (λ n. Came t New n i child) (sym h.0) (subst (λ j. Came t New anchor j child) (sym h.1) (word child h.2))
+    came node i child (inr h) = all h.0 h.1 h.2 node i child h.3
+
+    both : (n i k j child : ℕ) → Came t New n i child → Came t New k j child → (n ≡ k) × (i ≡ j)
+    both n i k j child (inl x) (inl y) = home.one n i k j child x y
+    both n i k j child (inl x) (inr y) = let p = mentioned_here t n i child names x in absurd (no_piece (t.pieces child) (Inner p.0) (new.unpublished k j child y) p.1)
+    both n i k j child (inr x) (inl y) = let p = mentioned_here t k j child names y in absurd (no_piece (t.pieces child) (Inner p.0) (new.unpublished n i child x) p.1)
+    both n i k j child (inr x) (inr y) = new.one n i k j child x y
+
+-- an event that leaves the rows and the anchor
+pub one_home_same : (t u : Snapshot) → HasOneHome t → u.anchor ≡ t.anchor → u.pieces ≡ t.pieces
+    → HasOneHome u
+one_home_same t u home word pieces = record { one = λ n i k j child x y. home.one n i k j child (back n i child x) (back k j child y) }
+  where
+    back : (node i child : ℕ) → Mentions u node i (InnerAt child)
+        → Mentions t node i (InnerAt child)
+    back node i child (inl h) = inl (h.0, h.1, ap ref_of (sym word) ∙ h.2)
+    back node i child (inr h) = inr (h.0, h.1, subst (λ ps. ps h.0 ≡ Some h.1) pieces h.2, h.3)
+
+-- the anchor's word, where a slot is written
+pub anchor_came : (t u : Snapshot) (New : ℕ → ℕ → ℕ → Type 0) (node i word : ℕ)
+    → u.anchor ≡ (if node == anchor then word else t.anchor) → (node ≡ anchor → i ≡ 0)
+    → WordCame t New node i (ref_of word)
+    → WordCame t New anchor 0 (ref_of u.anchor)
+unfolding WordCame
+anchor_came t u New node i word is zero_there came child e = at (node == anchor) (eqb_tells node anchor) (ap ref_of (sym is) ∙ e)
+  where
+    at : (v : Bool)
+        → (((node == anchor) ≡ true) × (node ≡ anchor)) ⊎
+        (((node == anchor) ≡ false) × (node ≢ anchor))
+        → ref_of (if node == anchor then word else t.anchor) ≡ Some (InnerAt child)
+        → Came t New anchor 0 child
+    at v (inl k) f =
+        subst (λ j. Came t New anchor j child) (zero_there k.1)
+        (subst (λ n. Came t New n i child) k.1 (came child (subst (λ b. ref_of (if b then word else t.anchor) ≡ Some (InnerAt child)) k.0 f)))
+    at v (inr k) f = inl (inl (refl, refl, subst (λ b. ref_of (if b then word else t.anchor) ≡ Some (InnerAt child)) k.0 f))
+
+-- where it isn't written
+pub anchor_old : (t u : Snapshot) (New : ℕ → ℕ → ℕ → Type 0) → u.anchor ≡ t.anchor
+    → WordCame t New anchor 0 (ref_of u.anchor)
+unfolding WordCame
+anchor_old t u New word child e = inl (inl (refl, refl, ap ref_of (sym word) ∙ e))

@@ -1,0 +1,260 @@
+-- What each kind of event writes into the image. Serves `laws.one_word_is_written`.
+use Rattle.std.proofs.Common.{◌≡◌, ◌≢◌, ℕ, ◌+◌, ◌-◌, ◌<◌, ◌≤◌, List, [], ◌∷◌, length, slice_get, slice_set, Option, Some, None, refl, sym, ap, ◌∙◌, subst, inl, inr, ⊎_elim, arith, length-set}
+use Rattle.std.proofs.lemmas.List.{take-append-drop}
+use Rattle.ist_core.specs.declared.pairs.Pair.{Pair}
+use Rattle.ist_core.specs.declared.lists.Row.{Row}
+use Rattle.ist_core.specs.declared.states.InnerRow.{InnerRow}
+use Rattle.ist_core.specs.declared.states.ChangeRow.{ChangeRow}
+use Rattle.ist_core.specs.declared.states.RebuildRow.{RebuildRow}
+use Rattle.ist_core.specs.declared.events.Event.TheVariants.{Enter, Reserve, Install, Resolve, Count, Root, Draw, Place}
+use Rattle.ist_core.specs.RowLayout.{next_place, callers_place, anchor, anchor_status_place, anchor_slot_place, first_row}
+use Rattle.ist_core.specs.References.{ChangeAt, word_of, unset_word}
+use Rattle.ist_core.specs.Elements.{Among}
+use Rattle.ist_core.specs.Pieces.{Pieces, Piece, Inner, Change, Rebuild, words_of, size_of, row_at, inner_of, as_inner, as_change, as_rebuild, with_inners, changed_at, counted, with_root, drawn}
+use Rattle.ist_core.specs.Snapshots.{Snapshot}
+use Rattle.ist_core.specs.Images.{StandsAt, IsImage}
+use Rattle.ist_core.specs.StartLayout.{start}
+use Rattle.ist_core.specs.After.{after, side_of, resolved}
+use Rattle.ist_core.specs.Logs.{Log, state}
+use Rattle.ist_core.specs.Installing.{CanInstall, FitsKind, a_put, a_pair, a_remove, a_start, a_finish}
+use Rattle.ist_core.specs.Deciding.{CanResolve}
+use Rattle.ist_core.specs.Building.{CanRoot, CanPlace}
+use Rattle.ist_core.specs.Lawful.{EachEnabled, state_of}
+use Rattle.ist_core.specs.Rows.{Apart, IsWithin}
+use Rattle.ist_core.specs.Writing.{touch_of, touched, touch_of_resolve, touch_of_count, touch_of_draw, touch_of_place, touch_in_root, place_of_slot, RowsStand}
+use Rattle.ist_core.proofs.ElementLemmas.{each-among}
+use Rattle.ist_core.proofs.RowLemmas.{with_inners-some}
+use Rattle.ist_core.proofs.MoveLemmas.{IsSound}
+use Rattle.ist_core.proofs.InstallLemmas.{with_installed}
+use Rattle.ist_core.proofs.AddingLemmas.{IsInstalled, adds_install, adds-with_inners}
+use Rattle.ist_core.proofs.StepLemmas.{rows_resolved, rows_placed, holds_installed}
+use Rattle.ist_core.proofs.PlaceLemmas.{claimed_within, claimed_apart, placed, next_behind_fixed, no_piece}
+use Rattle.ist_core.proofs.SlotLemmas.{get-set_same, get-set_other, no_row}
+use Rattle.ist_core.proofs.ShapedLemmas.{IsShapedRow}
+use Rattle.ist_core.specs.Slots.{in_row}
+use Rattle.ist_core.proofs.SlotStepLemmas.{elsewhere}
+use Rattle.ist_core.proofs.ImageLemmas.{image_row, image_slot}
+
+-- ---- rows that are published
+
+-- the words of a row, if there is one
+pub words_in : Option Piece → List ℕ
+words_in (Some q) = words_of q
+words_in None = []
+
+-- an inner row has the words that it was read from
+pub words_of-inner_of : (words : List ℕ) (p : Piece) → inner_of words ≡ Some p → words_of p ≡ words
+unfolding words_in
+words_of-inner_of [] p e = absurd (cc)
+words_of-inner_of (a ∷ []) p e = absurd (cc)
+words_of-inner_of (a ∷ b ∷ []) p e = absurd (cc)
+words_of-inner_of (a ∷ b ∷ c ∷ []) p e = absurd (cc)
+words_of-inner_of (status ∷ count ∷ degree ∷ size ∷ rest) p e = sym (ap words_in e) ∙ ap (λ xs. status ∷ count ∷ degree ∷ size ∷ xs) (take-append-drop (degree - 1) rest)
+
+-- the row at a base stands where the words of one of these rows do
+pub row_stands : (words : List ℕ) (rows : List Row) (row : Row) (base : ℕ) (p : Piece)
+    → RowsStand words rows → Among row rows → row.base ≡ base → row.words ≡ words_of p
+    → StandsAt words base p
+row_stands words rows row base p all i here is k less =
+    let it = each-among (λ r. (n : ℕ) → n < length r.words → slice_get words (r.base + n) ≡ slice_get r.words n) row rows all i k (subst (λ ws. k < length ws) (sym is) less) in
+    ap (λ b. slice_get words (b + k)) (sym here) ∙ it ∙ ap (λ ws. slice_get ws k) is
+
+-- inner rows that are published stand
+pub inners_stand : (ps : Pieces) (words : List ℕ) (rows : List Row) → RowsStand words rows
+    → ((base : ℕ) (p : Piece) → ps base ≡ Some p → StandsAt words base p)
+    → (base : ℕ) (p : Piece) → with_inners ps rows base ≡ Some p → StandsAt words base p
+inners_stand ps words rows all old base p e =
+    ⊎_elim (λ w. row_stands words rows w.0 base p all w.1 w.2 (sym (words_of-inner_of w.0.words p w.3))) (λ there. old base p there) (with_inners-some ps rows base p e)
+
+-- a row of an Install is one of those that it publishes
+pub installed_row : (first : Snapshot) (log : Log) (at : ℕ) (change : ChangeRow) (fresh : List Row)
+    (fits : FitsKind first log change fresh) (base : ℕ) (p : Piece)
+    → IsInstalled first log at change fresh fits base p
+    → Among (row_at base p) (row_at at (Change change) ∷ fresh)
+installed_row first log at change fresh fits base p (inl h) = inl (λ i. row_at (h.0 i) (h.1 i))
+installed_row first log at change fresh (a_put f) base p (inr h) = inr (subst (λ xs. Among (row_at base p) xs) (sym f.fresh_are) (inl (λ i. row_at (h.0 i) (h.1 i))))
+installed_row first log at change fresh (a_pair f) base p (inr (inl h)) = inr (subst (λ xs. Among (row_at base p) xs) (sym f.fresh_are) (inl (λ i. row_at (h.0 i) (h.1 i))))
+installed_row first log at change fresh (a_pair f) base p (inr (inr h)) = inr (subst (λ xs. Among (row_at base p) xs) (sym f.fresh_are) (inr (inl (λ i. row_at (h.0 i) (h.1 i)))))
+installed_row first log at change fresh (a_remove f) base p (inr h) = absurd h
+installed_row first log at change fresh (a_start f) base p (inr h) = inr (subst (λ xs. Among (row_at base p) xs) (sym f.fresh_are) (inl (λ i. row_at (h.0 i) (h.1 i))))
+installed_row first log at change fresh (a_finish f) base p (inr h) = absurd h
+
+-- ---- where the rows of a state lie
+
+-- rows lie within the table and apart
+pub record RowsApart (u : Snapshot) : Type 0 where
+  pub low_next : first_row ≤ u.next
+  pub within : (base : ℕ) (p : Piece) → u.pieces base ≡ Some p → IsWithin u base (size_of p)
+  pub apart : (base other : ℕ) (p q : Piece) → u.pieces base ≡ Some p → u.pieces other ≡ Some q
+      → base ≢ other → Apart base (size_of p) other (size_of q)
+
+-- so do they behind a log from a new table
+pub rows_apart : (pairs : List Pair) (words : ℕ) (log : Log) → EachEnabled (start pairs words) log
+    → RowsApart (state_of pairs words log)
+rows_apart pairs words log h =
+    let k = placed pairs words log h in
+    record {
+      low_next = next_behind_fixed pairs words log h;
+      within = λ base p e. claimed_within pairs words log base (size_of p) h (k.published base p e);
+      apart = λ base other p q e f differ.
+          ⊎_elim (λ same. absurd (differ same.0)) (λ a. a.1)
+          (claimed_apart pairs words log base (size_of p) other (size_of q) h (k.published base p e) (k.published other q f));
+    }
+
+-- ---- the events that write no word, or a fixed one
+
+-- only what callers hold changes
+pub image_same : (t u : Snapshot) (words : List ℕ) → u.words ≡ t.words → u.next ≡ t.next
+    → u.callers ≡ t.callers → u.anchor ≡ t.anchor → u.pieces ≡ t.pieces → IsImage t words
+    → IsImage u words
+image_same t u words a b c d e image =
+    record {
+      size = image.size ∙ sym a;
+      next = image.next ∙ ap (λ n. Some n) (sym b);
+      callers = image.callers ∙ ap (λ n. Some n) (sym c);
+      anchor_status = image.anchor_status;
+      anchor_slot = image.anchor_slot ∙ ap (λ n. Some n) (sym d);
+      rows = λ base p k. image.rows base p (subst (λ ps. ps base ≡ Some p) e k);
+      free = λ place k l. image.free place (subst (λ n. n ≤ place) b k) (subst (λ n. place < n) a l);
+    }
+
+-- a fixed word before all rows is written
+pub row_behind : (words : List ℕ) (base place word : ℕ) (p : Piece) → place < base
+    → StandsAt words base p → StandsAt (slice_set words place word) base p
+row_behind words base place word p low h k less = get-set_other words place (base + k) word (λ e. omega arith) ∙ h k less
+
+pub image_enter : (t : Snapshot) (caller : ℕ) (words : List ℕ) → RowsApart t → IsImage t words
+    → IsImage (after t (Enter caller)) (slice_set words callers_place (t.callers + 1))
+image_enter t caller words a image =
+    let low = a.low_next in
+    record {
+      size = length-set words callers_place (t.callers + 1) ∙ image.size;
+      next = get-set_other words callers_place next_place (t.callers + 1) (λ e. omega arith) ∙ image.next;
+      callers = get-set_same words callers_place (t.callers + 1) t.callers image.callers;
+      anchor_status = get-set_other words callers_place anchor_status_place (t.callers + 1) (λ e. omega arith) ∙ image.anchor_status;
+      anchor_slot = get-set_other words callers_place anchor_slot_place (t.callers + 1) (λ e. omega arith) ∙ image.anchor_slot;
+      rows = λ base p e. let in_it = a.within base p e in let bottom = in_it.behind_fixed in row_behind words base callers_place (t.callers + 1) p (omega arith) (image.rows base p e);
+      free = λ place k l. get-set_other words callers_place place (t.callers + 1) (λ e. omega arith) ∙ image.free place k l;
+    }
+
+pub image_reserve : (t : Snapshot) (caller base size : ℕ) (words : List ℕ) → base ≡ t.next → RowsApart t
+    → IsImage t words
+    → IsImage (after t (Reserve caller base size)) (slice_set words next_place (base + size))
+image_reserve t caller base size words is a image =
+    let low = a.low_next in
+    record {
+      size = length-set words next_place (base + size) ∙ image.size;
+      next = get-set_same words next_place (base + size) t.next image.next;
+      callers = get-set_other words next_place callers_place (base + size) (λ e. omega arith) ∙ image.callers;
+      anchor_status = get-set_other words next_place anchor_status_place (base + size) (λ e. omega arith) ∙ image.anchor_status;
+      anchor_slot = get-set_other words next_place anchor_slot_place (base + size) (λ e. omega arith) ∙ image.anchor_slot;
+      rows = λ b p e. let in_it = a.within b p e in let bottom = in_it.behind_fixed in row_behind words b next_place (base + size) p (omega arith) (image.rows b p e);
+      free = λ place k l. get-set_other words next_place place (base + size) (λ e. omega arith) ∙ image.free place (omega arith) l;
+    }
+
+-- ---- the events that write a word of a row
+
+-- a word of a row that stood is written
+pub image_word : (t u : Snapshot) (words : List ℕ) (node j word : ℕ) (p : Piece) (f : Piece → Piece)
+    → RowsApart u → u.words ≡ t.words → u.next ≡ t.next → u.callers ≡ t.callers
+    → u.anchor ≡ t.anchor → u.pieces ≡ changed_at t.pieces node f
+    → t.pieces node ≡ Some p → j < length (words_of p)
+    → words_of (f p) ≡ slice_set (words_of p) j word → IsImage t words
+    → IsImage u (slice_set words (node + j) word)
+image_word t u words node j word p f a same next callers anchored pieces there below is image =
+    image_row t u words image same next callers a.low_next a.within a.apart t.pieces node j word p f image.rows anchored there pieces below is
+
+pub image_count : (t : Snapshot) (caller node : ℕ) (words : List ℕ) (r : InnerRow)
+    → t.pieces node ≡ Some (Inner r) → RowsApart (after t (Count caller node)) → IsImage t words
+    → IsImage (after t (Count caller node)) (touched words (touch_of t (Count caller node)))
+image_count t caller node words r e a image =
+    subst (λ x. IsImage (after t (Count caller node)) (touched words (touch_of_count node x))) (sym (ap as_inner e))
+    (image_word t (after t (Count caller node)) words node 1 (r.count + 1) (Inner r) counted a refl refl refl refl refl e (omega arith) refl image)
+
+pub image_draw : (t : Snapshot) (caller rebuild part : ℕ) (words : List ℕ) (r : RebuildRow)
+    → t.pieces rebuild ≡ Some (Rebuild r) → RowsApart (after t (Draw caller rebuild part))
+    → IsImage t words
+    → IsImage (after t (Draw caller rebuild part))
+    (touched words (touch_of t (Draw caller rebuild part)))
+image_draw t caller rebuild part words r e a image =
+    subst (λ x. IsImage (after t (Draw caller rebuild part)) (touched words (touch_of_draw rebuild x))) (sym (ap as_rebuild e))
+    (image_word t (after t (Draw caller rebuild part)) words rebuild 4 (r.draw + 1) (Rebuild r) drawn a refl refl refl refl refl e (omega arith) refl image)
+
+-- ---- the events that write a slot, and a Root
+
+-- what a state must satisfy for its slots to be written
+pub record SlotsReady (t : Snapshot) : Type 0 where
+  pub free : t.pieces anchor ≡ None
+  pub shaped : (base : ℕ) (r : InnerRow) → t.pieces base ≡ Some (Inner r) → IsShapedRow r
+  pub sound : IsSound t
+
+-- where no row stands, none is published by rows that are held
+pub still_free : (t : Snapshot) (qs : Pieces) (base : ℕ)
+    → ((p : Piece) → qs base ≡ Some p → t.pieces base ≡ Some p) → t.pieces base ≡ None
+    → qs base ≡ None
+still_free t qs base back none = at (qs base) refl
+  where
+    at : (o : Option Piece) → qs base ≡ o → qs base ≡ None
+    at None e = e
+    at (Some p) e = absurd (no_piece (t.pieces base) p none (back p e))
+
+pub image_resolve : (t : Snapshot) (caller base : ℕ) (words : List ℕ) (h : CanResolve t caller base)
+    → SlotsReady t → RowsApart (after t (Resolve caller base)) → IsImage t words
+    → IsImage (after t (Resolve caller base)) (touched words (touch_of t (Resolve caller base)))
+image_resolve t caller base words h ready a image =
+    let u = resolved t (Some h.change) in
+    let b = subst RowsApart (rows_resolved t caller base h) a in
+    subst (λ x. IsImage (after t (Resolve caller base)) (touched words (touch_of_resolve t base x))) (sym (ap as_change h.published))
+    (subst (λ x. IsImage x (slice_set words (place_of_slot t h.change.node h.change.index) (side_of h.change))) (sym (rows_resolved t caller base h))
+    (image_slot t u words image refl refl refl b.low_next b.within b.apart t.pieces h.change.node h.change.index (side_of h.change) (word_of (ChangeAt base))
+    image.rows ready.free ready.free (λ at p e. e) ready.shaped refl refl h.in_slot))
+
+pub image_place : (t : Snapshot) (caller rebuild i word : ℕ) (rows : List Row) (words : List ℕ)
+    (h : CanPlace t caller rebuild i word rows)
+    → SlotsReady t → RowsApart (after t (Place caller rebuild i word rows))
+    → with_inners t.pieces rows anchor ≡ None → RowsStand words rows → IsImage t words
+    → IsImage (after t (Place caller rebuild i word rows))
+    (touched words (touch_of t (Place caller rebuild i word rows)))
+image_place t caller rebuild i word rows words h ready a free stand image =
+    let u = after t (Place caller rebuild i word rows) in
+    let qs = with_inners t.pieces rows in
+    let keeps = (adds-with_inners t caller rows h.held ready.sound).keeps in
+    let touch = ap (λ o. touch_of_place t o i word) (ap as_rebuild h.published) ∙ ap (λ o. touch_in_root t o i word) h.root_is in
+    subst (λ x. IsImage u (touched words x)) (sym touch)
+    (image_slot t u words image refl refl refl a.low_next a.within a.apart qs h.root i word unset_word
+    (inners_stand t.pieces words rows stand image.rows) ready.free free keeps ready.shaped (rows_placed t caller rebuild i word rows h)
+    (elsewhere h.root word t.anchor (λ e. no_row t.pieces h.root h.root_row ready.free e h.root_published))
+    (in_row h.root_row h.root_published h.free))
+
+pub image_root : (t : Snapshot) (caller rebuild word : ℕ) (rows : List Row) (words : List ℕ)
+    (h : CanRoot t caller rebuild word rows)
+    → SlotsReady t → RowsApart (after t (Root caller rebuild word rows))
+    → RowsStand words rows → IsImage t words
+    → IsImage (after t (Root caller rebuild word rows))
+    (touched words (touch_of t (Root caller rebuild word rows)))
+image_root t caller rebuild word rows words h ready a stand image =
+    let u = after t (Root caller rebuild word rows) in
+    let qs = with_inners t.pieces rows in
+    let keeps = (adds-with_inners t caller rows h.held ready.sound).keeps in
+    image_row t u words image refl refl refl a.low_next a.within a.apart qs rebuild 3 word (Rebuild h.row) (with_root word)
+    (inners_stand t.pieces words rows stand image.rows) refl (keeps rebuild (Rebuild h.row) h.published) refl (omega arith) refl
+
+pub image_install : (first : Snapshot) (log : Log) (caller base : ℕ) (rows : List Row) (words : List ℕ)
+    (h : CanInstall first log caller base rows)
+    → SlotsReady (state first log)
+    → RowsApart (after (state first log) (Install caller base rows))
+    → with_installed (state first log).pieces base h.change h.fresh anchor ≡ None
+    → RowsStand words rows → IsImage (state first log) words
+    → IsImage (after (state first log) (Install caller base rows))
+    (touched words (touch_of (state first log) (Install caller base rows)))
+image_install first log caller base rows words h ready a free stand image =
+    let t = state first log in
+    let all = row_at base (Change h.change) ∷ h.fresh in
+    let b = subst (λ xs. RowsApart (after t (Install caller base xs))) h.rows_are a in
+    let there = subst (λ xs. RowsStand words xs) h.rows_are stand in
+    let qs = with_installed t.pieces base h.change h.fresh in
+    let adds = adds_install first log caller base h.change h.fresh h.fits (holds_installed first log caller base rows h) ready.sound in
+    subst (λ xs. IsImage (after t (Install caller base xs)) (touched words (touch_of t (Install caller base xs)))) (sym h.rows_are)
+    (image_slot t (after t (Install caller base all)) words image refl refl refl b.low_next b.within b.apart qs h.change.node h.change.index (word_of (ChangeAt base)) h.change.from
+    (λ at p e. ⊎_elim (λ old. image.rows at p old) (λ new. row_stands words all (row_at at p) at p there (installed_row first log base h.change h.fresh h.fits at p new) refl refl) (adds.from at p e))
+    ready.free free adds.keeps ready.shaped refl refl h.in_slot)

@@ -1,0 +1,26 @@
+-- Where rows lie: each was reserved with as many words as it has, and no two share a word.
+use Rattle.std.specs.Prelude.{◌≡◌, ℕ, ◌+◌, ◌<◌, ◌≤◌, ◌⊎◌, Some}
+use Rattle.ist_core.specs.declared.pairs.Pair.{Pair}
+use Rattle.std.specs.Prelude.{List}
+use Rattle.ist_core.specs.RowLayout.{first_row}
+use Rattle.ist_core.specs.Pieces.{Piece, size_of}
+use Rattle.ist_core.specs.Snapshots.{Snapshot}
+use Rattle.ist_core.specs.StartLayout.{start}
+use Rattle.ist_core.specs.Logs.{Log, Happened, Reserves}
+
+-- the words of a row were set aside for it: it is a row of the new table, or a caller reserved it
+pub data IsSetAside (pairs : List Pair) (words : ℕ) (log : Log) (base size : ℕ) : Type 0 where
+  at_start : (p : Piece) → (start pairs words).pieces base ≡ Some p → size_of p ≡ size
+      → IsSetAside pairs words log base size
+  by_caller : (caller : ℕ) → Happened (Reserves caller base size) log
+      → IsSetAside pairs words log base size
+
+-- no word lies in both rows, of which each is given by its base and its size
+abbrev pub Apart : ℕ → ℕ → ℕ → ℕ → Type 0
+Apart base size other more = (base + size ≤ other) ⊎ (other + more ≤ base)
+
+-- the row has a word, and lies behind the fixed words and below the first free one
+pub record IsWithin (t : Snapshot) (base size : ℕ) : Type 0 where
+  pub some : 0 < size
+  pub behind_fixed : first_row ≤ base
+  pub below_next : base + size ≤ t.next

@@ -1,0 +1,50 @@
+-- The laws over lawful logs that speak of the tree. `src/laws.rt` lists them.
+use Rattle.std.specs.Prelude.{◌≡◌, ℕ, ◌<◌, List}
+use Rattle.ist_core.specs.declared.pairs.Pair.{Pair}
+use Rattle.ist_core.specs.References.{ref_of}
+use Rattle.ist_core.specs.Logs.{Log, GoesOn}
+use Rattle.ist_core.specs.Slots.{SlotHolds, past_rebuild, logical}
+use Rattle.ist_core.specs.Links.{IsChild}
+use Rattle.ist_core.specs.Marking.{IsFrozen}
+use Rattle.ist_core.specs.Lawful.{Lawful, state_of}
+use Rattle.ist_core.specs.Freezing.{IsClosedOver}
+
+-- ---- order
+
+-- an inner child's base is above its parent's
+abbrev pub ChildrenLieAbove : Type 0
+ChildrenLieAbove =
+    (pairs : List Pair) (words : ℕ) (log : Log) → Lawful pairs words log → (node i child : ℕ)
+    → IsChild (state_of pairs words log) node i child → node < child
+
+-- ---- one parent
+
+-- an inner row is the logical child of one slot only, ever: of the slot that it is the child of behind any prefix of the log
+abbrev pub ParentsAreOne : Type 0
+ParentsAreOne =
+    (pairs : List Pair) (words : ℕ) (earlier log : Log) → Lawful pairs words log
+    → GoesOn earlier log
+    → (node i other j child : ℕ) → IsChild (state_of pairs words earlier) node i child
+    → IsChild (state_of pairs words log) other j child → (node ≡ other) × (i ≡ j)
+
+-- ---- frozen slots
+
+-- a frozen slot reads as the word that it was passed with, and a rebuild in it as its target
+abbrev pub FrozenSlotsRead : Type 0
+FrozenSlotsRead =
+    (pairs : List Pair) (words : ℕ) (log : Log) → Lawful pairs words log → (node i passed word : ℕ)
+    → IsFrozen log node i passed → SlotHolds (state_of pairs words log) node i word
+    → logical (state_of pairs words log).pieces word ≡ past_rebuild
+    (state_of pairs words log).pieces (ref_of passed)
+
+-- the node of a frozen slot isn't open, and the slot holds its word still, or a change in vain that would take it out
+abbrev pub FrozenSlotsKeep : Type 0
+FrozenSlotsKeep =
+    (pairs : List Pair) (words : ℕ) (log : Log) → Lawful pairs words log → (node i passed : ℕ)
+    → IsFrozen log node i passed → IsClosedOver (state_of pairs words log) log node i passed
+
+-- a slot is frozen with one word
+abbrev pub PassesAgree : Type 0
+PassesAgree =
+    (pairs : List Pair) (words : ℕ) (log : Log) → Lawful pairs words log → (node i word other : ℕ)
+    → IsFrozen log node i word → IsFrozen log node i other → word ≡ other
