@@ -30,7 +30,7 @@ use Rattle.ist_core.proofs.AddingLemmas.{IsInstalled, adds_install, adds-with_in
 use Rattle.ist_core.proofs.StepLemmas.{rows_resolved, rows_placed, holds_installed}
 use Rattle.ist_core.proofs.PlaceLemmas.{claimed_within, claimed_apart, placed, next_behind_fixed, no_piece}
 use Rattle.ist_core.proofs.SlotLemmas.{get-set_same, get-set_other, no_row}
-use Rattle.ist_core.proofs.ShapedLemmas.{IsShapedRow}
+use Rattle.ist_core.specs.Naming.{HasDegree}
 use Rattle.ist_core.specs.Slots.{in_row}
 use Rattle.ist_core.proofs.SlotStepLemmas.{elsewhere}
 use Rattle.ist_core.proofs.ImageLemmas.{image_row, image_slot}
@@ -185,7 +185,7 @@ image_draw t caller rebuild part words r e a image =
 -- what a state must satisfy for its slots to be written
 pub record SlotsReady (t : Snapshot) : Type 0 where
   pub free : t.pieces anchor ≡ None
-  pub shaped : (base : ℕ) (r : InnerRow) → t.pieces base ≡ Some (Inner r) → IsShapedRow r
+  pub shaped : (base : ℕ) (r : InnerRow) → t.pieces base ≡ Some (Inner r) → HasDegree r
   pub sound : IsSound t
 
 -- where no row stands, none is published by rows that are held

@@ -13,7 +13,7 @@ use Rattle.ist_core.specs.Writing.{place_in, place_of_slot}
 use Rattle.ist_core.proofs.RowLemmas.{changed_at-same, changed_at-other, changed_at-some}
 use Rattle.ist_core.proofs.PlaceLemmas.{one_piece, no_piece}
 use Rattle.ist_core.proofs.SlotLemmas.{get-set_same, get-set_other, no_row}
-use Rattle.ist_core.proofs.ShapedLemmas.{IsShapedRow}
+use Rattle.ist_core.specs.Naming.{HasDegree}
 
 -- ---- one word of a list
 
@@ -145,7 +145,7 @@ module _ (t u : Snapshot) (words : List ℕ) (image : IsImage t words) (same_wor
       → ((base : ℕ) (q : Piece) → ps base ≡ Some q → StandsAt words base q) → t.pieces anchor ≡ None
       → ps anchor ≡ None
       → ((base : ℕ) (p : Piece) → t.pieces base ≡ Some p → ps base ≡ Some p)
-      → ((base : ℕ) (r : InnerRow) → t.pieces base ≡ Some (Inner r) → IsShapedRow r)
+      → ((base : ℕ) (r : InnerRow) → t.pieces base ≡ Some (Inner r) → HasDegree r)
       → u.pieces ≡ changed_at ps node (with_slot i word)
       → u.anchor ≡ (if node == anchor then word else t.anchor) → SlotHolds t node i old
       → IsImage u (slice_set words (place_of_slot t node i) word)
@@ -190,7 +190,7 @@ module _ (t u : Snapshot) (words : List ℕ) (image : IsImage t words) (same_wor
 -- the word of a slot stands at its place
 pub slot_found : (t : Snapshot) (words : List ℕ) (node i word : ℕ) → IsImage t words
     → t.pieces anchor ≡ None
-    → ((base : ℕ) (r : InnerRow) → t.pieces base ≡ Some (Inner r) → IsShapedRow r)
+    → ((base : ℕ) (r : InnerRow) → t.pieces base ≡ Some (Inner r) → HasDegree r)
     → SlotHolds t node i word
     → slice_get words (place_of_slot t node i) ≡ Some word
 slot_found t words node i word image free shaped (in_anchor a b e) =

@@ -53,6 +53,8 @@ pub mod ImageStepLemmas
 pub mod CountLemmas
 pub mod TallyLemmas
 pub mod YesLemmas
+pub mod DrawnLemmas
+pub mod DrawLemmas
 pub mod RefusalLemmas
 pub mod PutExampleLemmas
 pub mod StartExampleLemmas

@@ -9,6 +9,7 @@ use Rattle.ist_core.specs.StartLayout.{start}
 use Rattle.ist_core.specs.Logs.{Log}
 use Rattle.ist_core.specs.After.{side_of}
 use Rattle.ist_core.specs.Slots.{change_reads, past_change, rebuild_reads, past_rebuild}
+use Rattle.ist_core.specs.Naming.{NamesRow, no_row, not_yet, a_leaf, an_inner_row, a_change, a_rebuild}
 use Rattle.ist_core.specs.Links.{IsChild}
 use Rattle.ist_core.specs.Installing.{CanInstall}
 use Rattle.ist_core.specs.Lawful.{EachEnabled, CanOpen, state_of}
@@ -103,3 +104,16 @@ child_above t node i child o c =
     clash (Some (ChangeAt base)) e f = cc
     clash (Some (RebuildAt base)) e f = cc
     clash None e f = cc
+
+-- ---- the same as a law
+
+-- a word that may stand in a slot names a row, in the words of the law
+pub names_row : (t : Snapshot) (node i word : ℕ) (ref : Option Ref) → ref_of word ≡ ref
+    → SlotNames t.pieces node i ref → NamesRow t node i word
+names_row t node i word (Some Empty) is h = no_row is
+names_row t node i word (Some Unset) is h = not_yet is
+names_row t node i word (Some (LeafAt base)) is h = a_leaf base h.0 is h.1
+names_row t node i word (Some (InnerAt base)) is h = an_inner_row base h.1.0 is h.1.1 h.0
+names_row t node i word (Some (ChangeAt base)) is h = a_change base h.row is h.published h.node_is h.index
+names_row t node i word (Some (RebuildAt base)) is h = a_rebuild base h.row is h.published h.parent h.index
+names_row t node i word None is h = absurd h

@@ -10,6 +10,7 @@ use Rattle.ist_core.specs.Arithmetic.{degree}
 use Rattle.ist_core.specs.RowLayout.{first_row}
 use Rattle.ist_core.specs.References.{Ref, unset_word}
 use Rattle.ist_core.specs.Elements.{Among, Each}
+use Rattle.ist_core.specs.Naming.{HasDegree}
 use Rattle.ist_core.specs.Parts.{parts}
 use Rattle.ist_core.specs.Pieces.{Pieces, Piece, Inner, with_inners}
 use Rattle.ist_core.specs.Snapshots.{Snapshot, bases_of}
@@ -31,14 +32,9 @@ use Rattle.ist_core.proofs.StepLemmas.{known}
 use Rattle.ist_core.proofs.AddingLemmas.{IsInstalled}
 use Rattle.ist_core.proofs.BornLemmas.{Born, by_install, by_root, by_place, Comes, from_old, from_born, comes}
 
--- an inner row has as many slots as its degree says, and one key less
-pub record IsShapedRow (r : InnerRow) : Type 0 where
-  pub keys : length r.keys + 1 ≡ r.degree
-  pub slots : length r.slots ≡ r.degree
-
--- the row is such if it is an inner row
+-- the row has slots and keys as its degree says, if it is an inner row
 abbrev pub IsShaped : Piece → Type 0
-IsShaped (Inner r) = IsShapedRow r
+IsShaped (Inner r) = HasDegree r
 IsShaped _ = Unit {0}
 
 -- growing keeps the shape
@@ -73,7 +69,7 @@ installed_shaped first log at change fresh (a_finish f) base p (inr h) = absurd 
 record StandsShaped (ps : Pieces) (base : ℕ) : Type 0 where
   row : InnerRow
   published : ps base ≡ Some (Inner row)
-  shaped : IsShapedRow row
+  shaped : HasDegree row
 
 -- slots over parts are as many as these
 slots_of_parts : (ps : Pieces) (words : List ℕ) (behind : List (List PlacedLeaf)) (above : ℕ)
@@ -84,7 +80,7 @@ slots_of_parts ps _ _ above _ (one_part {words = words} {rest = rest} {behind = 
 
 -- the top row of an ideal subtree with as many slots as it has parts
 top_shaped : (ps : Pieces) (base : ℕ) (r : InnerRow) (leaves : List PlacedLeaf) (above : ℕ)
-    → IsTop ps base r leaves above → length r.slots ≡ degree (length leaves) → IsShapedRow r
+    → IsTop ps base r leaves above → length r.slots ≡ degree (length leaves) → HasDegree r
 top_shaped ps base r leaves above top slots =
     record {
       keys = ap (λ ks. length ks + 1) top.keys ∙ keys_of_parts (λ leaf. leaf.row.key) leaves top.two ∙ sym top.degree;

@@ -74,7 +74,7 @@ drop_few x (y ∷ ys) h = at (drop_few x ys h.1) (y == x) (eqb_tells y x)
     at rest v (inr k) = subst (λ b. length (y ∷ ys) ≤ length (if not b then y ∷ drop_all x ys else drop_all x ys) + 1) (sym k.0) (omega arith)
 
 -- so that there are no more of them than numbers below
-distinct_below : (n : ℕ) (xs : List ℕ) → Distinct xs → Each (λ x. x < n) xs → length xs ≤ n
+pub distinct_below : (n : ℕ) (xs : List ℕ) → Distinct xs → Each (λ x. x < n) xs → length xs ≤ n
 distinct_below zero [] d h = omega arith
 distinct_below zero (x ∷ xs) d h = let low = h.0 in absurd (omega arith)
 distinct_below (suc n) xs d h =

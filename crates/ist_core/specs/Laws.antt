@@ -1,12 +1,16 @@
 -- The laws over lawful logs that speak of rows alone. `src/laws.rt` lists them.
-use Rattle.std.specs.Prelude.{◌≡◌, ℕ, ◌≤◌, ◌≢◌, List, length, Some, None}
+use Rattle.std.specs.Prelude.{◌≡◌, ℕ, ◌+◌, ◌≤◌, ◌≢◌, List, length, Some, None}
 use Rattle.ist_core.specs.declared.pairs.Pair.{Pair}
 use Rattle.ist_core.specs.declared.lists.HeldRow.{HeldRow}
 use Rattle.ist_core.specs.declared.states.InnerRow.{InnerRow}
+use Rattle.ist_core.specs.declared.states.RebuildRow.{RebuildRow}
+use Rattle.ist_core.specs.Arithmetic.{degree}
 use Rattle.ist_core.specs.RowLayout.{place_limit}
 use Rattle.ist_core.specs.Elements.{Among}
-use Rattle.ist_core.specs.Pieces.{Piece, Inner, size_of}
+use Rattle.ist_core.specs.Pieces.{Piece, Inner, Rebuild, size_of}
 use Rattle.ist_core.specs.Logs.{Log, GoesOn, Happened, Loses}
+use Rattle.ist_core.specs.Rebuilding.{IsFinishedWith}
+use Rattle.ist_core.specs.Enabled.{caller_limit}
 use Rattle.ist_core.specs.Lawful.{Lawful, state_of}
 use Rattle.ist_core.specs.Rows.{IsSetAside, Apart, IsWithin}
 use Rattle.ist_core.specs.Growing.{AllGrow}
@@ -93,3 +97,16 @@ abbrev pub CountsAreLow : Type 0
 CountsAreLow =
     (pairs : List Pair) (words : ℕ) (log : Log) → Lawful pairs words log → (node : ℕ) (row : InnerRow)
     → (state_of pairs words log).pieces node ≡ Some (Inner row) → row.count ≤ place_limit
+
+-- where the target of a rebuild is finished with k keys, its draw word is at most the degree of k and one more for each caller
+abbrev pub DrawsAreFew : Type 0
+DrawsAreFew =
+    (pairs : List Pair) (words : ℕ) (log : Log) → Lawful pairs words log → (rebuild k : ℕ) (row : RebuildRow)
+    → (state_of pairs words log).pieces rebuild ≡ Some (Rebuild row)
+    → IsFinishedWith (state_of pairs words log) row.target k
+    → row.draw ≤ degree k + (state_of pairs words log).callers
+
+-- there are no more callers than their limit
+abbrev pub CallersAreFew : Type 0
+CallersAreFew =
+    (pairs : List Pair) (words : ℕ) (log : Log) → Lawful pairs words log → (state_of pairs words log).callers ≤ caller_limit

@@ -30,6 +30,7 @@ pub mod Spending
 pub mod Rows
 pub mod Growing
 pub mod Freezing
+pub mod Naming
 pub mod Writing
 pub mod Limits
 pub mod Changes

@@ -1,7 +1,6 @@
 -- Where rows lie: each was reserved with as many words as it has, and no two share a word.
-use Rattle.std.specs.Prelude.{◌≡◌, ℕ, ◌+◌, ◌<◌, ◌≤◌, ◌⊎◌, Some}
+use Rattle.std.specs.Prelude.{◌≡◌, ℕ, ◌+◌, ◌<◌, ◌≤◌, ◌⊎◌, List, Some}
 use Rattle.ist_core.specs.declared.pairs.Pair.{Pair}
-use Rattle.std.specs.Prelude.{List}
 use Rattle.ist_core.specs.RowLayout.{first_row}
 use Rattle.ist_core.specs.Pieces.{Piece, size_of}
 use Rattle.ist_core.specs.Snapshots.{Snapshot}

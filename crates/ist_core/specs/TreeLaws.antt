@@ -1,13 +1,30 @@
 -- The laws over lawful logs that speak of the tree. `src/laws.rt` lists them.
-use Rattle.std.specs.Prelude.{◌≡◌, ℕ, ◌<◌, List}
+use Rattle.std.specs.Prelude.{◌≡◌, ℕ, ◌<◌, List, Some}
 use Rattle.ist_core.specs.declared.pairs.Pair.{Pair}
+use Rattle.ist_core.specs.declared.states.InnerRow.{InnerRow}
 use Rattle.ist_core.specs.References.{ref_of}
+use Rattle.ist_core.specs.Pieces.{Inner}
 use Rattle.ist_core.specs.Logs.{Log, GoesOn}
 use Rattle.ist_core.specs.Slots.{SlotHolds, past_rebuild, logical}
+use Rattle.ist_core.specs.Naming.{NamesRow, HasDegree}
 use Rattle.ist_core.specs.Links.{IsChild}
 use Rattle.ist_core.specs.Marking.{IsFrozen}
 use Rattle.ist_core.specs.Lawful.{Lawful, state_of}
 use Rattle.ist_core.specs.Freezing.{IsClosedOver}
+
+-- ---- words
+
+-- the word in a slot names a published row of its kind, or nothing
+abbrev pub SlotsNameRows : Type 0
+SlotsNameRows =
+    (pairs : List Pair) (words : ℕ) (log : Log) → Lawful pairs words log → (node i word : ℕ)
+    → SlotHolds (state_of pairs words log) node i word → NamesRow (state_of pairs words log) node i word
+
+-- each published inner row has as many slots as its degree says, and one key less
+abbrev pub RowsHaveTheirDegree : Type 0
+RowsHaveTheirDegree =
+    (pairs : List Pair) (words : ℕ) (log : Log) → Lawful pairs words log → (node : ℕ) (row : InnerRow)
+    → (state_of pairs words log).pieces node ≡ Some (Inner row) → HasDegree row
 
 -- ---- order
 

@@ -9,8 +9,9 @@ ghost use Rattle.ist_core.specs.Lawful.{Lawful, state_of};
 ghost use Rattle.ist_core.specs.Spending.{spent, IsKnown};
 ghost use Rattle.ist_core.specs.Laws.{PublishedRowsAreSetAside, HeldRowsAreSetAside, RowsLieWithin, RowsLieApart, RowsHaveOneSize};
 ghost use Rattle.ist_core.specs.Laws.{HeldRowsAreUnpublished, RowsAreHeldOnce, LostRowsAreUnpublished, LostRowsAreFree, RowsGrow};
-ghost use Rattle.ist_core.specs.Laws.{CountsAreFew, CountsAreLow};
+ghost use Rattle.ist_core.specs.Laws.{CountsAreFew, CountsAreLow, DrawsAreFew, CallersAreFew};
 ghost use Rattle.ist_core.specs.ImageLaws.{WordsAreFound, OneWordIsWritten, SlotsStandInTheImage};
+ghost use Rattle.ist_core.specs.TreeLaws.{SlotsNameRows, RowsHaveTheirDegree};
 ghost use Rattle.ist_core.specs.TreeLaws.{ChildrenLieAbove, ParentsAreOne, FrozenSlotsRead, FrozenSlotsKeep, PassesAgree};
 
 /// A snapshot is shown by one state, and a state shows the rows of one snapshot.
@@ -71,6 +72,20 @@ pub fn rows_grow()
 pub fn counts_are_low()
     ensures few { CountsAreFew }
     ensures low { CountsAreLow }
+{}
+
+/// The draw word of a rebuild is at most the degree of its target's keys, and one more for each
+/// caller, of which there are no more than their limit.
+pub fn draws_are_low()
+    ensures few { DrawsAreFew }
+    ensures callers { CallersAreFew }
+{}
+
+/// The word in a slot names a published row of its kind, or nothing; and an inner row has as many
+/// slots as its degree says, and one key less.
+pub fn words_name_rows()
+    ensures slots { SlotsNameRows }
+    ensures degree { RowsHaveTheirDegree }
 {}
 
 /// An inner child's base is above its parent's, so that a way down the tree ends.
