@@ -1,0 +1,5 @@
+pub mod AnswerLemmas
+pub mod MirrorLemmas
+pub mod DecisionLemmas
+pub mod MarkLemmas
+pub mod DrawLemmas

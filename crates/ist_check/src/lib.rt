@@ -1,0 +1,18 @@
+//! Decides of one given list of events whether it is lawful. Nothing here runs beside a table.
+//!
+//! Read `specs/Lib.antt`, then `replicas.rt`, `pasts.rt` and the files that decide one event each:
+//! `entering.rt`, `deciding.rt`, `marking.rt` and `building.rt`. Stands on `ist_core`, `ist_math`
+//! and `ist_layout`.
+#![tactic(auto)]
+
+pub mod building;
+pub mod deciding;
+pub mod entering;
+pub mod marking;
+mod nodes;
+mod pasts;
+mod replicas;
+mod shares;
+
+pub use pasts::{LastUpdate, Past};
+pub use replicas::Replica;
