@@ -4,3 +4,4 @@ pub mod Mirroring
 pub mod Remembering
 -- what the functions inside this crate promise each other
 pub mod Passing
+pub mod Ways

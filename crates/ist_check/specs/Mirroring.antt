@@ -3,6 +3,7 @@ use Rattle.std.specs.Prelude.{◌≡◌, ℕ, slice_get, Some}
 use Rattle.std.specs.Ordering.{nat_cmp}
 use Rattle.std.specs.BTreeMap as tree
 use Rattle.ist_core.specs.declared.states.InnerRow.{InnerRow}
+use Rattle.ist_core.specs.Arithmetic.{child_count}
 use Rattle.ist_core.specs.Pieces.{Inner, as_leaf, as_inner, as_change, as_rebuild}
 use Rattle.ist_core.specs.Snapshots.{Snapshot}
 use Rattle.ist_check.specs.declared.replicas.Replica.{Replica}
@@ -24,3 +25,9 @@ pub record RowHolds (t : Snapshot) (base i word : ℕ) : Type 0 where
   pub row : InnerRow
   pub published : t.pieces base ≡ Some (Inner row)
   pub in_slot : slice_get row.slots i ≡ Some word
+
+-- child i of an inner row at the base is the one for the key
+pub record HasChildFor (t : Snapshot) (base key i : ℕ) : Type 0 where
+  pub row : InnerRow
+  pub published : t.pieces base ≡ Some (Inner row)
+  pub index : i ≡ child_count row.keys key

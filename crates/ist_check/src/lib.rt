@@ -6,6 +6,8 @@
 #![tactic(auto)]
 
 pub mod building;
+mod climbing;
+pub mod counting;
 pub mod deciding;
 pub mod entering;
 pub mod marking;
@@ -14,5 +16,5 @@ mod pasts;
 mod replicas;
 mod shares;
 
-pub use pasts::{LastUpdate, Past};
+pub use pasts::{LastUpdate, Past, Slot};
 pub use replicas::Replica;

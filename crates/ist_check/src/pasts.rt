@@ -11,6 +11,13 @@ pub struct LastUpdate {
     pub counted: Vec<u64>,
 }
 
+/// A slot: its node, and its number in the node.
+#[derive(Clone, Copy, Debug, PartialEq, Eq, Drop)]
+pub struct Slot {
+    pub node: u64,
+    pub index: u64,
+}
+
 /// What the conditions of events ask of the events before them, in tables that answer by a look-up.
 /// `Remembering.antt` says of each table what it holds.
 #[derive(Drop)]
@@ -25,6 +32,12 @@ pub struct Past {
     pub passed: BTreeMap<u128, u64>,
     /// The last put or remove of each caller that was decided yes.
     pub updates: BTreeMap<u64, LastUpdate>,
+    /// The slot in which each node hung that was linked below the anchor.
+    pub slots: BTreeMap<u64, Slot>,
+    /// The callers that had a change decided no, each with the node of the change.
+    pub refused: BTreeSet<u128>,
+    /// The rebuilds that were started.
+    pub started: BTreeSet<u64>,
 }
 
 /// Two words as one key of a table.
