@@ -26,22 +26,22 @@ module _ (first : Snapshot) (log : Log) (caller node : ℕ) where
       → WasOnChain first log change.node node ↔ CanCount first log caller node
   count_is base change e known one u = (
     (λ w.
-      record {
-        known = known;
-        later = u.later;
-        by = u.by;
-        base = base;
-        earlier = u.earlier;
-        log_is = u.log_is;
-        update = u.update;
-        last = u.last;
-        uncounted = u.uncounted;
-        on_chain = subst (λ c. WasOnChain first log c.node node) (one_change ((state first log).pieces base) change u.update.change e u.update.published) w;
-      }),
+        record {
+          known = known;
+          later = u.later;
+          by = u.by;
+          base = base;
+          earlier = u.earlier;
+          log_is = u.log_is;
+          update = u.update;
+          last = u.last;
+          uncounted = u.uncounted;
+          on_chain = subst (λ c. WasOnChain first log c.node node) (one_change ((state first log).pieces base) change u.update.change e u.update.published) w;
+        }),
     (λ h.
-      let same = one h.base (count_uncounted h) in
-      let there = subst (λ b. (state first log).pieces b ≡ Some (Change h.update.change)) (sym same) h.update.published in
-      subst (λ c. WasOnChain first log c.node node) (one_change ((state first log).pieces base) h.update.change change there e) h.on_chain),
+        let same = one h.base (count_uncounted h) in
+        let there = subst (λ b. (state first log).pieces b ≡ Some (Change h.update.change)) (sym same) h.update.published in
+        subst (λ c. WasOnChain first log c.node node) (one_change ((state first log).pieces base) h.update.change change there e) h.on_chain),
   )
 
 -- a search finds a number exactly where it is among the others

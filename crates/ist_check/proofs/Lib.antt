@@ -5,3 +5,6 @@ pub mod MarkLemmas
 pub mod DrawLemmas
 pub mod WayLemmas
 pub mod CountLemmas
+pub mod KindLemmas
+pub mod RowLemmas
+pub mod InstallLemmas

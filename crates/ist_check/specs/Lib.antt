@@ -5,3 +5,5 @@ pub mod Remembering
 -- what the functions inside this crate promise each other
 pub mod Passing
 pub mod Ways
+pub mod Kinds
+pub mod Standing

@@ -10,10 +10,15 @@ mod climbing;
 pub mod counting;
 pub mod deciding;
 pub mod entering;
+pub mod installing;
+mod kinds;
 pub mod marking;
+mod naming;
 mod nodes;
+mod pairs;
 mod pasts;
 mod replicas;
+mod rows;
 mod shares;
 
 pub use pasts::{LastUpdate, Past, Slot};

@@ -10,9 +10,9 @@ returns c =
     record {
       exact = λ t h.
           let far : ¬ ((c.args.node ≡ anchor) × (c.args.i ≡ 0)) = λ z.
-              elim c.else-node-from.branch [
-                | else-node-from-via-then-node-from+else-i-eq0 w ↦ absurd (w.if-i-eq0.false z.1)
-                | else-node-from-via-else-node-from w ↦ let e = z.0 in absurd (omega arith)
-              ] in
+          elim c.else-node-from.branch [
+            | else-node-from-via-then-node-from+else-i-eq0 w ↦ absurd (w.if-i-eq0.false z.1)
+            | else-node-from-via-else-node-from w ↦ let e = z.0 in absurd (omega arith)
+          ] in
           iff_trans (c.row_has_child_for.ensures.exact t h) (child_of_row t c.args.node c.args.key c.args.i far);
     }

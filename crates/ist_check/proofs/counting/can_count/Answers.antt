@@ -29,9 +29,9 @@ returns-in-None-get c =
     record {
       exact = λ first log h u k.
           never (λ x.
-            let same = (subst (λ o. LacksCount o c.args.node x.base) (sym c.in-Some.ensures.value) ((u c.args.caller c.args.node x.base).1 (count_uncounted first log c.args.caller c.args.node x))).0 in
-            let none = subst (λ b. tree.get nat_cmp c.args.replica.now.changes b ≡ None) same (sym c.in-None-get.ensures.value) in
-            no_change c.args.replica.now (state first log) x.base h none x.update.change x.update.published);
+          let same = (subst (λ o. LacksCount o c.args.node x.base) (sym c.in-Some.ensures.value) ((u c.args.caller c.args.node x.base).1 (count_uncounted first log c.args.caller c.args.node x))).0 in
+          let none = subst (λ b. tree.get nat_cmp c.args.replica.now.changes b ≡ None) same (sym c.in-None-get.ensures.value) in
+          no_change c.args.replica.now (state first log) x.base h none x.update.change x.update.published);
     }
 
 pub returns-in-Some-get : goal.returns-in-Some-get
