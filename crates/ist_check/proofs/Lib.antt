@@ -8,3 +8,7 @@ pub mod CountLemmas
 pub mod KindLemmas
 pub mod RowLemmas
 pub mod InstallLemmas
+pub mod SpareLemmas
+pub mod FairLemmas
+pub mod ListLemmas
+pub mod BuildLemmas

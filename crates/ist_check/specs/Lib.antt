@@ -7,3 +7,5 @@ pub mod Passing
 pub mod Ways
 pub mod Kinds
 pub mod Standing
+pub mod Searching
+pub mod Builds

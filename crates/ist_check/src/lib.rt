@@ -10,6 +10,7 @@ mod climbing;
 pub mod counting;
 pub mod deciding;
 pub mod entering;
+mod fairness;
 pub mod installing;
 mod kinds;
 pub mod marking;
@@ -19,6 +20,7 @@ mod pairs;
 mod pasts;
 mod replicas;
 mod rows;
+mod shapes;
 mod shares;
 
 pub use pasts::{LastUpdate, Past, Slot};
