@@ -1,5 +1,5 @@
 -- What a look-up answers, carried from one word for it to another.
-use Rattle.std.proofs.Common.{◌≡◌, ◌↔◌, ◌∙◌, ℕ, IsTrue, Bool, true, false, not, Option, Some, None, Result, Ok, Err, OnOk, refl, sym, ap, true≢false, nat_eq, eq-eqb, arith}
+use Rattle.std.proofs.Common.{◌≡◌, ◌↔◌, ℕ, IsTrue, Bool, true, false, not, Option, Some, None, Result, Ok, Err, OnOk, refl, sym, true≢false, nat_eq, eq-eqb, arith}
 use Rattle.std.proofs.lemmas.Bool.Decides.{nat_tests}
 use Rattle.ist_check.specs.Answers.{Finds}
 

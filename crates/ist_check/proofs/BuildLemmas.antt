@@ -16,9 +16,8 @@ use Rattle.ist_core.specs.Arithmetic.{degree, part_len, part_lens}
 use Rattle.ist_core.specs.RowLayout.{inner_words}
 use Rattle.ist_core.specs.Shapes.{shape, share_from}
 use Rattle.ist_core.specs.Elements.{Among}
-use Rattle.ist_core.specs.Pieces.{Rebuild, as_inner, as_rebuild}
+use Rattle.ist_core.specs.Pieces.{as_inner, as_rebuild}
 use Rattle.ist_core.specs.Snapshots.{Snapshot}
-use Rattle.ist_core.specs.Rebuilding.{IsStarted, IsFinishedWith}
 use Rattle.ist_core.specs.Fairness.{IsBuild, build_whole, build_top, build_part, IsBuilding}
 use Rattle.ist_core.proofs.ElementLemmas.{among-append, among_left, among_right}
 use Rattle.ist_core.proofs.ShapeLemmas.{shape_none, shape_one, shape_many}
@@ -189,25 +188,25 @@ pub lists_are : (s : Replica) (t : Snapshot) (started : BTreeSet ℕ) → 2 ≤ 
     → (l : List ℕ) → IsBuilding t l ↔ Among l (flat_map (entry_lists s started) s.rebuilds.entries)
 lists_are s t started two h k o l = (
   (λ b.
-    let found : tree.get nat_cmp s.rebuilds b.rebuild ≡ Some b.row = h.rebuilds b.rebuild ∙ ap as_rebuild b.published in
-    let target : tree.get nat_cmp s.inners b.row.target ≡ Some b.finished.row = h.inners b.row.target ∙ ap as_inner b.finished.published in
-    flat_in (entry_lists s started) s.rebuilds.entries (b.rebuild, b.row) l ((btree_map_get_iff nat_cmp_total exact_unsigned s.rebuilds o b.rebuild b.row).0 found)
-    (entry_in s started (b.rebuild, b.row) l ((k b.rebuild).1 b.started) (target_in (tree.get nat_cmp s.inners b.row.target) b.finished.row b.k l target b.finished.status (build_listed b.k l two b.build)))),
+      let found : tree.get nat_cmp s.rebuilds b.rebuild ≡ Some b.row = h.rebuilds b.rebuild ∙ ap as_rebuild b.published in
+      let target : tree.get nat_cmp s.inners b.row.target ≡ Some b.finished.row = h.inners b.row.target ∙ ap as_inner b.finished.published in
+      flat_in (entry_lists s started) s.rebuilds.entries (b.rebuild, b.row) l ((btree_map_get_iff nat_cmp_total exact_unsigned s.rebuilds o b.rebuild b.row).0 found)
+      (entry_in s started (b.rebuild, b.row) l ((k b.rebuild).1 b.started) (target_in (tree.get nat_cmp s.inners b.row.target) b.finished.row b.k l target b.finished.status (build_listed b.k l two b.build)))),
   (λ a.
-    let f = flat_out (entry_lists s started) s.rebuilds.entries l a in
-    let e = f.0 in
-    let found = (btree_map_get_iff nat_cmp_total exact_unsigned s.rebuilds o e.0 e.1).1 f.1 in
-    let out = entry_out s started e l f.2 in
-    let by = target_out (tree.get nat_cmp s.inners e.1.target) l out.1 in
-    record {
-      rebuild = e.0;
-      row = e.1;
-      published = rebuild_stands s t e.0 h e.1 found;
-      started = (k e.0).0 out.0;
-      k = by.1;
-      finished = record { row = by.0; published = inner_stands s t e.1.target h by.0 by.2; status = by.3 };
-      build = listed_build by.1 l by.4;
-    }),
+      let f = flat_out (entry_lists s started) s.rebuilds.entries l a in
+      let e = f.0 in
+      let found = (btree_map_get_iff nat_cmp_total exact_unsigned s.rebuilds o e.0 e.1).1 f.1 in
+      let out = entry_out s started e l f.2 in
+      let by = target_out (tree.get nat_cmp s.inners e.1.target) l out.1 in
+      record {
+        rebuild = e.0;
+        row = e.1;
+        published = rebuild_stands s t e.0 h e.1 found;
+        started = (k e.0).0 out.0;
+        k = by.1;
+        finished = record { row = by.0; published = inner_stands s t e.1.target h by.0 by.2; status = by.3 };
+        build = listed_build by.1 l by.4;
+      }),
 )
 
 pub lists_are_all : (s : Replica) (t : Snapshot) (started : BTreeSet ℕ) (lists : List (List ℕ)) → 2 ≤ share_from

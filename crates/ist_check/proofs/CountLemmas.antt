@@ -1,5 +1,5 @@
 -- What the code tests of a count is what the condition says. Serves `counting.rt`.
-use Rattle.std.proofs.Common.{◌≡◌, ◌↔◌, ◌∙◌, ◌<◌, ◌⊎◌, ◌==◌, ◌||◌, Bool, true, false, ℕ, IsTrue, List, [], ◌∷◌, Some, refl, sym, ap, subst, inl, inr, ⊎_elim, true≢false, arith, eq-eqb}
+use Rattle.std.proofs.Common.{◌≡◌, ◌↔◌, ◌<◌, ◌==◌, ◌||◌, Bool, true, false, ℕ, IsTrue, List, [], ◌∷◌, Some, refl, sym, ap, subst, inl, inr, arith}
 use Rattle.std.proofs.lemmas.Bool.Decides.{nat_tests}
 use Rattle.std.specs.List.{list_any}
 use Rattle.ist_core.specs.declared.states.ChangeRow.{ChangeRow}

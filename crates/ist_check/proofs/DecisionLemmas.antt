@@ -1,5 +1,5 @@
 -- What the code tests of a change and its slot is what the conditions say. Serves `nodes.rt` and `deciding.rt`.
-use Rattle.std.proofs.Common.{◌≡◌, ◌↔◌, ◌<◌, ◌≢◌, ◌⊎◌, ℕ, IsTrue, Bool, true, false, nat_eq, not, Some, refl, sym, ap, subst, arith, inl, inr, eq-eqb}
+use Rattle.std.proofs.Common.{◌≡◌, ◌↔◌, ◌<◌, ◌≢◌, ℕ, IsTrue, Bool, nat_eq, Some, subst, eq-eqb}
 use Rattle.ist_core.specs.declared.states.InnerRow.{InnerRow}
 use Rattle.ist_core.specs.declared.states.ChangeRow.{ChangeRow}
 use Rattle.ist_core.specs.RowLayout.{anchor}

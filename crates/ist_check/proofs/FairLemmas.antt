@@ -1,7 +1,7 @@
 -- A search that goes one size at a time finds exactly the fair lists. Serves `fairness.rt`.
 use Rattle.std.proofs.Common.{◌≡◌, ◌↔◌, ◌∙◌, ◌+◌, ◌<◌, ◌≤◌, ◌⊎◌, Bool, true, false, nat_lt, ℕ, IsTrue, List, [], ◌∷◌, ◌++◌, length, get_or, refl, sym, ap, subst, inl, inr, ⊎_elim, true≢false, arith, append_assoc, append-nil}
 use Rattle.std.proofs.lemmas.Bool.Decides.{nat_tests}
-use Rattle.ist_core.specs.Elements.{Among, Each, Distinct}
+use Rattle.ist_core.specs.Elements.{Each, Distinct}
 use Rattle.ist_core.specs.Snapshots.{Snapshot}
 use Rattle.ist_core.specs.Fairness.{IsBuilding, IsStuck, AreBuilds, no_build, last_build, stuck_build, IsMerge, at_end, from_left, from_right, IsFair}
 use Rattle.ist_check.specs.declared.fairness.Spare.{Spare}
@@ -66,8 +66,8 @@ module _ (P : List ℕ → Type 0) (room : ℕ) where
       let split = split_first (y ∷ ys) y n refl in (
         (λ g. record { rest = behind (y ∷ ys); list_is = split ∙ ap (λ z. z ∷ behind (y ∷ ys)) i; goes = subst (λ f. Goes P room may (behind (y ∷ ys)) f xs) e g }),
         (λ h.
-          let same = tail_same (sym h.list_is ∙ split) in
-          subst (λ f. Goes P room may (behind (y ∷ ys)) f xs) (sym e) (subst (λ r. Goes P room may r (is_full room r) xs) same h.goes)),
+            let same = tail_same (sym h.list_is ∙ split) in
+            subst (λ f. Goes P room may (behind (y ∷ ys)) f xs) (sym e) (subst (λ r. Goes P room may r (is_full room r) xs) same h.goes)),
       )
     where
       tail_same : {a b : ℕ} {ys zs : List ℕ} → a ∷ ys ≡ b ∷ zs → ys ≡ zs
@@ -180,7 +180,7 @@ module _ (P : List ℕ → Type 0) (room : ℕ) where
     pub fair_is : (xs : List ℕ) → Goes P room all_spare [] true xs ↔ IsFair t xs
     fair_is xs = (
       (λ g.
-        let f = found all_spare [] true xs g in
-        record { building = f.building; spare = f.spare; merge = f.merge; builds = read_builds f.building f.reads; few = each_in f.spare f.few; one_each = f.one_each }),
+          let f = found all_spare [] true xs g in
+          record { building = f.building; spare = f.spare; merge = f.merge; builds = read_builds f.building f.reads; few = each_in f.spare f.few; one_each = f.one_each }),
       (λ h. finds all_spare [] true xs h.building h.spare h.merge (builds_read h.building h.builds) (each_out h.spare h.few) h.one_each),
     )

@@ -1,11 +1,11 @@
 -- What the code tests of an Install is what the condition says. Serves `installing.rt`.
-use Rattle.std.proofs.Common.{◌≡◌, ◌↔◌, ◌∙◌, ◌<◌, ◌≤◌, ℕ, List, [], ◌∷◌, length, get_or, Option, Some, None, refl, sym, ap, subst, arith}
+use Rattle.std.proofs.Common.{◌≡◌, ◌↔◌, ◌∙◌, ◌<◌, ◌≤◌, ℕ, List, [], ◌∷◌, length, get_or, Some, sym, ap, subst}
 use Rattle.ist_core.specs.declared.states.ChangeRow.{ChangeRow}
 use Rattle.ist_core.specs.declared.lists.Row.{Row}
 use Rattle.ist_core.specs.Pieces.{Change, words_of, change_of, row_at}
 use Rattle.ist_core.specs.Snapshots.{Snapshot, HoldsRows}
 use Rattle.ist_core.specs.Logs.{Log, state}
-use Rattle.ist_core.specs.Installing.{ComesByKey, PutsLeaf, PutsPair, Removes, Starts, Finishes, FitsKind, a_put, a_pair, a_remove, a_start, a_finish, CanInstall}
+use Rattle.ist_core.specs.Installing.{PutsLeaf, PutsPair, Removes, Starts, Finishes, FitsKind, a_put, a_pair, a_remove, a_start, a_finish, CanInstall}
 use Rattle.ist_check.specs.Standing.{MayStand}
 use Rattle.ist_check.proofs.RowLemmas.{behind, split_first}
 

@@ -1,7 +1,5 @@
 -- What the code tests of a change, by its kind, is what the conditions say. Serves `kinds.rt`.
-use Rattle.std.proofs.Common.{◌≡◌, ◌↔◌, ◌∙◌, ◌<◌, ◌≤◌, ◌≢◌, ◌⊎◌, ◌==◌, ◌+◌, ℕ, zero, suc, IsTrue, Bool, true, false, not, nat_eq, List, [], ◌∷◌, length, slice_get, Option, Some, None, refl, sym, ap, subst, arith, inl, inr, ⊎_elim, true≢false, eq-eqb}
-use Rattle.std.proofs.lemmas.Bool.Decides.{nat_tests}
-use Rattle.std.specs.List.{list_any}
+use Rattle.std.proofs.Common.{◌≡◌, ◌↔◌, ◌∙◌, ◌≢◌, ℕ, zero, suc, IsTrue, nat_eq, List, [], ◌∷◌, length, slice_get, Option, Some, refl, sym, ap, subst, arith, inl, inr, eq-eqb}
 use Rattle.ist_core.specs.declared.states.InnerRow.{InnerRow}
 use Rattle.ist_core.specs.declared.states.ChangeRow.{ChangeRow}
 use Rattle.ist_core.specs.declared.states.RebuildRow.{RebuildRow}
@@ -17,7 +15,7 @@ use Rattle.ist_core.specs.Links.{WasLedTo}
 use Rattle.ist_core.specs.Rebuilding.{IsStarted, IsBuilt}
 use Rattle.ist_core.specs.Installing.{IsLeafOf, HasRoomFor, nothing, same_key, ComesByKey, PutsLeaf, PutsPair, Removes, Starts, Finishes, new_leaf, new_rebuild}
 use Rattle.ist_core.proofs.ReferenceLemmas.{word_of-ref_of}
-use Rattle.ist_check.specs.Kinds.{NamesLeafOf, MayBeRebuilt, IsFinishOf, PairsWith, IsPairAndLeaf}
+use Rattle.ist_check.specs.Kinds.{NamesLeafOf, MayBeRebuilt, IsFinishOf, PairsWith}
 use Rattle.ist_check.proofs.AnswerLemmas.{is_equal}
 use Rattle.ist_check.proofs.MirrorLemmas.{one_inner, one_rebuild}
 

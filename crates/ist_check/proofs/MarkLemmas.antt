@@ -1,5 +1,5 @@
 -- What the code tests of a marked node is what the conditions say. Serves `marking.rt`.
-use Rattle.std.proofs.Common.{◌≡◌, ◌↔◌, ◌∙◌, ◌<◌, ◌≤◌, ◌+◌, ◌-◌, ◌*◌, ◌^◌, ◌≢◌, ℕ, IsTrue, Bool, true, false, List, [], ◌∷◌, length, take, drop, get_or, Option, Some, None, refl, sym, ap, subst, arith}
+use Rattle.std.proofs.Common.{◌≡◌, ◌↔◌, ◌∙◌, ◌<◌, ◌≤◌, ◌+◌, ◌-◌, ◌^◌, ◌≢◌, ℕ, List, [], ◌∷◌, length, take, drop, Option, Some, None, refl, sym, ap, subst, arith}
 use Rattle.std.proofs.lemmas.List.{take_all}
 use Rattle.std.specs.Ordering.{nat_cmp}
 use Rattle.std.specs.BTreeMap as tree
@@ -10,10 +10,9 @@ use Rattle.ist_core.specs.Pieces.{Inner, Rebuild}
 use Rattle.ist_core.specs.References.{Ref, Empty, LeafAt, InnerAt, RebuildAt, ref_of}
 use Rattle.ist_core.specs.Statuses.{finished_word}
 use Rattle.ist_core.specs.Snapshots.{Snapshot}
-use Rattle.ist_core.specs.Logs.{Log, Happened, Passes}
+use Rattle.ist_core.specs.Logs.{Log}
 use Rattle.ist_core.specs.Rebuilding.{IsFinishedWith}
-use Rattle.ist_core.specs.Marking.{HasTarget, IsCalled, CanMark, CanFinish, CountsFor, no_key, one_key, of_child, of_target, ArePassed, past_end, one_passed}
-use Rattle.ist_check.specs.Answers.{Finds}
+use Rattle.ist_core.specs.Marking.{IsCalled, CanMark, CanFinish, CountsFor, no_key, one_key, of_child, of_target, ArePassed, past_end, one_passed}
 use Rattle.ist_check.specs.Passing.{PassCounts, TargetFinishedWith}
 use Rattle.ist_check.specs.Remembering.{KnowsPasses, pair_key}
 use Rattle.ist_check.proofs.MirrorLemmas.{one_inner, one_rebuild}

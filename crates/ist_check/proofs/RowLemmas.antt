@@ -1,14 +1,13 @@
 -- What the code tests of the rows of an event is what the conditions say. Serves `rows.rt` and `pairs.rt`.
-use Rattle.std.proofs.Common.{◌≡◌, ◌↔◌, ◌∙◌, ◌<◌, ◌≤◌, ◌-◌, ◌+◌, ◌⊎◌, ℕ, List, [], ◌∷◌, ◌++◌, length, take, drop, get_or, refl, sym, ap, subst, arith, inl, inr, ⊎_elim, zero, suc}
+use Rattle.std.proofs.Common.{◌≡◌, ◌↔◌, ◌∙◌, ◌<◌, ◌≤◌, ◌-◌, ◌+◌, ℕ, List, [], ◌∷◌, length, take, drop, get_or, sym, ap, subst, arith, inl, inr, ⊎_elim, zero, suc}
 use Rattle.std.proofs.lemmas.List.{take_all, take_more}
-use Rattle.ist_core.specs.declared.lists.HeldRow.{HeldRow}
 use Rattle.ist_core.specs.declared.lists.Row.{Row}
 use Rattle.ist_core.specs.Elements.{Among}
 use Rattle.ist_core.specs.References.{LeafAt, word_of}
 use Rattle.ist_core.specs.Pieces.{row_at}
 use Rattle.ist_core.specs.Snapshots.{Snapshot, HoldsRow, HoldsRows}
 use Rattle.ist_core.specs.Installing.{pair_over}
-use Rattle.ist_core.proofs.ElementLemmas.{among-append, among_left, among_right}
+use Rattle.ist_core.proofs.ElementLemmas.{among-append, among_right}
 
 module _ {A : Type 0} where
   -- what is behind the first of some elements

@@ -1,5 +1,5 @@
 -- Which rows may still be held beside the builds. Serves `fairness.rt`.
-use Rattle.std.proofs.Common.{◌≡◌, ◌∙◌, ◌≢◌, ◌⊎◌, ◌==◌, ◌&&◌, Bool, true, false, not, ℕ, IsTrue, List, [], ◌∷◌, refl, sym, ap, inl, inr, ⊎_elim, true≢false, arith}
+use Rattle.std.proofs.Common.{◌≡◌, ◌∙◌, ◌≢◌, ◌==◌, ◌&&◌, Bool, true, false, not, ℕ, IsTrue, List, [], ◌∷◌, refl, sym, ap, inl, inr, ⊎_elim, arith}
 use Rattle.std.proofs.lemmas.Bool.Decides.{nat_tests}
 use Rattle.ist_core.specs.Elements.{Among, Each}
 use Rattle.ist_core.specs.Fairness.{spare_sizes}

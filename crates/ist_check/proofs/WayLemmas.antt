@@ -1,9 +1,8 @@
 -- The way up by the slots in which nodes hung is the way down that was at some moment. Serves `climbing.rt`.
-use Rattle.std.proofs.Common.{◌≡◌, ◌↔◌, ◌∙◌, ◌<◌, ◌≤◌, ◌≢◌, ◌⊎◌, ℕ, List, [], ◌∷◌, ◌++◌, Option, Some, None, IsTrue, is_some, true≢false, refl, sym, ap, subst, arith, inl, inr, ⊎_elim}
+use Rattle.std.proofs.Common.{◌≡◌, ◌↔◌, ◌∙◌, ◌≢◌, ◌⊎◌, ℕ, List, [], ◌∷◌, ◌++◌, Option, Some, None, IsTrue, is_some, true≢false, refl, sym, ap, subst, arith, inl, inr, ⊎_elim}
 use Rattle.std.specs.Ordering.{nat_cmp}
 use Rattle.std.specs.BTreeMap as tree
 use Rattle.std.specs.BTreeMap.{BTreeMap}
-use Rattle.ist_core.specs.declared.states.InnerRow.{InnerRow}
 use Rattle.ist_core.specs.RowLayout.{anchor}
 use Rattle.ist_core.specs.Arithmetic.{child_count}
 use Rattle.ist_core.specs.Elements.{Among}
@@ -15,7 +14,7 @@ use Rattle.ist_core.specs.Links.{IsChild, Linked, at_anchor, below, Chain, no_ro
 use Rattle.ist_core.proofs.ElementLemmas.{among-append, among_left, among_right}
 use Rattle.ist_check.specs.declared.pasts.Slot.{Slot}
 use Rattle.ist_check.specs.Mirroring.{HasChildFor}
-use Rattle.ist_check.specs.Remembering.{Rises, KnowsSlots}
+use Rattle.ist_check.specs.Remembering.{KnowsSlots}
 use Rattle.ist_check.specs.Ways.{Climbs, at_top, up, ComesBy, here, higher, KeysStay}
 use Rattle.ist_check.proofs.MirrorLemmas.{one_inner}
 

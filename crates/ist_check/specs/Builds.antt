@@ -1,6 +1,6 @@
 -- The building lists of a state, as lists.
-use Rattle.std.specs.Prelude.{◌≡◌, ◌↔◌, ℕ, ◌%◌, ◌/◌, ◌==◌, IsTrue, nat_lt, if◌then◌else◌, List, [], ◌∷◌, map, Option, Some, None}
-use Rattle.std.specs.List.{range_with_len, flat_map}
+use Rattle.std.specs.Prelude.{ℕ, ◌%◌, ◌/◌, ◌==◌, nat_lt, if◌then◌else◌, List, [], ◌∷◌, map, Option, Some, None}
+use Rattle.std.specs.List.{range_with_len}
 use Rattle.std.specs.Ordering.{nat_cmp}
 use Rattle.std.specs.BTreeMap as tree
 use Rattle.std.specs.BTreeSet.{BTreeSet, contains}

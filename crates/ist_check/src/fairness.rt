@@ -1,5 +1,5 @@
-//! Whether what a caller holds is fair: a search for a reading of the sizes as those of builds, with a
-//! few spare rows among them.
+//! Whether what a caller holds is fair: a search for a reading of the sizes as those of builds,
+//! with a few spare rows among them.
 ghost use Rattle.std.specs.Prelude.{◌≡◌, ◌↔◌, ◌+◌, ℕ, IsTrue, map};
 ghost use Rattle.ist_core.specs.Elements.{Among};
 ghost use Rattle.ist_core.specs.Snapshots.{Snapshot};
@@ -34,14 +34,7 @@ pub fn is_fair(lists: &[Vec<u64>], room: u64, sizes: &[u64]) -> bool
 
 /// Can the sizes be read so, where `rest` is what is left of the list that was begun?
 #[cycle(fair)]
-fn goes(
-    lists: &[Vec<u64>],
-    room: u64,
-    may: Spare,
-    rest: &[u64],
-    free: bool,
-    sizes: &[u64],
-) -> bool
+fn goes(lists: &[Vec<u64>], room: u64, may: Spare, rest: &[u64], free: bool, sizes: &[u64]) -> bool
     ensures exact { IsTrue result
         ↔ Goes (λ l. Among l (map (λ v. v.items) lists.now)) room may rest.now free sizes.now }
 {
@@ -74,7 +67,8 @@ fn leaves_out(
     sizes: &[u64],
 ) -> bool
     ensures exact { IsTrue result
-        ↔ LeavesOut (λ l. Among l (map (λ v. v.items) lists.now)) room may rest.now free size sizes.now }
+        ↔ LeavesOut (λ l. Among l (map (λ v. v.items) lists.now)) room may rest.now free size
+        sizes.now }
 {
     if !is_spare(may, size) {
         return false;
@@ -93,7 +87,8 @@ fn goes_on(
     sizes: &[u64],
 ) -> bool
     ensures exact { IsTrue result
-        ↔ GoesOnWith (λ l. Among l (map (λ v. v.items) lists.now)) room may list.now size sizes.now }
+        ↔ GoesOnWith (λ l. Among l (map (λ v. v.items) lists.now)) room may list.now size
+        sizes.now }
 {
     match list {
         [] => false,

@@ -133,8 +133,8 @@ pub fn puts_pair(replica: &Replica, change: &ChangeRow, fresh: &[Row]) -> bool
     }
 }
 
-/// Does the change put a fresh pair row above its node, over the leaf at `other` with this key and a
-/// fresh leaf?
+/// Does the change put a fresh pair row above its node, over the leaf at `other` with this key and
+/// a fresh leaf?
 fn pairs_with(change: &ChangeRow, fresh: &[Row], other: u64, key: u64) -> bool
     ensures exact { IsTrue result ↔ PairsWith change.now fresh.now other key }
 {

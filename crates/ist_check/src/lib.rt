@@ -1,19 +1,20 @@
-//! Decides of one given list of events whether it is lawful. Nothing here runs beside a table.
+//! Decides of single events whether they may come next behind a log. Nothing here runs beside a
+//! table.
 //!
-//! Read `specs/Lib.antt`, then `replicas.rt`, `pasts.rt` and the files that decide one event each:
-//! `entering.rt`, `deciding.rt`, `marking.rt` and `building.rt`. Stands on `ist_core`, `ist_math`
-//! and `ist_layout`.
+//! Read `specs/Lib.antt`, then `replicas.rt` and `pasts.rt`, and the files that decide events:
+//! `entering.rt`, `installing.rt`, `deciding.rt`, `counting.rt`, `marking.rt` and `building.rt`.
+//! Stands on `ist_core`, `ist_math` and `ist_layout`.
 #![tactic(auto)]
 
-pub mod building;
+mod building;
 mod climbing;
-pub mod counting;
-pub mod deciding;
-pub mod entering;
+mod counting;
+mod deciding;
+mod entering;
 mod fairness;
-pub mod installing;
+mod installing;
 mod kinds;
-pub mod marking;
+mod marking;
 mod naming;
 mod nodes;
 mod pairs;
@@ -23,5 +24,11 @@ mod rows;
 mod shapes;
 mod shares;
 
+pub use building::can_draw;
+pub use counting::can_count;
+pub use deciding::{can_decide, can_okay, can_resolve};
+pub use entering::{can_enter, can_reserve};
+pub use installing::can_install;
+pub use marking::{can_finish, can_mark, can_pass};
 pub use pasts::{LastUpdate, Past, Slot};
 pub use replicas::Replica;

@@ -42,7 +42,8 @@ fn add_target(
     lists: &mut Vec<Vec<u64>>,
 ) -> Result<(), AllocError>
     ensures added { OnOk result (map (λ v. v.items) lists.new.items
-        ≡ map (λ v. v.items) lists.old.items ++ target_lists (tree.get nat_cmp replica.now.inners target)) }
+        ≡ map (λ v. v.items) lists.old.items
+        ++ target_lists (tree.get nat_cmp replica.now.inners target)) }
 {
     match replica.inners.get(&target) {
         None => Ok(()),
@@ -87,8 +88,8 @@ fn add_shape_alone(alloc: Global, n: u64, lists: &mut Vec<Vec<u64>>) -> Result<(
     Ok(())
 }
 
-/// Adds the lengths of the inner rows of an ideal tree of `n` keys: a node's own, then those of each
-/// part.
+/// Adds the lengths of the inner rows of an ideal tree of `n` keys: a node's own, then those of
+/// each part.
 fn add_shape(n: u64, out: &mut Vec<u64>) -> Result<(), AllocError>
     ensures added { OnOk result (out.new.items ≡ out.old.items ++ shape n) }
 {

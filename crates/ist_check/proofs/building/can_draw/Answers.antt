@@ -1,5 +1,4 @@
-use Rattle.std.proofs.Common.{◌≡◌, ◌≢◌, ◌<◌, ◌≤◌, ◌↔◌, ℕ, IsTrue, sym, subst, arith}
-use Rattle.ist_core.specs.Arithmetic.{degree}
+use Rattle.std.proofs.Common.{◌<◌, ◌≤◌, ◌↔◌, ℕ, IsTrue, sym, subst, arith}
 use Rattle.ist_core.specs.Logs.{Happened, Draws}
 use Rattle.ist_core.specs.Shapes.{share_from, share_from_is}
 use Rattle.ist_check.proofs.AnswerLemmas.{iff_trans, never}

@@ -1,9 +1,8 @@
-use Rattle.std.proofs.Common.{◌≡◌, ℕ, subst, sym, arith}
+use Rattle.std.proofs.Common.{ℕ, subst, sym, arith}
 use Rattle.std.specs.Ordering.{nat_cmp}
 use Rattle.std.specs.BTreeMap as tree
 use Rattle.ist_core.specs.Logs.{Happened, Draws}
 use Rattle.ist_check.specs.Answers.{FindsGreatest}
-use Rattle.ist_check.specs.Remembering.{pair_key}
 use Rattle.ist_check.proofs.DrawLemmas.{none_below, most_below}
 use Rattle.ist_check.proofs.building.is_within.Goals as goal
 

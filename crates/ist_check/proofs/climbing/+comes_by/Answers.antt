@@ -1,4 +1,4 @@
-use Rattle.std.proofs.Common.{◌≡◌, ◌≢◌, subst, sym, refl, arith}
+use Rattle.std.proofs.Common.{◌≢◌, subst, sym, refl, arith}
 use Rattle.ist_check.specs.Ways.{ComesBy, here}
 use Rattle.ist_check.proofs.AnswerLemmas.{iff_trans}
 use Rattle.ist_check.proofs.WayLemmas.{comes_on}

@@ -1,6 +1,5 @@
-use Rattle.std.proofs.Common.{◌≡◌, ◌≢◌, ◌∙◌, ◌↔◌, IsTrue, subst, sym, refl, arith}
+use Rattle.std.proofs.Common.{◌≡◌, ◌≢◌, ◌↔◌, IsTrue, subst, sym, refl, arith}
 use Rattle.ist_core.specs.RowLayout.{anchor}
-use Rattle.ist_core.specs.Logs.{state}
 use Rattle.ist_core.specs.Links.{WasLinked}
 use Rattle.ist_check.proofs.WayLemmas.{anchor_linked, linked_is}
 use Rattle.ist_check.proofs.climbing.was_linked.Goals as goal

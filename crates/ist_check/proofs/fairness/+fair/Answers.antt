@@ -1,6 +1,5 @@
-use Rattle.std.proofs.Common.{◌≡◌, ◌∙◌, ◌∷◌, ◌↔◌, IsTrue, ⊎_elim, refl, sym, ap, subst, map, arith}
+use Rattle.std.proofs.Common.{◌∙◌, ◌∷◌, ⊎_elim, refl, sym, subst, map}
 use Rattle.ist_core.specs.Elements.{Among}
-use Rattle.ist_check.specs.Searching.{LeavesOut, BeginsOne, without_spare, Goes}
 use Rattle.ist_check.proofs.AnswerLemmas.{iff_trans, never, is_not}
 use Rattle.ist_check.proofs.ListLemmas.{among_item, among_more}
 use Rattle.ist_check.proofs.FairLemmas.{goes_none, by_on, by_out, by_begin, by_nothing, on_is, out_is}
@@ -14,8 +13,8 @@ pub goes-returns-then-goes_on : goal.goes-returns-then-goes_on
 goes-returns-then-goes_on t c =
     record {
       exact = (
-          (λ _. by_on _ c.args.room c.args.may c.args.rest.now c.args.free c.args.sizes.now c.in-len1-up.len_at_least (c.goes_on.ensures.exact.0 c.if-goes_on.true)),
-          (λ _. refl),
+        (λ _. by_on _ c.args.room c.args.may c.args.rest.now c.args.free c.args.sizes.now c.in-len1-up.len_at_least (c.goes_on.ensures.exact.0 c.if-goes_on.true)),
+        (λ _. refl),
       );
     }
 
@@ -23,8 +22,8 @@ pub goes-returns-then-leaves_out : goal.goes-returns-then-leaves_out
 goes-returns-then-leaves_out t c =
     record {
       exact = (
-          (λ _. by_out _ c.args.room c.args.may c.args.rest.now c.args.free c.args.sizes.now c.in-len1-up.len_at_least (c.leaves_out.ensures.exact.0 c.if-leaves_out.true)),
-          (λ _. refl),
+        (λ _. by_out _ c.args.room c.args.may c.args.rest.now c.args.free c.args.sizes.now c.in-len1-up.len_at_least (c.leaves_out.ensures.exact.0 c.if-leaves_out.true)),
+        (λ _. refl),
       );
     }
 
@@ -61,13 +60,13 @@ begins-returns-then-goes_on t c =
     let m = among_item (λ v. v.items) c.args.lists.now c.loop-list.list-index c.list-item.result c.loop-list-test.true c.list-item.is in
     record {
       exact = (
-          (λ _.
+        (λ _.
             record {
               rest = h.rest;
               building = subst (λ xs. Among xs (map (λ v. v.items) c.args.lists.now)) (sym c.as_slice.ensures.value ∙ h.list_is) m;
               goes = h.goes;
             }),
-          (λ _. refl),
+        (λ _. refl),
       );
     }
 

@@ -1,4 +1,4 @@
-use Rattle.std.proofs.Common.{◌≡◌, ◌<◌, ◌∙◌, Some, sym, ap, subst, arith}
+use Rattle.std.proofs.Common.{◌≡◌, ◌<◌, ◌∙◌, Some, sym, ap, arith}
 use Rattle.ist_core.specs.Pieces.{change_of}
 use Rattle.ist_core.specs.Logs.{state}
 use Rattle.ist_check.proofs.AnswerLemmas.{iff_trans, is_not, never}

@@ -1,6 +1,6 @@
-use Rattle.std.proofs.Common.{◌↔◌, IsTrue, refl}
+use Rattle.std.proofs.Common.{◌↔◌, refl}
 use Rattle.ist_core.specs.Logs.{state}
-use Rattle.ist_core.specs.Installing.{PutsLeaf, PutsPair, Removes, Starts, Finishes, FitsKind, a_put, a_pair, a_remove}
+use Rattle.ist_core.specs.Installing.{Finishes, FitsKind, a_put, a_pair, a_remove}
 use Rattle.ist_check.proofs.AnswerLemmas.{iff_trans, is_not}
 use Rattle.ist_check.proofs.InstallLemmas.{fits_finish}
 use Rattle.ist_check.proofs.installing.fits_kind.Goals as goal

@@ -1,4 +1,4 @@
-use Rattle.std.proofs.Common.{◌≡◌, arith}
+use Rattle.std.proofs.Common.{arith}
 use Rattle.ist_check.proofs.AnswerLemmas.{iff_trans}
 use Rattle.ist_check.proofs.KindLemmas.{finishes_is, empty_rows}
 use Rattle.ist_check.proofs.kinds.finishes.Goals as goal

@@ -1,5 +1,4 @@
-use Rattle.std.proofs.Common.{◌≡◌, ◌≢◌, ◌↔◌, ◌∙◌, IsTrue, not, subst, sym, ap, refl, arith}
-use Rattle.std.specs.List.{list_any}
+use Rattle.std.proofs.Common.{◌↔◌, IsTrue, subst, sym, refl, arith}
 use Rattle.ist_core.specs.Elements.{Among}
 use Rattle.ist_core.specs.References.{unset_word}
 use Rattle.ist_check.proofs.AnswerLemmas.{iff_trans, not_so}

@@ -1,4 +1,4 @@
-use Rattle.std.proofs.Common.{◌≡◌, [], IsTrue, subst, sym, arith}
+use Rattle.std.proofs.Common.{[], IsTrue, subst, sym, arith}
 use Rattle.ist_check.proofs.AnswerLemmas.{iff_trans}
 use Rattle.ist_check.proofs.MirrorLemmas.{rebuild_stands}
 use Rattle.ist_check.proofs.KindLemmas.{finish_of_is}

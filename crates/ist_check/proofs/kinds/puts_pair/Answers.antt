@@ -1,4 +1,4 @@
-use Rattle.std.proofs.Common.{◌≢◌, arith}
+use Rattle.std.proofs.Common.{arith}
 use Rattle.ist_core.specs.Logs.{state}
 use Rattle.ist_check.proofs.AnswerLemmas.{iff_trans, never}
 use Rattle.ist_check.proofs.KindLemmas.{puts_pair_is, puts_pair_none, puts_pair_same}

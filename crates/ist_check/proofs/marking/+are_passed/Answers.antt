@@ -1,4 +1,4 @@
-use Rattle.std.proofs.Common.{◌≡◌, ◌≤◌, ◌<◌, ◌↔◌, ◌-◌, ◌+◌, ℕ, IsTrue, Bool, true, false, nat_eq, refl, sym, ap, subst, arith, eq-eqb, eqb→eq}
+use Rattle.std.proofs.Common.{arith}
 use Rattle.ist_check.proofs.AnswerLemmas.{iff_trans, never, is_zero}
 use Rattle.ist_check.proofs.MarkLemmas.{passed_none, passed_first, passed_beyond, passed_without}
 use Rattle.ist_check.proofs.marking.+are_passed.Goals as goal

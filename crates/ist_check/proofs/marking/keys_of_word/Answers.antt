@@ -1,4 +1,4 @@
-use Rattle.std.proofs.Common.{◌≡◌, ◌∙◌, sym, ap, refl, subst, Some, ◌↔◌, ℕ}
+use Rattle.std.proofs.Common.{◌≡◌, ◌∙◌, sym, ap, refl, subst, Some, ◌↔◌}
 use Rattle.std.specs.Option.{option_map}
 use Rattle.ist_core.specs.References.{Empty, LeafAt, InnerAt, RebuildAt, ref_of}
 use Rattle.ist_core.specs.Rebuilding.{IsFinishedWith}

@@ -1,6 +1,6 @@
-use Rattle.std.proofs.Common.{◌≡◌, ◌∙◌, ◌↔◌, IsTrue, nat_eq, get_or, length, sym, subst, arith, eq-eqb}
+use Rattle.std.proofs.Common.{◌≡◌, ◌∙◌, get_or, length, sym, arith, eq-eqb}
 use Rattle.ist_core.specs.References.{LeafAt, word_of}
-use Rattle.ist_check.proofs.AnswerLemmas.{iff_trans, is_equal}
+use Rattle.ist_check.proofs.AnswerLemmas.{is_equal}
 use Rattle.ist_check.proofs.RowLemmas.{pair_over_is}
 use Rattle.ist_check.proofs.pairs.is_pair_over.Goals as goal
 

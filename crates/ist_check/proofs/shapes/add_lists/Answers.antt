@@ -1,4 +1,4 @@
-use Rattle.std.proofs.Common.{◌≡◌, ◌∙◌, ◌≤◌, ◌<◌, ◌+◌, ◌*◌, ◌++◌, ◌∷◌, [], List, ℕ, map, ap, sym, refl, arith}
+use Rattle.std.proofs.Common.{◌≡◌, ◌∙◌, ◌≤◌, ◌<◌, ◌+◌, ◌*◌, ◌++◌, ◌∷◌, [], map, ap, arith}
 use Rattle.std.proofs.lemmas.List.{map-append}
 use Rattle.ist_core.specs.Shapes.{share_from, share_from_is}
 use Rattle.ist_check.proofs.AnswerLemmas.{on_ok}
