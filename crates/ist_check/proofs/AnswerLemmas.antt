@@ -8,11 +8,6 @@ pub finds_same : (P Q : ℕ → Type 0) (o : Option ℕ) → ((x : ℕ) → P x 
 finds_same P Q None same h = λ x q. h x ((same x).1 q)
 finds_same P Q (Some x) same h = ((same x).0 h.0, λ y q. h.1 y ((same y).1 q))
 
--- nothing is found where nothing is there
-pub finds_none : (P : ℕ → Type 0) (o : Option ℕ) → o ≡ None → Finds P o → (x : ℕ) → ¬ (P x)
-finds_none P None e h = h
-finds_none P (Some x) e h = cc
-
 -- a test that fails exactly where the fact fails
 pub not_so : (b : Bool) (P : Type 0) → (IsTrue b ↔ P) → IsTrue (not b) ↔ (¬ P)
 not_so true P i = ((λ y. absurd (true≢false (sym y))), (λ n. absurd (n (i.0 refl))))

@@ -12,3 +12,4 @@ pub mod SpareLemmas
 pub mod FairLemmas
 pub mod ListLemmas
 pub mod BuildLemmas
+pub mod LoseLemmas

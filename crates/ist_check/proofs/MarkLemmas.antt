@@ -1,5 +1,5 @@
 -- What the code tests of a marked node is what the conditions say. Serves `marking.rt`.
-use Rattle.std.proofs.Common.{◌≡◌, ◌↔◌, ◌∙◌, ◌<◌, ◌≤◌, ◌+◌, ◌-◌, ◌^◌, ◌≢◌, ℕ, List, [], ◌∷◌, length, take, drop, Option, Some, None, refl, sym, ap, subst, arith}
+use Rattle.std.proofs.Common.{◌≡◌, ◌↔◌, ◌∙◌, ◌<◌, ◌≤◌, ◌+◌, ◌-◌, ◌^◌, ℕ, List, [], ◌∷◌, length, take, drop, Option, Some, None, refl, sym, ap, subst, arith}
 use Rattle.std.proofs.lemmas.List.{take_all}
 use Rattle.std.specs.Ordering.{nat_cmp}
 use Rattle.std.specs.BTreeMap as tree
@@ -12,7 +12,7 @@ use Rattle.ist_core.specs.Statuses.{finished_word}
 use Rattle.ist_core.specs.Snapshots.{Snapshot}
 use Rattle.ist_core.specs.Logs.{Log}
 use Rattle.ist_core.specs.Rebuilding.{IsFinishedWith}
-use Rattle.ist_core.specs.Marking.{IsCalled, CanMark, CanFinish, CountsFor, no_key, one_key, of_child, of_target, ArePassed, past_end, one_passed}
+use Rattle.ist_core.specs.Marking.{IsCalled, CanMark, CountsFor, no_key, one_key, of_child, of_target, ArePassed, past_end, one_passed}
 use Rattle.ist_check.specs.Passing.{PassCounts, TargetFinishedWith}
 use Rattle.ist_check.specs.Remembering.{KnowsPasses, pair_key}
 use Rattle.ist_check.proofs.MirrorLemmas.{one_inner, one_rebuild}
@@ -23,14 +23,6 @@ module _ (t : Snapshot) (caller node : ℕ) (r : InnerRow) (e : t.pieces node �
   mark_is log open_ = (
     (λ c. record { known = known; row = r; published = e; row_open = open_; called = c }),
     (λ h. h.called),
-  )
-
-  -- a marked row may be finished where its slots were passed
-  pub finish_is : (log : Log) (k : ℕ) → r.status ≡ 1
-      → ArePassed t log node 0 r.slots k ↔ CanFinish t log caller node k
-  finish_is log k marked = (
-    (λ c. record { known = known; row = r; published = e; marked = marked; passed = c }),
-    (λ h. subst (λ x. ArePassed t log node 0 x.slots k) (one_inner (t.pieces node) h.row r h.published e) h.passed),
   )
 
 -- a row is finished with what its status says
@@ -95,15 +87,6 @@ counts_rebuild t ref rebuild k e = ((λ h. subst (λ x. CountsFor t x k) (sym e)
     out _ k i (of_target {rebuild = o} {target = n} h f) =
         let same : o ≡ rebuild = cc in
         subst (λ x. TargetFinishedWith t x k) same record { target = n; of = h; finished = f }
-
--- nothing else counts
-pub counts_nothing : (t : Snapshot) (ref : Option Ref) (k : ℕ) → ref ≢ Some Empty
-    → ((leaf : ℕ) → ref ≢ Some (LeafAt leaf)) → ((child : ℕ) → ref ≢ Some (InnerAt child))
-    → ((rebuild : ℕ) → ref ≢ Some (RebuildAt rebuild)) → ¬ (CountsFor t ref k)
-counts_nothing t _ _ a b c d no_key = a refl
-counts_nothing t _ _ a b c d (one_key {leaf = l}) = b l refl
-counts_nothing t _ _ a b c d (of_child {child = n} f) = c n refl
-counts_nothing t _ _ a b c d (of_target {rebuild = o} h f) = d o refl
 
 -- ---- passed slots
 

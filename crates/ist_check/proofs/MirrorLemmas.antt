@@ -2,21 +2,13 @@
 use Rattle.std.proofs.Common.{◌≡◌, ◌∙◌, ℕ, Option, Some, None, sym, ap}
 use Rattle.std.specs.Ordering.{nat_cmp}
 use Rattle.std.specs.BTreeMap as tree
-use Rattle.ist_core.specs.declared.states.LeafRow.{LeafRow}
 use Rattle.ist_core.specs.declared.states.InnerRow.{InnerRow}
 use Rattle.ist_core.specs.declared.states.ChangeRow.{ChangeRow}
 use Rattle.ist_core.specs.declared.states.RebuildRow.{RebuildRow}
-use Rattle.ist_core.specs.Pieces.{Piece, Leaf, Inner, Change, Rebuild, as_leaf, as_inner, as_change, as_rebuild}
+use Rattle.ist_core.specs.Pieces.{Piece, Leaf, Inner, Change, Rebuild, as_inner, as_change, as_rebuild}
 use Rattle.ist_core.specs.Snapshots.{Snapshot}
 use Rattle.ist_check.specs.declared.replicas.Replica.{Replica}
 use Rattle.ist_check.specs.Mirroring.{Mirrors}
-
-as_leaf-some : (o : Option Piece) (r : LeafRow) → as_leaf o ≡ Some r → o ≡ Some (Leaf r)
-as_leaf-some (Some (Leaf s)) r e = let i : s ≡ r = cc in ap (λ x. Some (Leaf x)) i
-as_leaf-some (Some (Inner s)) r e = cc
-as_leaf-some (Some (Change s)) r e = cc
-as_leaf-some (Some (Rebuild s)) r e = cc
-as_leaf-some None r e = cc
 
 as_inner-some : (o : Option Piece) (r : InnerRow) → as_inner o ≡ Some r → o ≡ Some (Inner r)
 as_inner-some (Some (Inner s)) r e = let i : s ≡ r = cc in ap (λ x. Some (Inner x)) i
@@ -43,10 +35,6 @@ as_rebuild-some None r e = cc
 
 module _ (s : Replica) (t : Snapshot) (base : ℕ) (h : Mirrors s t) where
   -- a row that the replica has is published
-  pub leaf_stands : (r : LeafRow) → tree.get nat_cmp s.leaves base ≡ Some r
-      → t.pieces base ≡ Some (Leaf r)
-  leaf_stands r e = as_leaf-some (t.pieces base) r (sym (h.leaves base) ∙ e)
-
   pub inner_stands : (r : InnerRow) → tree.get nat_cmp s.inners base ≡ Some r
       → t.pieces base ≡ Some (Inner r)
   inner_stands r e = as_inner-some (t.pieces base) r (sym (h.inners base) ∙ e)
@@ -67,10 +55,6 @@ module _ (s : Replica) (t : Snapshot) (base : ℕ) (h : Mirrors s t) where
   pub no_change : tree.get nat_cmp s.changes base ≡ None → (r : ChangeRow)
       → ¬ (t.pieces base ≡ Some (Change r))
   no_change e r i = let k = sym e ∙ h.changes base ∙ ap as_change i in cc
-
-  pub no_rebuild : tree.get nat_cmp s.rebuilds base ≡ None → (r : RebuildRow)
-      → ¬ (t.pieces base ≡ Some (Rebuild r))
-  no_rebuild e r i = let k = sym e ∙ h.rebuilds base ∙ ap as_rebuild i in cc
 
 -- one row lies at a base
 pub one_inner : (o : Option Piece) (r s : InnerRow) → o ≡ Some (Inner r) → o ≡ Some (Inner s) → r ≡ s

@@ -234,19 +234,3 @@ module _ (slots : BTreeMap ℕ Slot) (n : ℕ) (slot : Slot) (e : tree.get nat_c
       out : (n : ℕ) → Climbs slots t key n → n ≢ anchor → tree.get nat_cmp slots n ≡ Some slot → ⊥
       out _ at_top f j = f refl
       out _ (up s i g h) f j = let same : s ≡ slot = cc in other (subst (λ y. IsChildFor t y.node key y.index) same g)
-
-module _ (slots : BTreeMap ℕ Slot) (n : ℕ) (e : tree.get nat_cmp slots n ≡ None) where
-  -- from a node without a slot no way goes up
-  pub comes_nowhere : (x : ℕ) → ¬ (ComesBy slots x n)
-  comes_nowhere x h = out n h e
-    where
-      out : (n : ℕ) → ComesBy slots x n → tree.get nat_cmp slots n ≡ None → ⊥
-      out _ (here s i) j = cc
-      out _ (higher s i h) j = cc
-
-  pub climbs_nowhere : (t : Snapshot) (key : ℕ) → n ≢ anchor → ¬ (Climbs slots t key n)
-  climbs_nowhere t key far h = out n h far e
-    where
-      out : (n : ℕ) → Climbs slots t key n → n ≢ anchor → tree.get nat_cmp slots n ≡ None → ⊥
-      out _ at_top f j = f refl
-      out _ (up s i g h) f j = cc

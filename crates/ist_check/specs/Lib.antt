@@ -9,3 +9,4 @@ pub mod Kinds
 pub mod Standing
 pub mod Searching
 pub mod Builds
+pub mod Losing

@@ -1,5 +1,5 @@
 -- What the checker's tables hold of the log: each answers by a look-up what a condition asks of the events so far.
-use Rattle.std.specs.Prelude.{◌≡◌, ◌↔◌, ◌<◌, ◌≤◌, ◌+◌, ◌*◌, ◌^◌, ℕ, true, ◌∷◌, ◌++◌, Option, Some, None}
+use Rattle.std.specs.Prelude.{◌≡◌, ◌↔◌, ◌<◌, ◌≤◌, ◌+◌, ◌*◌, ◌^◌, ℕ, true, ◌∷◌, ◌++◌, Option, Some, None, List, drop}
 use Rattle.std.specs.Ordering.{nat_cmp}
 use Rattle.std.specs.BTreeMap as tree
 use Rattle.std.specs.BTreeMap.{BTreeMap}
@@ -15,6 +15,7 @@ use Rattle.ist_core.specs.Logs.{Log, Ever, Happened, Okays, Passes, Draws, Count
 use Rattle.ist_core.specs.Links.{IsChild, Linked}
 use Rattle.ist_core.specs.Rebuilding.{IsStarted}
 use Rattle.ist_core.specs.Deciding.{IsUpdateOf, SaysYes}
+use Rattle.ist_core.specs.Building.{IsBeaten}
 use Rattle.ist_core.specs.Marking.{IsCalled}
 use Rattle.ist_check.specs.declared.pasts.LastUpdate.{LastUpdate}
 use Rattle.ist_check.specs.declared.pasts.Slot.{Slot}
@@ -106,3 +107,17 @@ KnowsRefusals refused t =
 -- the set is that of the started rebuilds
 abbrev pub KnowsStarts : BTreeSet ℕ → Snapshot → Type 0
 KnowsStarts started t = (rebuild : ℕ) → Holds started rebuild ↔ IsStarted t rebuild
+
+-- ---- builds
+
+-- how many builds came up to the caller's last Root, Place or Lose
+abbrev pub seen_builds : Option ℕ → ℕ
+seen_builds None = 0
+seen_builds (Some n) = n
+
+-- the lists are the sizes of the rows of each Root and Place, and the map says from which on no one is the caller's, nor
+-- before a Lose of it
+abbrev pub KnowsBuilds : BTreeMap ℕ ℕ → List (List ℕ) → Log → Type 0
+KnowsBuilds since builds log =
+    (caller : ℕ) (sizes : List ℕ)
+    → Among sizes (drop (seen_builds (tree.get nat_cmp since caller)) builds) ↔ IsBeaten caller sizes log

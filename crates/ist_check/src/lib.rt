@@ -2,8 +2,8 @@
 //! table.
 //!
 //! Read `specs/Lib.antt`, then `replicas.rt` and `pasts.rt`, and the files that decide events:
-//! `entering.rt`, `installing.rt`, `deciding.rt`, `counting.rt`, `marking.rt` and `building.rt`.
-//! Stands on `ist_core`, `ist_math` and `ist_layout`.
+//! `entering.rt`, `installing.rt`, `deciding.rt`, `counting.rt`, `marking.rt`, `building.rt` and
+//! `giving_up.rt`. Stands on `ist_core`, `ist_math` and `ist_layout`.
 #![tactic(auto)]
 
 mod building;
@@ -12,6 +12,7 @@ mod counting;
 mod deciding;
 mod entering;
 mod fairness;
+mod giving_up;
 mod installing;
 mod kinds;
 mod marking;
@@ -28,6 +29,7 @@ pub use building::can_draw;
 pub use counting::can_count;
 pub use deciding::{can_decide, can_okay, can_resolve};
 pub use entering::{can_enter, can_reserve};
+pub use giving_up::can_lose;
 pub use installing::can_install;
 pub use marking::{can_finish, can_mark, can_pass};
 pub use pasts::{LastUpdate, Past, Slot};

@@ -38,6 +38,10 @@ pub struct Past {
     pub refused: BTreeSet<u128>,
     /// The rebuilds that were started.
     pub started: BTreeSet<u64>,
+    /// The sizes of the rows of each Root and Place, in order.
+    pub builds: Vec<Vec<u64>>,
+    /// How many of these came up to the last Root, Place or Lose of a caller.
+    pub since: BTreeMap<u64, u64>,
 }
 
 /// Two words as one key of a table.
