@@ -144,7 +144,8 @@ fn are_same(xs: &[u64], ys: &[u64]) -> bool
 
 /// Did another caller put a build of these sizes in place, behind the last of the caller?
 fn is_beaten(past: &Past, caller: u64, sizes: &[u64]) -> bool
-    ensures exact { (log : Log) → KnowsBuilds past.now.since (map (λ v. v.items) past.now.builds.items) log
+    ensures exact { (log : Log)
+        → KnowsBuilds past.now.since (map (λ v. v.items) past.now.builds.items) log
         → (IsTrue result ↔ IsBeaten caller sizes.now log) }
 {
     let seen = seen_of(past, caller);
