@@ -1,0 +1,15 @@
+pub mod AnswerLemmas
+pub mod MirrorLemmas
+pub mod DecisionLemmas
+pub mod MarkLemmas
+pub mod DrawLemmas
+pub mod WayLemmas
+pub mod CountLemmas
+pub mod KindLemmas
+pub mod RowLemmas
+pub mod InstallLemmas
+pub mod SpareLemmas
+pub mod FairLemmas
+pub mod ListLemmas
+pub mod BuildLemmas
+pub mod LoseLemmas

@@ -1,0 +1,36 @@
+//! Decides of single events whether they may come next behind a log. Nothing here runs beside a
+//! table.
+//!
+//! Read `specs/Lib.antt`, then `replicas.rt` and `pasts.rt`, and the files that decide events:
+//! `entering.rt`, `installing.rt`, `deciding.rt`, `counting.rt`, `marking.rt`, `building.rt` and
+//! `giving_up.rt`. Stands on `ist_core`, `ist_math` and `ist_layout`.
+#![tactic(auto)]
+
+mod building;
+mod climbing;
+mod counting;
+mod deciding;
+mod entering;
+mod fairness;
+mod giving_up;
+mod installing;
+mod kinds;
+mod marking;
+mod naming;
+mod nodes;
+mod pairs;
+mod pasts;
+mod replicas;
+mod rows;
+mod shapes;
+mod shares;
+
+pub use building::can_draw;
+pub use counting::can_count;
+pub use deciding::{can_decide, can_okay, can_resolve};
+pub use entering::{can_enter, can_reserve};
+pub use giving_up::can_lose;
+pub use installing::can_install;
+pub use marking::{can_finish, can_mark, can_pass};
+pub use pasts::{LastUpdate, Past, Slot};
+pub use replicas::Replica;
