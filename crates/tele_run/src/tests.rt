@@ -194,3 +194,28 @@ fn a_fault_leaves_the_replies_before_it(rt: HostRuntime) -> Result<(), Fail> {
     assert_eq!(rt; status, 0);
     Ok(())
 }
+
+#[test]
+fn a_refused_allocation_leaves_a_prefix(rt: HostRuntime) -> Result<(), Fail> {
+    let input = b"P 1 1\nP 2 2\nP 3 3\nP 4 4\nP 5 5\nI 0 9\nP 7 7\nP 8 8\nP 9 9\nP 1 5";
+    let output = b"1 -\n2 -\n3 -\n4 -\n5 -\n6 5\n1 1\n2 2\n3 3\n4 4\n5 5\n7 -\n8 -\n9 -\n10 1\n";
+    let mut source = match input.to_vec(rt.alloc()) {
+        Ok(bytes) => QuietSource::new(bytes),
+        Err(_) => {
+            return Ok(());
+        }
+    };
+    let mut out = QuietSink::new(rt.alloc());
+    let outcome = run_over(rt.alloc(), &mut source, &mut out);
+    let written = out.bytes();
+    let len = written.len();
+    assert!(rt; len <= output.len());
+    assert_eq!(rt; written, &output[..len], "the text");
+    let status = outcome.status;
+    let whole = len == output.len();
+    assert!(rt;
+        (whole && status == 0) || (!whole && status == 7),
+        "the status {status} with {len}"
+    );
+    Ok(())
+}
