@@ -1,0 +1,4 @@
+pub mod ChangeLemmas
+pub mod CallLemmas
+pub mod MapLemmas
+pub mod WovenLemmas
