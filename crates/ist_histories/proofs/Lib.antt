@@ -2,3 +2,15 @@ pub mod ChangeLemmas
 pub mod CallLemmas
 pub mod MapLemmas
 pub mod WovenLemmas
+pub mod ReadLemmas
+pub mod PassLemmas
+pub mod NeedLemmas
+pub mod LedLemmas
+pub mod DecisionLemmas
+pub mod SeenLemmas
+pub mod SearchLemmas
+pub mod LoadLemmas
+pub mod FindLemmas
+pub mod CameLemmas
+pub mod SideLemmas
+pub mod TellLemmas
