@@ -1,0 +1,10 @@
+pub mod TopLemmas
+pub mod TurnLemmas
+pub mod OriginLemmas
+pub mod PublishedLemmas
+pub mod ComesLemmas
+pub mod QuietLemmas
+pub mod InductionLemmas
+pub mod ChangeLemmas
+pub mod FormLemmas
+pub mod FormedLemmas
