@@ -9,7 +9,6 @@ use Rattle.ist_core.specs.declared.states.ChangeRow.{ChangeRow}
 use Rattle.ist_core.specs.After.{decision_word}
 use Rattle.ist_core.specs.Deciding.{MayBe}
 use Rattle.ist_core.specs.Enabled.{Enabled}
-use Rattle.ist_core.specs.ExampleTables.{node}
 use Rattle.ist_core.specs.Installing.{CanInstall}
 use Rattle.ist_core.specs.Lawful.{CanOpen, EachEnabled, state_of}
 use Rattle.ist_core.specs.Links.{Linked, WasLinked}

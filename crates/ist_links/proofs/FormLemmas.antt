@@ -4,7 +4,6 @@ use Rattle.std.proofs.Common.{Some, ap, arith, subst, sym, ℕ, ◌*◌, ◌+◌
 use Rattle.ist_core.specs.declared.states.ChangeRow.{ChangeRow}
 use Rattle.ist_core.specs.declared.states.InnerRow.{InnerRow}
 use Rattle.ist_core.specs.declared.states.RebuildRow.{RebuildRow}
-use Rattle.ist_core.specs.ExampleTables.{node}
 use Rattle.ist_core.specs.Growing.{AllGrow, Grows, StatusGoesOn, inner_grows, is_closed, is_finished, is_marked, status_stays}
 use Rattle.ist_core.specs.Installing.{HasRoomFor, IsLeafOf, new_leaf, nothing, pair_row, same_key}
 use Rattle.ist_core.specs.Pieces.{Inner, Rebuild}
@@ -12,11 +11,8 @@ use Rattle.ist_core.specs.Rebuilding.{IsFinishedWith, IsReplaced, IsStarted}
 use Rattle.ist_core.specs.References.{Empty, InnerAt, LeafAt, RebuildAt, ref_of, unset_word}
 use Rattle.ist_core.specs.Snapshots.{Snapshot}
 use Rattle.ist_core.specs.Statuses.{finish_kind, finished_word, put_kind, remove_kind, start_kind}
+use Rattle.ist_links.specs.Linking.{IsFinished}
 use Rattle.ist_core.proofs.GrowingLemmas.{change_there, grows_on, inner_there, leaf_there, rebuild_there}
-
--- the node is finished, with some number of keys
-abbrev pub IsFinished : Snapshot → ℕ → Type 0
-IsFinished t node = (k : ℕ) × IsFinishedWith t node k
 
 -- ---- growing keeps it
 
@@ -137,27 +133,27 @@ pub record IsFinish (t : Snapshot) (change : ChangeRow) : Type 0 where
 
 -- the change has the form of its kind
 pub data IsFormed (t : Snapshot) (change : ChangeRow) : Type 0 where
-  a_leaf_put : IsLeafPut t change → IsFormed t change
-  a_pair_put : IsPairPut t change → IsFormed t change
-  a_remove : IsRemove t change → IsFormed t change
-  a_start : IsStart t change → IsFormed t change
-  a_finish : IsFinish t change → IsFormed t change
+  of_leaf_put : IsLeafPut t change → IsFormed t change
+  of_pair_put : IsPairPut t change → IsFormed t change
+  of_remove : IsRemove t change → IsFormed t change
+  of_start : IsStart t change → IsFormed t change
+  of_finish : IsFinish t change → IsFormed t change
 
 -- ---- growing and deciding keep the form
 
 pub formed_grows : (t u : Snapshot) → AllGrow t.pieces u.pieces → (change : ChangeRow)
     → IsFormed t change → IsFormed u change
-formed_grows t u g change (a_leaf_put h) =
-    a_leaf_put record {
+formed_grows t u g change (of_leaf_put h) =
+    of_leaf_put record {
       kind = h.kind;
       from = room_grows t u g change.key change.from h.from;
       leaf = h.leaf;
       to = h.to;
       new = leaf_there t.pieces u.pieces g h.leaf record { key = change.key; value = change.value } h.new;
     }
-formed_grows t u g change (a_pair_put h) =
+formed_grows t u g change (of_pair_put h) =
     let it = inner_there t.pieces u.pieces g h.pair h.row h.published in
-    a_pair_put record {
+    of_pair_put record {
       kind = h.kind;
       other = h.other;
       other_key = h.other_key;
@@ -173,11 +169,11 @@ formed_grows t u g change (a_pair_put h) =
       published = it.1;
       grew = grows_on (pair_row change.key h.leaf h.other_key h.other) (Inner h.row) (Inner it.0) h.grew (inner_grows it.2);
     }
-formed_grows t u g change (a_remove h) =
-    a_remove record { kind = h.kind; leaf = h.leaf; from = h.from; stands = leaf_of_grows t u g h.leaf change.key h.stands; to = h.to }
-formed_grows t u g change (a_start h) =
+formed_grows t u g change (of_remove h) =
+    of_remove record { kind = h.kind; leaf = h.leaf; from = h.from; stands = leaf_of_grows t u g h.leaf change.key h.stands; to = h.to }
+formed_grows t u g change (of_start h) =
     let it = rebuild_there t.pieces u.pieces g h.rebuild h.row h.published in
-    a_start record {
+    of_start record {
       kind = h.kind;
       rebuild = h.rebuild;
       row = it.0;
@@ -187,10 +183,10 @@ formed_grows t u g change (a_start h) =
       parent = it.2.parent ∙ h.parent;
       index = it.2.index ∙ h.index;
     }
-formed_grows t u g change (a_finish h) =
+formed_grows t u g change (of_finish h) =
     let it = rebuild_there t.pieces u.pieces g h.rebuild h.row h.published in
     let root = it.2.rooted h.set in
-    a_finish record {
+    of_finish record {
       kind = h.kind;
       rebuild = h.rebuild;
       row = it.0;
@@ -206,9 +202,9 @@ formed_grows t u g change (a_finish h) =
 
 pub formed_decided : (t : Snapshot) (change : ChangeRow) (word : ℕ) → IsFormed t change
     → IsFormed t record change { decision = word }
-formed_decided t change word (a_leaf_put h) = a_leaf_put record { kind = h.kind; from = h.from; leaf = h.leaf; to = h.to; new = h.new }
-formed_decided t change word (a_pair_put h) =
-    a_pair_put record {
+formed_decided t change word (of_leaf_put h) = of_leaf_put record { kind = h.kind; from = h.from; leaf = h.leaf; to = h.to; new = h.new }
+formed_decided t change word (of_pair_put h) =
+    of_pair_put record {
       kind = h.kind;
       other = h.other;
       other_key = h.other_key;
@@ -224,11 +220,11 @@ formed_decided t change word (a_pair_put h) =
       published = h.published;
       grew = h.grew;
     }
-formed_decided t change word (a_remove h) = a_remove record { kind = h.kind; leaf = h.leaf; from = h.from; stands = h.stands; to = h.to }
-formed_decided t change word (a_start h) =
-    a_start record { kind = h.kind; rebuild = h.rebuild; row = h.row; from = h.from; to = h.to; published = h.published; parent = h.parent; index = h.index }
-formed_decided t change word (a_finish h) =
-    a_finish record {
+formed_decided t change word (of_remove h) = of_remove record { kind = h.kind; leaf = h.leaf; from = h.from; stands = h.stands; to = h.to }
+formed_decided t change word (of_start h) =
+    of_start record { kind = h.kind; rebuild = h.rebuild; row = h.row; from = h.from; to = h.to; published = h.published; parent = h.parent; index = h.index }
+formed_decided t change word (of_finish h) =
+    of_finish record {
       kind = h.kind;
       rebuild = h.rebuild;
       row = h.row;

@@ -10,7 +10,6 @@ use Rattle.ist_core.specs.declared.states.InnerRow.{InnerRow}
 use Rattle.ist_core.specs.declared.states.LeafRow.{LeafRow}
 use Rattle.ist_core.specs.declared.states.RebuildRow.{RebuildRow}
 use Rattle.ist_core.specs.After.{after, decision_word}
-use Rattle.ist_core.specs.ExampleTables.{node}
 use Rattle.ist_core.specs.Growing.{AllGrow, Grows, RebuildGrows, change_grows, inner_grows, leaf_stays, rebuild_grows}
 use Rattle.ist_core.specs.Installing.{CanInstall, FitsKind, new_leaf, new_rebuild, pair_row}
 use Rattle.ist_core.specs.Lawful.{EachEnabled, state_of}
@@ -19,13 +18,14 @@ use Rattle.ist_core.specs.Pieces.{Change, Inner, Leaf, Piece, Rebuild, with_slot
 use Rattle.ist_core.specs.References.{ChangeAt, InnerAt, unset_word, word_of}
 use Rattle.ist_core.specs.Snapshots.{Snapshot}
 use Rattle.ist_core.specs.StartLayout.{start}
+use Rattle.ist_links.specs.Linking.{IsFinished}
 use Rattle.ist_core.proofs.FreshLemmas.{IsFresh, fresh_stands}
 use Rattle.ist_core.proofs.GrowingLemmas.{all_grow-changed_at, grows-with_slot}
 use Rattle.ist_core.proofs.InstallLemmas.{with_installed}
 use Rattle.ist_core.proofs.InstallNamingLemmas.{pair_is_inner}
 use Rattle.ist_core.proofs.MoveLemmas.{IsSound}
 use Rattle.ist_core.proofs.StepLemmas.{holds_installed}
-use Rattle.ist_links.proofs.FormLemmas.{IsFinished, IsFormed, a_finish, a_leaf_put, a_pair_put, a_remove, a_start, finished_grows, formed_decided, formed_grows, leaf_of_grows, room_grows}
+use Rattle.ist_links.proofs.FormLemmas.{IsFormed, finished_grows, formed_decided, formed_grows, leaf_of_grows, of_finish, of_leaf_put, of_pair_put, of_remove, of_start, room_grows}
 use Rattle.ist_links.proofs.InductionLemmas.{changes_by, grow_behind, rebuilds_by, sound_behind}
 use Rattle.ist_links.proofs.PublishedLemmas.{new_rebuild_row}
 use Rattle.ist_core.specs.Installing as kinds
@@ -68,7 +68,7 @@ formed_installed : (first : Snapshot) (log : Log) (caller base : ℕ) (rows : Li
 formed_installed first log caller base rows done g change fresh (kinds.a_put h) behind =
     let u = state first (Install caller base rows ∷ log) in
     let it = behind h.leaf (new_leaf change) (refl, refl) in
-    a_leaf_put record {
+    of_leaf_put record {
       kind = h.kind;
       from = room_grows (state first log) u g change.key change.from h.from;
       leaf = h.leaf;
@@ -82,7 +82,7 @@ formed_installed first log caller base rows done g change fresh (kinds.a_pair h)
     let pair = behind h.pair p (inl (refl, refl)) in
     let inner = pair_is_inner change.key h.leaf h.other_key h.other in
     let row = inner_grown p pair.0 inner.0 inner.1 pair.2 in
-    a_pair_put record {
+    of_pair_put record {
       kind = h.kind;
       other = h.other;
       other_key = h.other_key;
@@ -99,7 +99,7 @@ formed_installed first log caller base rows done g change fresh (kinds.a_pair h)
       grew = subst (λ q. Grows p q) row.1 pair.2;
     }
 formed_installed first log caller base rows done g change fresh (kinds.a_remove h) behind =
-    a_remove record {
+    of_remove record {
       kind = h.kind;
       leaf = h.leaf;
       from = h.from;
@@ -109,7 +109,7 @@ formed_installed first log caller base rows done g change fresh (kinds.a_remove 
 formed_installed first log caller base rows done g change fresh (kinds.a_start h) behind =
     let it = behind h.rebuild (new_rebuild change h.target) (refl, refl) in
     let row = rebuild_grown (new_rebuild_row change h.target) it.0 it.2 in
-    a_start record {
+    of_start record {
       kind = h.kind;
       rebuild = h.rebuild;
       row = row.0;
@@ -121,7 +121,7 @@ formed_installed first log caller base rows done g change fresh (kinds.a_start h
     }
 formed_installed first log caller base rows done g change fresh (kinds.a_finish h) behind =
     formed_grows (state first log) (state first (Install caller base rows ∷ log)) g change
-    (a_finish record {
+    (of_finish record {
       kind = h.kind;
       rebuild = h.rebuild;
       row = h.row;

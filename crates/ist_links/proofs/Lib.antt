@@ -8,3 +8,8 @@ pub mod InductionLemmas
 pub mod ChangeLemmas
 pub mod FormLemmas
 pub mod FormedLemmas
+pub mod ReadLemmas
+pub mod PassLemmas
+pub mod FinishedLemmas
+pub mod ChildLemmas
+pub mod LinkLemmas

@@ -2,7 +2,6 @@
 use Rattle.std.proofs.Common.{List, Some, [], length, refl, suc, zero, ℕ, ◌∷◌, ◌≡◌}
 use Rattle.ist_core.specs.declared.pairs.Pair.{Pair}
 use Rattle.ist_core.specs.Elements.{Each}
-use Rattle.ist_core.specs.ExampleTables.{pair}
 use Rattle.ist_core.specs.Pieces.{Change, Inner, Leaf, Piece, Rebuild}
 use Rattle.ist_core.specs.RowLayout.{first_row}
 use Rattle.ist_core.specs.StartLayout.{placed_parts, rows_from, rows_within, start}

@@ -1,14 +1,14 @@
 -- The rows of a tree that is published: each is the top of an ideal subtree, and so is as it was filled. Serves each law that
 -- speaks of new trees.
-use Rattle.std.proofs.Common.{ℕ, List, sym, subst}
+use Rattle.std.proofs.Common.{List, subst, sym, ℕ}
 use Rattle.ist_core.specs.declared.states.InnerRow.{InnerRow}
-use Rattle.ist_core.specs.References.{Ref}
+use Rattle.ist_core.specs.Building.{IsRoot, root_top, root_whole}
 use Rattle.ist_core.specs.Elements.{Each}
+use Rattle.ist_core.specs.Ideals.{AreIdeal, IsIdeal, IsTop, no_part, of_more, of_none, of_one, one_part}
+use Rattle.ist_core.specs.Leaves.{PlacedLeaf}
 use Rattle.ist_core.specs.Parts.{parts}
 use Rattle.ist_core.specs.Pieces.{Pieces}
-use Rattle.ist_core.specs.Leaves.{PlacedLeaf}
-use Rattle.ist_core.specs.Ideals.{IsTop, IsIdeal, AreIdeal, of_none, of_one, of_more, no_part, one_part}
-use Rattle.ist_core.specs.Building.{IsRoot, root_whole, root_top}
+use Rattle.ist_core.specs.References.{Ref}
 use Rattle.ist_core.proofs.ElementLemmas.{each_append}
 
 -- the top of an ideal subtree over some leaves stands at the base
@@ -24,8 +24,8 @@ mutual
       → IsIdeal ps ref leaves above rows → Each (StandsAsTop ps) rows
   ideal_tops ps _ _ _ _ of_none = tt
   ideal_tops ps _ _ _ _ (of_one same e) = tt
-  ideal_tops ps _ _ above _ (of_more {base = base} {leaves = leaves} {rows = rows} r top below) =
-      (record { row = r; leaves = leaves; above = above; top = top }, parts_tops ps r.slots (parts leaves) base rows below)
+  ideal_tops ps _ _ above _ (of_more {base = base} {leaves = leaves} {rows = rows} r top under) =
+      (record { row = r; leaves = leaves; above = above; top = top }, parts_tops ps r.slots (parts leaves) base rows under)
 
   parts_tops : (ps : Pieces) (words : List ℕ) (behind : List (List PlacedLeaf)) (above : ℕ)
       (rows : List ℕ)

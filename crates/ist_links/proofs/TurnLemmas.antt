@@ -1,34 +1,34 @@
 -- What each event makes of each row, and which rows it publishes. Serves each conjunct that speaks of single fields.
-use Rattle.std.proofs.Common.{◌≡◌, ℕ, ◌⊎◌, Bool, List, ◌∷◌, Option, Some, None, refl, sym, ap, ◌∙◌, subst, inl, inr, ⊎_elim}
-use Rattle.ist_core.specs.declared.pairs.Pair.{Pair}
-use Rattle.ist_core.specs.declared.lists.Row.{Row}
+use Rattle.std.proofs.Common.{Bool, List, None, Option, Some, ap, inl, inr, refl, subst, sym, ℕ, ⊎_elim, ◌∙◌, ◌∷◌, ◌≡◌, ◌⊎◌}
 use Rattle.ist_core.specs.declared.events.Event.{Event}
-use Rattle.ist_core.specs.declared.events.Event.TheVariants.{Enter, Reserve, Install, Okay, Decide, Resolve, Count, Mark, Pass, Finish, Root, Draw, Place, Lose}
-use Rattle.ist_core.specs.References.{ChangeAt, word_of, unset_word}
-use Rattle.ist_core.specs.Statuses.{marked_word, finished_word}
-use Rattle.ist_core.specs.Pieces.{Pieces, Piece, Inner, Rebuild, with_inners, changed_at, with_slot, with_status, counted, with_decision, with_root, drawn}
+use Rattle.ist_core.specs.declared.events.Event.TheVariants.{Count, Decide, Draw, Enter, Finish, Install, Lose, Mark, Okay, Pass, Place, Reserve, Resolve, Root}
+use Rattle.ist_core.specs.declared.lists.Row.{Row}
+use Rattle.ist_core.specs.declared.pairs.Pair.{Pair}
 use Rattle.ist_core.specs.After.{after, decision_word, side_of}
+use Rattle.ist_core.specs.Building.{CanDraw, CanPlace, CanRoot}
+use Rattle.ist_core.specs.Deciding.{CanCount, CanDecide, CanResolve}
 use Rattle.ist_core.specs.Elements.{Among}
-use Rattle.ist_core.specs.Snapshots.{Snapshot, bases_of}
-use Rattle.ist_core.specs.StartLayout.{start}
-use Rattle.ist_core.specs.Slots.{SlotHolds, in_anchor, in_row}
+use Rattle.ist_core.specs.Enabled.{Enabled}
+use Rattle.ist_core.specs.Installing.{CanInstall}
 use Rattle.ist_core.specs.Lawful.{EachEnabled, state_of}
 use Rattle.ist_core.specs.Logs.{Log, state}
-use Rattle.ist_core.specs.Installing.{CanInstall}
-use Rattle.ist_core.specs.Deciding.{CanDecide, CanResolve, CanCount}
-use Rattle.ist_core.specs.Marking.{CanMark, CanFinish}
-use Rattle.ist_core.specs.Building.{CanRoot, CanDraw, CanPlace}
-use Rattle.ist_core.specs.Enabled.{Enabled}
-use Rattle.ist_core.proofs.RowLemmas.{changed_at-some}
-use Rattle.ist_core.proofs.MoveLemmas.{IsSound}
+use Rattle.ist_core.specs.Marking.{CanFinish, CanMark}
+use Rattle.ist_core.specs.Pieces.{Inner, Piece, Pieces, Rebuild, changed_at, counted, drawn, with_decision, with_inners, with_root, with_slot, with_status}
+use Rattle.ist_core.specs.References.{ChangeAt, unset_word, word_of}
+use Rattle.ist_core.specs.Slots.{SlotHolds, in_anchor, in_row}
+use Rattle.ist_core.specs.Snapshots.{Snapshot, bases_of}
+use Rattle.ist_core.specs.StartLayout.{start}
+use Rattle.ist_core.specs.Statuses.{finished_word, marked_word}
+use Rattle.ist_core.proofs.AddingLemmas.{Adds, IsInstalled, adds-with_inners, adds_install}
+use Rattle.ist_core.proofs.BornLemmas.{Born}
 use Rattle.ist_core.proofs.InstallLemmas.{with_installed}
-use Rattle.ist_core.proofs.AddingLemmas.{Adds, IsInstalled, adds_install, adds-with_inners}
-use Rattle.ist_core.proofs.StepLemmas.{rows_resolved, rows_placed, holds_installed}
+use Rattle.ist_core.proofs.MoveLemmas.{IsSound}
+use Rattle.ist_core.proofs.PlaceLemmas.{anchor_free, no_piece}
+use Rattle.ist_core.proofs.RowLemmas.{changed_at-some}
 use Rattle.ist_core.proofs.SoundLemmas.{sound}
 use Rattle.ist_core.proofs.StartLemmas.{sound_start}
-use Rattle.ist_core.proofs.PlaceLemmas.{no_piece, anchor_free}
+use Rattle.ist_core.proofs.StepLemmas.{holds_installed, rows_placed, rows_resolved}
 use Rattle.ist_core.proofs.BornLemmas as born
-use Rattle.ist_core.proofs.BornLemmas.{Born}
 
 -- what the event makes of the row p at the base is q: p itself, or p with the one field changed that the event writes
 pub data Turned (first : Snapshot) (log : Log) (base : ℕ) (p q : Piece) : Event → Type 0 where
