@@ -45,7 +45,7 @@ fresh_behind first log caller base rows h s at p is =
     (all_grow-changed_at qs h.change.node f (λ x _. grows-with_slot h.change.index (word_of (ChangeAt base)) x) at p there)
 
 -- a leaf doesn't grow
-leaf_grown : (r : LeafRow) (q : Piece) → Grows (Leaf r) q → q ≡ Leaf r
+pub leaf_grown : (r : LeafRow) (q : Piece) → Grows (Leaf r) q → q ≡ Leaf r
 leaf_grown r _ leaf_stays = refl
 
 -- what becomes of an inner row is one

@@ -13,3 +13,6 @@ pub mod PassLemmas
 pub mod FinishedLemmas
 pub mod ChildLemmas
 pub mod LinkLemmas
+pub mod ClosedLemmas
+pub mod UntouchedLemmas
+pub mod PairLemmas

@@ -132,7 +132,7 @@ turned_added first log event qs New at f adds pieces turned publishes base q e s
 
 module _ (pairs : List Pair) (words : ℕ) where
   -- a node in whose slot something stands is no row, or a row that stood there
-  slot_stood : (log : Log) (event : Event) → EachEnabled (start pairs words) (event ∷ log)
+  pub slot_stood : (log : Log) (event : Event) → EachEnabled (start pairs words) (event ∷ log)
       → (node i word : ℕ) → SlotHolds (state_of pairs words log) node i word → (base : ℕ) (q : Piece)
       → (state_of pairs words (event ∷ log)).pieces base ≡ Some q → base ≡ node
       → (state_of pairs words log).pieces base ≡ None → ⊥
