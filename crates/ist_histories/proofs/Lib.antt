@@ -14,3 +14,6 @@ pub mod FindLemmas
 pub mod CameLemmas
 pub mod SideLemmas
 pub mod TellLemmas
+pub mod ValueLemmas
+pub mod BelowLemmas
+pub mod OpeningLemmas
