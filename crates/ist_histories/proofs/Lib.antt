@@ -13,7 +13,9 @@ pub mod LoadLemmas
 pub mod FindLemmas
 pub mod CameLemmas
 pub mod SideLemmas
-pub mod TellLemmas
 pub mod ValueLemmas
 pub mod BelowLemmas
+pub mod RootLemmas
+pub mod TellLemmas
 pub mod OpeningLemmas
+pub mod ExistLemmas

@@ -12,12 +12,12 @@ use Rattle.ist_core.specs.StartLayout.{start}
 use Rattle.ist_core.specs.Logs.{Log, Happened, Okays, Passes}
 use Rattle.ist_core.specs.Slots.{SlotHolds, past_rebuild}
 use Rattle.ist_core.specs.Links.{IsChild}
+use Rattle.ist_core.specs.Leaves.{PlacedLeaf, HasLeaves}
 use Rattle.ist_core.specs.Rebuilding.{IsFinishedWith}
 use Rattle.ist_core.specs.Installing.{new_leaf, IsLeafOf}
 use Rattle.ist_core.specs.Deciding.{IsPending}
 use Rattle.ist_core.specs.Marking.{HasTarget}
 use Rattle.ist_core.specs.Lawful.{EachEnabled, state_of}
-use Rattle.ist_histories.specs.Finding.{Finds}
 
 -- the node is finished with some number of keys
 pub record IsFinished (t : Snapshot) (node : ℕ) : Type 0 where
@@ -61,11 +61,11 @@ pub record Needs (pairs : List Pair) (words : ℕ) (log : Log) : Type 0 where
   -- a pending change stands in its slot
   pub in_slot : (base : ℕ) (change : ChangeRow) → IsPending (state_of pairs words log) base change
       → SlotHolds (state_of pairs words log) change.node change.index (word_of (ChangeAt base))
-  -- where a pending finish has an Okay, its root gives each key what the target of its rebuild gives it
-  pub root_finds : (base : ℕ) (change : ChangeRow) → IsPending (state_of pairs words log) base change
-      → Happened (Okays base) log → change.kind ≡ finish_kind → (key : ℕ) (value : Option ℕ)
-      → Finds (state_of pairs words log).pieces key (past_rebuild (state_of pairs words log).pieces (ref_of change.from)) value
-      → Finds (state_of pairs words log).pieces key (past_rebuild (state_of pairs words log).pieces (ref_of change.to)) value
+  -- where a pending finish has an Okay, its root has the leaves of its rebuild's target
+  pub same_leaves : (base : ℕ) (change : ChangeRow) → IsPending (state_of pairs words log) base change
+      → Happened (Okays base) log → change.kind ≡ finish_kind → (leaves : List PlacedLeaf)
+      × HasLeaves (state_of pairs words log).pieces (past_rebuild (state_of pairs words log).pieces (ref_of change.from)) leaves
+      × HasLeaves (state_of pairs words log).pieces (past_rebuild (state_of pairs words log).pieces (ref_of change.to)) leaves
   -- the target of a rebuild with a root is finished
   pub target_finished : (rebuild : ℕ) (row : RebuildRow) → (state_of pairs words log).pieces rebuild ≡ Some (Rebuild row)
       → row.root ≢ unset_word → IsFinished (state_of pairs words log) row.target

@@ -48,7 +48,7 @@ plain_change t (Some (ChangeAt base)) h = absurd (h base refl)
 plain_change t _ h = refl
 
 -- a list as long has an element there too
-get_too : (xs ys : List ℕ) (i word : ℕ) → length ys ≡ length xs → slice_get xs i ≡ Some word
+pub get_too : (xs ys : List ℕ) (i word : ℕ) → length ys ≡ length xs → slice_get xs i ≡ Some word
     → (v : ℕ) × (slice_get ys i ≡ Some v)
 get_too [] ys i word e h = absurd (cc)
 get_too (x ∷ xs) [] i word e h = absurd (omega arith)

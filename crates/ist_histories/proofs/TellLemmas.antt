@@ -39,6 +39,7 @@ use Rattle.ist_histories.proofs.DecisionLemmas.{unfinished}
 use Rattle.ist_histories.proofs.FindLemmas.{finds_once, finds_above, gives_step, IsHigh, finds_high}
 use Rattle.ist_histories.proofs.CameLemmas.{came}
 use Rattle.ist_histories.proofs.SideLemmas.{Sides, sides}
+use Rattle.ist_histories.proofs.RootLemmas.{root_finds}
 
 -- ---- entries
 
@@ -63,7 +64,7 @@ abbrev pub IsNoYes : Event → Type 0
 IsNoYes (Decide caller base true) = ⊥
 IsNoYes _ = Unit {0}
 
-same_base : (a b c d : ℕ) → Decide a b true ≡ Decide c d true → b ≡ d
+pub same_base : (a b c d : ℕ) → Decide a b true ≡ Decide c d true → b ≡ d
 same_base a b c d e = cc
 
 -- a start and a finish have no command
@@ -266,7 +267,8 @@ module _ (pairs : List Pair) (words : ℕ) (opens : CanOpen pairs words) (needs 
           ap (past_rebuild Before.pieces) from ∙ sym (ap (past_rebuild Before.pieces) to ∙ ap rebuild_reads has.published ∙ ap (λ n. Some (InnerAt n)) has.target_is) in
           told_rebuild (λ key value f. subst (λ ref. Finds Before.pieces key ref value) same f) (start_commands change kind) told
       at (ends rebuild row kind from e f set) =
-          told_rebuild (λ key value g. needed.root_finds base change h.1.pending h.1.outcome kind key value g) (finish_commands change kind) told
+          let it = needed.same_leaves base change h.1.pending h.1.outcome kind in
+          told_rebuild (λ key value g. root_finds pairs words opens log h.0 base rebuild change row h.1.pending.published from e f set it.0 it.1 it.2 key value g) (finish_commands change kind) told
 
 module _ (pairs : List Pair) (words : ℕ) (opens : CanOpen pairs words) (needs : AllNeeds pairs words)
     (opening : (key : ℕ) → Gives (start pairs words) key (fin.get (map_of pairs) key)) where
