@@ -7,17 +7,16 @@ use Rattle.ist_core.specs.declared.states.ChangeRow.{ChangeRow}
 use Rattle.ist_core.specs.declared.events.Event.{Event}
 use Rattle.ist_core.specs.declared.events.Event.TheVariants.{Enter, Reserve, Install, Okay, Decide, Resolve, Count, Mark, Pass, Finish, Root, Draw, Place, Lose}
 use Rattle.ist_core.specs.RowLayout.{first_row}
-use Rattle.ist_core.specs.References.{Ref, Empty, LeafAt, InnerAt, RebuildAt, ref_of}
+use Rattle.ist_core.specs.References.{Ref, ref_of}
 use Rattle.ist_core.specs.Statuses.{marked_word, finished_word}
 use Rattle.ist_core.specs.Elements.{Each}
-use Rattle.ist_core.specs.Pieces.{Pieces, Piece, Leaf, Inner, Change, Rebuild, with_inners, changed_at, with_slot, with_status, counted, with_decision, with_root, drawn}
+use Rattle.ist_core.specs.Pieces.{Piece, Leaf, Inner, Change, Rebuild, with_inners, changed_at, with_slot, with_status, counted, with_decision, with_root, drawn}
 use Rattle.ist_core.specs.Snapshots.{Snapshot}
 use Rattle.ist_core.specs.StartLayout.{start, placed_parts, rows_within, rows_from}
 use Rattle.ist_core.specs.Logs.{Log, state, Happened, Passes}
-use Rattle.ist_core.specs.Slots.{in_row, rebuild_reads, past_rebuild, logical}
 use Rattle.ist_core.specs.Rebuilding.{IsFinishedWith}
 use Rattle.ist_core.specs.Installing.{pair_row, pair_over, FitsKind, a_put, a_pair, a_remove, a_start, a_finish}
-use Rattle.ist_core.specs.Marking.{HasTarget, CountsFor, no_key, one_key, of_child, of_target, ArePassed, past_end, one_passed, CanFinish}
+use Rattle.ist_core.specs.Marking.{CountsFor, no_key, one_key, of_child, of_target, ArePassed, past_end, one_passed, CanFinish}
 use Rattle.ist_core.specs.Growing.{AllGrow}
 use Rattle.ist_core.specs.Enabled.{Enabled}
 use Rattle.ist_core.specs.Lawful.{EachEnabled, CanOpen, state_of}
@@ -29,11 +28,10 @@ use Rattle.ist_core.proofs.SoundLemmas.{sound}
 use Rattle.ist_core.proofs.StartLemmas.{sound_start}
 use Rattle.ist_core.proofs.AddingLemmas.{IsInstalled}
 use Rattle.ist_core.proofs.GrowingLemmas.{inner_there, rebuild_there}
-use Rattle.ist_core.proofs.StepLemmas.{grow_step, known}
+use Rattle.ist_core.proofs.StepLemmas.{grow_step}
 use Rattle.ist_core.proofs.SlotLemmas.{same_inner}
 use Rattle.ist_core.proofs.ShapedLemmas.{each-flat_map}
 use Rattle.ist_core.proofs.FieldLemmas.{IsRare, Has, has_changed, has_rooted, has_step}
-use Rattle.ist_core.proofs.FrozenLemmas.{frozen_reads}
 use Rattle.ist_core.proofs.DrawLemmas.{finished_grows}
 
 -- ---- which event finishes a row

@@ -1,14 +1,14 @@
 -- The leaves below a finished row stay. Serves the order law and the laws of rebuilds.
-use Rattle.std.proofs.Common.{◌≡◌, ℕ, zero, suc, List, [], ◌∷◌, ◌++◌, length, slice_get, Option, Some, refl, sym, ap, ◌∙◌, subst, inr, arith}
+use Rattle.std.proofs.Common.{◌≡◌, ℕ, suc, List, [], ◌∷◌, length, slice_get, Option, Some, refl, sym, ap, ◌∙◌, subst, inr, arith}
 use Rattle.ist_core.specs.declared.pairs.Pair.{Pair}
 use Rattle.ist_core.specs.declared.states.LeafRow.{LeafRow}
 use Rattle.ist_core.specs.declared.states.InnerRow.{InnerRow}
 use Rattle.ist_core.specs.declared.events.Event.{Event}
-use Rattle.ist_core.specs.References.{Ref, Empty, LeafAt, InnerAt, RebuildAt, ref_of}
-use Rattle.ist_core.specs.Pieces.{Pieces, Leaf, Inner, Rebuild}
+use Rattle.ist_core.specs.References.{Ref, InnerAt, ref_of}
+use Rattle.ist_core.specs.Pieces.{Pieces, Leaf, Inner}
 use Rattle.ist_core.specs.Snapshots.{Snapshot}
 use Rattle.ist_core.specs.StartLayout.{start}
-use Rattle.ist_core.specs.Logs.{Log, state}
+use Rattle.ist_core.specs.Logs.{Log, GoesOn, same_log, one_event}
 use Rattle.ist_core.specs.Slots.{in_row, rebuild_reads, past_rebuild, logical}
 use Rattle.ist_core.specs.Leaves.{PlacedLeaf, HasLeaves, SlotsHaveLeaves, none_here, leaf_here, row_here, no_slot, one_slot}
 use Rattle.ist_core.specs.Rebuilding.{IsFinishedWith}
@@ -19,8 +19,10 @@ use Rattle.ist_core.proofs.SoundLemmas.{sound}
 use Rattle.ist_core.proofs.StartLemmas.{sound_start}
 use Rattle.ist_core.proofs.GrowingLemmas.{leaf_there, inner_there, rebuild_there}
 use Rattle.ist_core.proofs.StepLemmas.{grow_step}
+use Rattle.ist_core.proofs.FateLemmas.{grow_between}
 use Rattle.ist_core.proofs.FrozenLemmas.{frozen_reads}
-use Rattle.ist_core.proofs.FinishedLemmas.{WasPassed, finished_passed}
+use Rattle.ist_core.proofs.DrawLemmas.{finished_grows}
+use Rattle.ist_core.proofs.FinishedLemmas.{finished_passed}
 
 -- a node that is finished with some number of keys
 abbrev pub IsFinished : Snapshot → ℕ → Type 0
@@ -127,3 +129,15 @@ module _ (pairs : List Pair) (words : ℕ) (opens : CanOpen pairs words) where
                 let read = passed_reads t u g (ref_of p.word) p.keys p.counts in
                 (before ∙ read.0 ∙ sym behind, subst (λ ref. IsClosed (IsFinished t) ref) (sym before) read.1));
           }
+
+  -- and so do all events behind a log
+  pub finished_leaves_stay : (earlier log : Log) → GoesOn earlier log
+      → EachEnabled (start pairs words) log → (node : ℕ) (leaves : List PlacedLeaf)
+      → IsFinished (state_of pairs words earlier) node
+      → HasLeaves (state_of pairs words earlier).pieces (Some (InnerAt node)) leaves
+      → HasLeaves (state_of pairs words log).pieces (Some (InnerAt node)) leaves
+  finished_leaves_stay earlier _ same_log h node leaves done has = has
+  finished_leaves_stay earlier _ (one_event {log = log} event g) h node leaves done has =
+      let grows = grow_between pairs words earlier log h.0 g in
+      leaves_kept log event h node leaves (done.0, finished_grows (state_of pairs words earlier) (state_of pairs words log) node done.0 grows done.1)
+      (finished_leaves_stay earlier log g h.0 node leaves done has)

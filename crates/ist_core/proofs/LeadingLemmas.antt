@@ -1,25 +1,23 @@
 -- By which slots a key leads to a node, from the anchor on. Upward over what is named, so that it grows. Serves the order law.
-use Rattle.std.proofs.Common.{◌≡◌, ℕ, ◌<◌, ◌⊎◌, List, [], ◌∷◌, Option, Some, None, refl, sym, ap, ◌∙◌, subst, inl, inr, ⊎_elim}
+use Rattle.std.proofs.Common.{◌≡◌, ℕ, List, [], ◌∷◌, Some, None, refl, sym, ap, ◌∙◌, subst, inl, inr, ⊎_elim}
 use Rattle.ist_core.specs.declared.pairs.Pair.{Pair}
 use Rattle.ist_core.specs.declared.states.LeafRow.{LeafRow}
 use Rattle.ist_core.specs.declared.states.InnerRow.{InnerRow}
 use Rattle.ist_core.specs.declared.events.Event.{Event}
 use Rattle.ist_core.specs.Arithmetic.{child_count}
 use Rattle.ist_core.specs.RowLayout.{anchor}
-use Rattle.ist_core.specs.References.{Ref, LeafAt, InnerAt}
-use Rattle.ist_core.specs.Pieces.{Pieces, Piece, Leaf, Inner, Change, Rebuild}
+use Rattle.ist_core.specs.References.{LeafAt, InnerAt}
+use Rattle.ist_core.specs.Pieces.{Piece, Leaf, Inner, Change, Rebuild}
 use Rattle.ist_core.specs.Snapshots.{Snapshot}
 use Rattle.ist_core.specs.StartLayout.{start}
-use Rattle.ist_core.specs.Logs.{Log, state, Ever}
+use Rattle.ist_core.specs.Logs.{Log}
 use Rattle.ist_core.specs.Slots.{IsChildFor, of_anchor, of_row}
 use Rattle.ist_core.specs.Links.{Leads, from_anchor, down, WasLedTo}
-use Rattle.ist_core.specs.Growing.{AllGrow}
 use Rattle.ist_core.specs.Lawful.{EachEnabled, CanOpen, state_of}
 use Rattle.ist_core.proofs.SoundLemmas.{sound}
 use Rattle.ist_core.proofs.StartLemmas.{sound_start}
 use Rattle.ist_core.proofs.GrowingLemmas.{inner_there}
 use Rattle.ist_core.proofs.StepLemmas.{grow_step}
-use Rattle.ist_core.proofs.PlaceLemmas.{anchor_free}
 use Rattle.ist_core.proofs.SlotLemmas.{no_row, same_inner}
 use Rattle.ist_core.proofs.NamingLemmas.{WordsName, LeafHere, SlotNames, RowNames, SideNames, RootNames}
 use Rattle.ist_core.proofs.OrderLemmas.{names}
@@ -37,10 +35,11 @@ pub record LiesIn (t : Snapshot) (key node i : ℕ) : Type 0 where
   pub led : LedTo t key node
   pub child_for : IsChildFor t node key i
 
--- each leaf that is named for a slot lies where its key leads
+-- the leaf lies in slot i of the node as its key leads
 abbrev pub LeafLies : Snapshot → ℕ → ℕ → ℕ → Type 0
 LeafLies t node i leaf = (r : LeafRow) → t.pieces leaf ≡ Some (Leaf r) → LiesIn t r.key node i
 
+-- all leaves of the table lie so
 pub record LeavesLie (t : Snapshot) : Type 0 where
   pub each : (node i leaf : ℕ) → Mentions t node i (LeafAt leaf) → LeafLies t node i leaf
 
@@ -51,7 +50,8 @@ module _ (t : Snapshot) (names : WordsName t) (home : HasOneHome t) (free : t.pi
   not_anchor : (node i child : ℕ) → Mentions t node i (InnerAt child) → child ≡ anchor → ⊥
   not_anchor node i child m e = let it = mentioned_here t node i child names m in no_row t.pieces child it.0 free e it.1
 
-  parent_of : (child key : ℕ) → LedTo t key child → (node i : ℕ)
+  -- a key that leads to a row leads to the slot that the row is named for
+  pub parent_of : (child key : ℕ) → LedTo t key child → (node i : ℕ)
       → Mentions t node i (InnerAt child) → LiesIn t key node i
   parent_of _ key to_anchor node i m = absurd (not_anchor node i anchor m refl)
   parent_of child key (to_child {node = n} k led for here) node i m =

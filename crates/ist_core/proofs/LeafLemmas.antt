@@ -40,7 +40,7 @@ same_inner : (x : Option Piece) (r s : InnerRow) → x ≡ Some (Inner r) → x 
 same_inner x r s e f = cc
 
 mutual
-  same_leaves : (ps : Pieces) (ref : Option Ref) (xs ys : List PlacedLeaf) → HasLeaves ps ref xs
+  pub same_leaves : (ps : Pieces) (ref : Option Ref) (xs ys : List PlacedLeaf) → HasLeaves ps ref xs
       → HasLeaves ps ref ys → xs ≡ ys
   same_leaves ps _ _ ys none_here other = sym (reached ps (Some Empty) ys other)
   same_leaves ps _ _ ys (leaf_here {base = base} r e) other =

@@ -22,6 +22,7 @@ pub mod StartLemmas
 pub mod SpendingLemmas
 pub mod LayoutLemmas
 pub mod RisingLemmas
+pub mod SplitLemmas
 pub mod PlaceLemmas
 pub mod GrowingLemmas
 pub mod FreshLemmas
@@ -46,7 +47,7 @@ pub mod ParentLemmas
 pub mod MentionLemmas
 pub mod LeadingLemmas
 pub mod UnderLemmas
-pub mod SplitLemmas
+pub mod LyingLemmas
 pub mod BornLemmas
 pub mod ShapedLemmas
 pub mod FieldLemmas
@@ -63,6 +64,11 @@ pub mod DrawLemmas
 pub mod FinishedLemmas
 pub mod KeepingLemmas
 pub mod RootKeyLemmas
+pub mod LeafStepLemmas
+pub mod LeafBuildLemmas
+pub mod LeafInstallLemmas
+pub mod LeafOrderLemmas
+pub mod KeyLemmas
 pub mod RefusalLemmas
 pub mod PutExampleLemmas
 pub mod StartExampleLemmas

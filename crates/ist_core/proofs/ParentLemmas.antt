@@ -111,7 +111,7 @@ module _ (pairs : List Pair) (words : ℕ) (opens : CanOpen pairs words) where
       ps : Pieces
       ps = (start pairs words).pieces
 
-      hang : HangsAs (start pairs words).pieces (tree_at first_row pairs) anchor (rows_from first_row pairs) first_row (first_row + ideal_words (length pairs))
+      hang : HangsAs (start pairs words).pieces (tree_at first_row pairs) pairs anchor (rows_from first_row pairs) first_row (first_row + ideal_words (length pairs))
       hang = start_hangs pairs words opens anchor (omega arith)
 
       once : Distinct hang.rows

@@ -1,5 +1,5 @@
 -- Lists whose keys rise, cut into parts: the child for a key among the first keys of the parts. Serves the order law.
-use Rattle.std.proofs.Common.{◌≡◌, ℕ, zero, suc, ◌+◌, ◌<◌, ◌≤◌, ◌⊎◌, nat_le, Bool, true, false, cond, List, [], ◌∷◌, ◌++◌, length, take, drop, slice_get, Some, refl, sym, ap, ◌∙◌, subst, inl, inr, ⊎_elim, arith, length-drop}
+use Rattle.std.proofs.Common.{◌≡◌, ℕ, zero, suc, ◌+◌, ◌<◌, ◌≤◌, ◌⊎◌, nat_le, true, false, cond, List, [], ◌∷◌, ◌++◌, length, take, drop, slice_get, Some, refl, sym, ap, ◌∙◌, subst, inl, inr, ⊎_elim, arith, length-drop}
 use Rattle.std.proofs.lemmas.Bool.Decides.{leb_tells}
 use Rattle.std.proofs.lemmas.List.{length-take-le}
 use Rattle.std.proofs.lemmas.List.Sums.{sum_by-cons}
@@ -144,6 +144,13 @@ module _ {A : Type 0} (key : A → ℕ) where
   -- the parts of a rising list of two or more
   pub parts_rise : (xs : List A) → 2 ≤ length xs → Rises xs → PartsRise (parts xs)
   parts_rise xs two h = cut_rises (part_lens (length xs)) xs (part_lens_some (length xs) two) (let whole = sum-part_lens (length xs) in omega arith) h
+
+  -- so each of them rises
+  pub part_rises : (ps : List (List A)) (j : ℕ) (part : List A) → PartsRise ps
+      → slice_get ps j ≡ Some part → Rises part
+  part_rises [] j part h e = absurd (cc)
+  part_rises (p ∷ ps) zero part h e = let same : p ≡ part = cc in subst (λ xs. Rises xs) same h.1
+  part_rises (p ∷ ps) (suc j) part h e = part_rises ps j part h.3 e
 
   -- what is true of each key is true of the first keys
   each_first_keys : (P : ℕ → Type 0) (ps : List (List A)) → EachOf (λ x. P (key x)) ps

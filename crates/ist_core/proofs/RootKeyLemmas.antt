@@ -1,5 +1,5 @@
 -- The keys of a rebuild's root are the first keys of the parts of its target's leaves. Serves the order law at a Place.
-use Rattle.std.proofs.Common.{◌≡◌, ◌≢◌, ℕ, zero, suc, ◌<◌, ◌≤◌, ◌⊎◌, nat_lt, if◌then◌else◌, true, false, List, [], ◌∷◌, length, drop, Option, Some, refl, sym, ap, ◌∙◌, subst, inl, inr, ⊎_elim}
+use Rattle.std.proofs.Common.{◌≡◌, ◌≢◌, ℕ, zero, suc, ◌≤◌, nat_lt, if◌then◌else◌, true, false, List, [], ◌∷◌, length, drop, Option, Some, refl, sym, ap, ◌∙◌, subst, inl, inr, ⊎_elim}
 use Rattle.ist_core.specs.declared.pairs.Pair.{Pair}
 use Rattle.ist_core.specs.declared.lists.Row.{Row}
 use Rattle.ist_core.specs.declared.states.InnerRow.{InnerRow}
@@ -15,19 +15,17 @@ use Rattle.ist_core.specs.Parts.{parts, first_keys}
 use Rattle.ist_core.specs.Pieces.{Pieces, Piece, Leaf, Inner, Change, Rebuild, with_inners, changed_at, with_slot, with_status, counted, with_decision, with_root, drawn}
 use Rattle.ist_core.specs.Snapshots.{Snapshot, bases_of}
 use Rattle.ist_core.specs.StartLayout.{start, placed_parts, rows_within, rows_from}
-use Rattle.ist_core.specs.Logs.{Log, state}
+use Rattle.ist_core.specs.Logs.{Log}
 use Rattle.ist_core.specs.Leaves.{PlacedLeaf, HasLeaves}
 use Rattle.ist_core.specs.Ideals.{IsTop, IsIdeal, of_none, of_one, of_more}
 use Rattle.ist_core.specs.Installing.{pair_row, pair_over, FitsKind, a_put, a_pair, a_remove, a_start, a_finish}
-use Rattle.ist_core.specs.Building.{IsRoot, root_whole, root_top, CanRoot}
+use Rattle.ist_core.specs.Building.{IsRoot, root_whole, root_top}
 use Rattle.ist_core.specs.Growing.{AllGrow}
-use Rattle.ist_core.specs.Enabled.{Enabled}
 use Rattle.ist_core.specs.Lawful.{EachEnabled, CanOpen, state_of}
 use Rattle.ist_core.proofs.ElementLemmas.{each-among}
 use Rattle.ist_core.proofs.RowLemmas.{changed_at-some}
 use Rattle.ist_core.proofs.PieceLemmas.{among-pieces_of}
 use Rattle.ist_core.proofs.ReferenceLemmas.{ref_of-unset}
-use Rattle.ist_core.proofs.MoveLemmas.{IsSound}
 use Rattle.ist_core.proofs.SoundLemmas.{sound}
 use Rattle.ist_core.proofs.StartLemmas.{sound_start}
 use Rattle.ist_core.proofs.AddingLemmas.{IsInstalled, adds-with_inners}
@@ -41,7 +39,7 @@ use Rattle.ist_core.proofs.OrderLemmas.{names}
 use Rattle.ist_core.proofs.ShapedLemmas.{each-flat_map}
 use Rattle.ist_core.proofs.FieldLemmas.{IsPlainEvent, IsRare, Has, has_changed, has_rooted, has_step}
 use Rattle.ist_core.proofs.DrawLemmas.{finished_grows, same_rebuild}
-use Rattle.ist_core.proofs.UnderLemmas.{key_of_leaf}
+use Rattle.ist_core.proofs.SplitLemmas.{key_of_leaf}
 use Rattle.ist_core.proofs.KeepingLemmas.{IsFinished, leaves_kept}
 
 -- ---- which event gives a rebuild its root

@@ -1,5 +1,5 @@
 -- The leaves below what is named for a slot lie where their keys lead, and rise by key. Serves the order law.
-use Rattle.std.proofs.Common.{◌≡◌, ℕ, zero, suc, ◌+◌, ◌<◌, ◌≤◌, List, [], ◌∷◌, ◌++◌, slice_get, Option, Some, None, refl, sym, ap, ◌∙◌, subst, arith}
+use Rattle.std.proofs.Common.{◌≡◌, ℕ, suc, ◌+◌, ◌<◌, ◌≤◌, List, [], ◌∷◌, slice_get, Option, Some, None, refl, subst, arith}
 use Rattle.ist_core.specs.declared.states.LeafRow.{LeafRow}
 use Rattle.ist_core.specs.declared.states.InnerRow.{InnerRow}
 use Rattle.ist_core.specs.Arithmetic.{child_count}
@@ -15,11 +15,8 @@ use Rattle.ist_core.proofs.NamingLemmas.{WordsName}
 use Rattle.ist_core.proofs.HomeLemmas.{Mentions, HasOneHome}
 use Rattle.ist_core.proofs.MentionLemmas.{past_change_mentioned, child_mentioned}
 use Rattle.ist_core.proofs.RisingLemmas.{child_count_tells, Rises, AllBelow, rises_append}
+use Rattle.ist_core.proofs.SplitLemmas.{key_of_leaf}
 use Rattle.ist_core.proofs.LeadingLemmas.{LiesIn, LeavesLie, lies_above, child_is}
-
--- the key of a leaf
-abbrev pub key_of_leaf : PlacedLeaf → ℕ
-key_of_leaf leaf = leaf.row.key
 
 -- what the rows of a tree say of where keys lie: `In` of what a slot reads as, and `Lies` of a key at a slot
 pub record SaysWhere (ps : Pieces) (In : ℕ → ℕ → Option Ref → Type 0) (Lies : ℕ → ℕ → ℕ → Type 0) : Type 0 where
@@ -29,7 +26,8 @@ pub record SaysWhere (ps : Pieces) (In : ℕ → ℕ → Option Ref → Type 0) 
   pub up : (node i base j key : ℕ) → In node i (Some (InnerAt base)) → Lies key base j → Lies key node i
   pub child : (base j key : ℕ) (r : InnerRow) → ps base ≡ Some (Inner r) → Lies key base j → j ≡ child_count r.keys key
 
-each_mapped : {A : Type 0} (P Q : A → Type 0) (xs : List A) → ((x : A) → P x → Q x) → Each P xs
+-- what follows for each element
+pub each_mapped : {A : Type 0} (P Q : A → Type 0) (xs : List A) → ((x : A) → P x → Q x) → Each P xs
     → Each Q xs
 each_mapped P Q [] f h = tt
 each_mapped P Q (x ∷ xs) f h = (f x h.0, each_mapped P Q xs f h.1)
@@ -111,6 +109,7 @@ leaf_mentioned t node i word leaf o slot e = past_change_mentioned t node i word
     at (Some (ChangeAt base)) e = e
     at None e = e
 
+-- what a slot reads as is named for it
 pub slot_reads_as : (t : Snapshot) (node i word : ℕ) → WordsName t → SlotHolds t node i word
     → ReadsAs t node i (logical t.pieces word)
 slot_reads_as t node i word o slot =
