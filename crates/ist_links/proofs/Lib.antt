@@ -20,3 +20,5 @@ pub mod StartingLemmas
 pub mod RebuiltLemmas
 pub mod NewTreeLemmas
 pub mod UnlinkedLemmas
+pub mod BuiltLemmas
+pub mod WholeLemmas

@@ -46,7 +46,7 @@ ideal_among ps _ _ _ _ base (of_one same k) e = absurd (cc)
 ideal_among ps _ _ _ _ base (of_more {base = b} r top under) e = inl (let one : base ≡ b = cc in one)
 
 -- so is that of a root
-root_among : (ps : Pieces) (word k : ℕ) (leaves : List PlacedLeaf) (target : ℕ) (rows : List ℕ) (base : ℕ)
+pub root_among : (ps : Pieces) (word k : ℕ) (leaves : List PlacedLeaf) (target : ℕ) (rows : List ℕ) (base : ℕ)
     → IsRoot ps word k leaves target rows → ref_of word ≡ Some (InnerAt base) → Among base rows
 root_among ps word k leaves target rows base (root_whole ref few is ideal) e = ideal_among ps ref leaves target rows base ideal (one (ref_of word) ref (InnerAt base) is e)
   where
@@ -71,7 +71,7 @@ module _ (pairs : List Pair) (words : ℕ) (opens : CanOpen pairs words) where
       (λ log caller base part h can before set. started_grows (state_of pairs words log) (state_of pairs words (Draw caller base part ∷ log)) (grow_behind pairs words log (Draw caller base part) h) base (before set))
 
   -- a root that is an inner row is named for the slot of its rebuild
-  root_named : (log : Log) (rebuild base : ℕ) (r : RebuildRow) → (state_of pairs words log).pieces rebuild ≡ Some (Rebuild r)
+  pub root_named : (log : Log) (rebuild base : ℕ) (r : RebuildRow) → (state_of pairs words log).pieces rebuild ≡ Some (Rebuild r)
       → ref_of r.root ≡ Some (InnerAt base) → Mentions (state_of pairs words log) r.parent r.index (InnerAt base)
   root_named log rebuild base r e is = inr (rebuild, Rebuild r, e, (refl, refl, inr is))
 
@@ -83,7 +83,7 @@ module _ (pairs : List Pair) (words : ℕ) (opens : CanOpen pairs words) where
       not_the_anchor pairs words opens log h base it.0 it.1
 
   -- a word that names an inner row is set
-  inner_set : (word base : ℕ) → ref_of word ≡ Some (InnerAt base) → word ≢ unset_word
+  pub inner_set : (word base : ℕ) → ref_of word ≡ Some (InnerAt base) → word ≢ unset_word
   inner_set word base is e = clash (sym ref_of-unset ∙ ap ref_of (sym e) ∙ is)
     where
       clash : Some Unset ≡ Some (InnerAt base) → ⊥
