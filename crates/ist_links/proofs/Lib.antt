@@ -16,3 +16,9 @@ pub mod LinkLemmas
 pub mod ClosedLemmas
 pub mod UntouchedLemmas
 pub mod PairLemmas
+pub mod StartingLemmas
+pub mod RebuiltLemmas
+pub mod NewTreeLemmas
+pub mod UnlinkedLemmas
+pub mod BuiltLemmas
+pub mod WholeLemmas
