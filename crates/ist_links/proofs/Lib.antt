@@ -22,3 +22,6 @@ pub mod NewTreeLemmas
 pub mod UnlinkedLemmas
 pub mod BuiltLemmas
 pub mod WholeLemmas
+pub mod IdealLeafLemmas
+pub mod KeepingContentLemmas
+pub mod ReplacingLemmas

@@ -2,6 +2,7 @@
 ghost use Rattle.ist_links.specs.Linking.{RowsStayLinked, OpenRowsAreLinked, ChildrenOfFinishedRows};
 ghost use Rattle.ist_links.specs.Linking.{NodesWereLinked, UnresolvedChangesStand, UndecidedChangesAreUnresolved};
 ghost use Rattle.ist_links.specs.Linking.{OkayedSlotsAreUnpassed, YesIsLinked, UnlinkedChangesAreRefused};
+ghost use Rattle.ist_links.specs.Replacing.{RootsAreIdeal, UpdatesAloneChange};
 
 /// A row that was linked is linked or finished, so that one that is open still is linked. What hangs
 /// below a finished row is finished.
@@ -26,4 +27,16 @@ pub fn yes_is_linked()
     ensures linked { YesIsLinked }
     ensures unpassed { OkayedSlotsAreUnpassed }
     ensures refused { UnlinkedChangesAreRefused }
+{}
+
+/// Where a finish is decided yes, the root that it puts into its slot is the ideal subtree over
+/// exactly the leaves below the target, whose inner rows lie above the target.
+pub fn roots_are_ideal()
+    ensures ideal { RootsAreIdeal }
+{}
+
+/// Only a Decide with yes of a put or remove changes the contents: behind any other event, a rebuild's
+/// among them, the same pairs are reached from the anchor.
+pub fn updates_alone_change()
+    ensures kept { UpdatesAloneChange }
 {}
