@@ -19,3 +19,4 @@ pub mod RootLemmas
 pub mod TellLemmas
 pub mod OpeningLemmas
 pub mod ExistLemmas
+pub mod NeededLemmas
