@@ -2,12 +2,11 @@
 use Rattle.std.proofs.Common.{◌≡◌, ◌≢◌, ℕ, zero, suc, ◌+◌, ◌<◌, ◌⊎◌, ◌==◌, nat_le, if◌then◌else◌, Bool, true, false, List, [], ◌∷◌, ◌++◌, map, length, slice_get, Option, Some, None, refl, sym, ap, ◌∙◌, subst, inl, inr, ⊎_elim, arith}
 use Rattle.std.proofs.lemmas.Bool.Decides.{nat_tests}
 use Rattle.std.proofs.lemmas.List.Sums.{count_by-le-length}
-use Rattle.ist_core.specs.declared.pairs.Pair.{Pair}
 use Rattle.ist_core.specs.declared.states.InnerRow.{InnerRow}
 use Rattle.ist_core.specs.declared.states.LeafRow.{LeafRow}
 use Rattle.ist_core.specs.Arithmetic.{child_count}
 use Rattle.ist_core.specs.RowLayout.{anchor}
-use Rattle.ist_core.specs.References.{Ref, Empty, LeafAt, InnerAt}
+use Rattle.ist_core.specs.References.{Ref, LeafAt, InnerAt}
 use Rattle.ist_core.specs.Elements.{Among, Each}
 use Rattle.ist_core.specs.Naming.{HasDegree}
 use Rattle.ist_core.specs.Pieces.{Pieces, Leaf, Inner}
@@ -15,7 +14,7 @@ use Rattle.ist_core.specs.Snapshots.{Snapshot}
 use Rattle.ist_core.specs.Slots.{in_row, logical}
 use Rattle.ist_core.specs.Leaves.{PlacedLeaf, pair_of, HasLeaves, none_here, leaf_here, row_here, SlotsHaveLeaves, no_slot, one_slot}
 use Rattle.ist_core.specs.Changes.{value_in}
-use Rattle.ist_core.proofs.ElementLemmas.{among_left, among_right, each-among, each_append}
+use Rattle.ist_core.proofs.ElementLemmas.{among_left, among_right, each_append}
 use Rattle.ist_core.proofs.NamingLemmas.{WordsName}
 use Rattle.ist_core.proofs.HomeLemmas.{HasOneHome}
 use Rattle.ist_core.proofs.RisingLemmas.{Rises}
@@ -135,7 +134,7 @@ module _ (ps : Pieces) (shaped : (base : ℕ) (r : InnerRow) → ps base ≡ Som
       (λ none. subst (λ v. Finds ps key ref v) (none ∙ sym (value_of-none key (map pair_of leaves) (none_has leaves (subst (λ v. Finds ps key ref v) none it.1) found))) it.1)
       (λ w.
       let value : value_of key (map pair_of leaves) ≡ Some w.0.row.value =
-          ap (λ k. value_of k (map pair_of leaves)) (sym w.2) ∙ value_of-among (pair_of w.0) (map pair_of leaves) rise (among_pairs w.0 leaves w.1) in
+      ap (λ k. value_of k (map pair_of leaves)) (sym w.2) ∙ value_of-among (pair_of w.0) (map pair_of leaves) rise (among_pairs w.0 leaves w.1) in
       subst (λ v. Finds ps key ref v) (w.3 ∙ sym value) it.1)
       it.2.cases
     where

@@ -1,5 +1,5 @@
 -- Behind each lawful log there are contents: each event leaves leaves below what had some. Serves the changes law.
-use Rattle.std.proofs.Common.{◌≡◌, ◌≢◌, ℕ, zero, suc, ◌<◌, ◌⊎◌, true, List, [], ◌∷◌, ◌++◌, map, slice_get, Option, Some, None, refl, sym, ap, ◌∙◌, subst, inl, inr, ⊎_elim, arith}
+use Rattle.std.proofs.Common.{◌≡◌, ◌≢◌, ℕ, zero, suc, ◌<◌, true, List, [], ◌∷◌, ◌++◌, slice_get, Option, Some, refl, sym, ap, ◌∙◌, subst, ⊎_elim, arith}
 use Rattle.ist_core.specs.declared.pairs.Pair.{Pair}
 use Rattle.ist_core.specs.declared.states.InnerRow.{InnerRow}
 use Rattle.ist_core.specs.declared.states.LeafRow.{LeafRow}
@@ -7,14 +7,14 @@ use Rattle.ist_core.specs.declared.states.ChangeRow.{ChangeRow}
 use Rattle.ist_core.specs.declared.events.Event.{Event}
 use Rattle.ist_core.specs.declared.events.Event.TheVariants.{Decide}
 use Rattle.ist_core.specs.RowLayout.{anchor}
-use Rattle.ist_core.specs.References.{Ref, Empty, Unset, LeafAt, InnerAt, RebuildAt, IsGoodBase, ref_of, word_of}
+use Rattle.ist_core.specs.References.{Ref, Unset, LeafAt, InnerAt, IsGoodBase, ref_of, word_of}
 use Rattle.ist_core.specs.Statuses.{decided_yes}
 use Rattle.ist_core.specs.Pieces.{Pieces, Leaf, Inner, Change, with_decision}
 use Rattle.ist_core.specs.Snapshots.{Snapshot}
 use Rattle.ist_core.specs.StartLayout.{start}
 use Rattle.ist_core.specs.Logs.{Log}
 use Rattle.ist_core.specs.Slots.{SlotHolds, in_anchor, in_row, rebuild_reads, past_rebuild, logical}
-use Rattle.ist_core.specs.Leaves.{PlacedLeaf, HasLeaves, none_here, leaf_here, row_here, SlotsHaveLeaves, no_slot, one_slot, HasContents}
+use Rattle.ist_core.specs.Leaves.{PlacedLeaf, HasLeaves, none_here, leaf_here, row_here, SlotsHaveLeaves, no_slot, one_slot}
 use Rattle.ist_core.specs.Lawful.{EachEnabled, CanOpen, state_of}
 use Rattle.ist_core.proofs.ReferenceLemmas.{ref_of-word_of}
 use Rattle.ist_core.proofs.GrowingLemmas.{leaf_there, inner_there}
@@ -124,7 +124,7 @@ module _ (pairs : List Pair) (words : ℕ) (opens : CanOpen pairs words) (log : 
   pub tree_some : TurnsKeep → HasSome Before.pieces (logical Before.pieces Before.anchor) → HasSome Behind.pieces (logical Behind.pieces Behind.anchor)
   tree_some keep old =
       let new = some_on Before.pieces Behind.pieces (λ base r e. leaf_there Before.pieces Behind.pieces (grows_at pairs words opens log event h) base r e) (row_some keep)
-          (logical Before.pieces Before.anchor) old.leaves old.reached in
+      (logical Before.pieces Before.anchor) old.leaves old.reached in
       let it = slot_some keep anchor 0 Before.anchor (in_anchor refl refl refl) old new in
       subst (λ ref. HasSome Behind.pieces ref) (sym it.1.reads ∙ sym (ap (logical Behind.pieces) (at it.1.word it.1.holds))) it.2
     where
@@ -194,9 +194,9 @@ module _ (pairs : List Pair) (words : ℕ) (opens : CanOpen pairs words) (needs 
       → ref_of change.to ≡ Some (InnerAt pair) → HasSome Is.pieces (past_rebuild Was.pieces (ref_of change.to))
   pair_some pair key left right l r p el er to =
       let one : HasLeaves Is.pieces (logical Is.pieces (word_of (LeafAt left))) (record { base = left; row = l } ∷ []) =
-          subst (λ ref. HasLeaves Is.pieces ref (record { base = left; row = l } ∷ [])) (sym (leaf_logical Is.pieces left (good left l el))) (leaf_here l (leaf_on left l el)) in
+      subst (λ ref. HasLeaves Is.pieces ref (record { base = left; row = l } ∷ [])) (sym (leaf_logical Is.pieces left (good left l el))) (leaf_here l (leaf_on left l el)) in
       let two : HasLeaves Is.pieces (logical Is.pieces (word_of (LeafAt right))) (record { base = right; row = r } ∷ []) =
-          subst (λ ref. HasLeaves Is.pieces ref (record { base = right; row = r } ∷ [])) (sym (leaf_logical Is.pieces right (good right r er))) (leaf_here r (leaf_on right r er)) in
+      subst (λ ref. HasLeaves Is.pieces ref (record { base = right; row = r } ∷ [])) (sym (leaf_logical Is.pieces right (good right r er))) (leaf_here r (leaf_on right r er)) in
       let leaves : List PlacedLeaf = record { base = left; row = l } ∷ record { base = right; row = r } ∷ [] in
       let both : SlotsHaveLeaves Is.pieces (word_of (LeafAt left) ∷ word_of (LeafAt right) ∷ []) leaves = one_slot one (one_slot two no_slot) in
       subst (λ ref. HasSome Is.pieces (past_rebuild Was.pieces ref)) (sym to)
@@ -255,7 +255,7 @@ module _ (pairs : List Pair) (words : ℕ) (opens : CanOpen pairs words) (needs 
       at (takes_out leaf kind from is to) = subst (λ x. HasSome Is.pieces (past_rebuild Was.pieces x)) (sym to) record { leaves = []; reached = none_here }
       at (begins target rebuild kind from to has) =
           let one : past_rebuild Was.pieces (ref_of change.from) ≡ past_rebuild Was.pieces (ref_of change.to) =
-              ap (past_rebuild Was.pieces) from ∙ sym (ap (past_rebuild Was.pieces) to ∙ ap rebuild_reads has.published ∙ ap (λ x. Some (InnerAt x)) has.target_is) in
+          ap (past_rebuild Was.pieces) from ∙ sym (ap (past_rebuild Was.pieces) to ∙ ap rebuild_reads has.published ∙ ap (λ x. Some (InnerAt x)) has.target_is) in
           subst (λ x. HasSome Is.pieces x) (sym turn.from ∙ ap (λ c. past_rebuild Was.pieces (ref_of c.from)) same ∙ one) new
       at (ends rebuild row kind from e f set) = let it = n.same_leaves base change h.1.pending h.1.outcome kind in root_some it.0 it.2
 

@@ -20,3 +20,6 @@ pub mod TellLemmas
 pub mod OpeningLemmas
 pub mod ExistLemmas
 pub mod NeededLemmas
+pub mod ContentLemmas
+pub mod PositionLemmas
+pub mod EntryLemmas

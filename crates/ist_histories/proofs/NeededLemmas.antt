@@ -1,21 +1,16 @@
 -- Each lawful log has what the search law and the changes law need: the laws on linked and replaced rows give it.
-use Rattle.std.proofs.Common.{◌≡◌, ◌≢◌, ℕ, ◌<◌, ◌≤◌, nat_lt, if◌then◌else◌, true, false, List, [], ◌∷◌, Option, Some, None, refl, sym, ap, ◌∙◌, subst, inl, inr, ⊎_elim, arith}
+use Rattle.std.proofs.Common.{◌≡◌, ◌≢◌, ℕ, ◌<◌, nat_lt, true, false, List, Some, refl, sym, ap, ◌∙◌, subst, ⊎_elim, arith}
 use Rattle.std.proofs.lemmas.Bool.{cases_lt}
 use Rattle.std.proofs.lemmas.Bool.Decides.{nat_tests}
 use Rattle.ist_core.specs.declared.pairs.Pair.{Pair}
-use Rattle.ist_core.specs.declared.states.InnerRow.{InnerRow}
 use Rattle.ist_core.specs.declared.states.ChangeRow.{ChangeRow}
-use Rattle.ist_core.specs.declared.states.RebuildRow.{RebuildRow}
-use Rattle.ist_core.specs.References.{Ref, Empty, Unset, LeafAt, InnerAt, ChangeAt, RebuildAt, ref_of, word_of}
-use Rattle.ist_core.specs.Statuses.{undecided, put_kind, remove_kind, start_kind, finish_kind, finished_word}
-use Rattle.ist_core.specs.Pieces.{Pieces, Piece, Inner, Change, Rebuild}
+use Rattle.ist_core.specs.References.{LeafAt, InnerAt, ref_of}
+use Rattle.ist_core.specs.Statuses.{put_kind, finish_kind}
 use Rattle.ist_core.specs.Snapshots.{Snapshot}
 use Rattle.ist_core.specs.StartLayout.{start}
-use Rattle.ist_core.specs.Logs.{Log, Happened, Okays, Passes}
-use Rattle.ist_core.specs.Slots.{SlotHolds, rebuild_reads, past_rebuild, logical}
+use Rattle.ist_core.specs.Logs.{Log}
+use Rattle.ist_core.specs.Slots.{rebuild_reads, past_rebuild}
 use Rattle.ist_core.specs.Leaves.{PlacedLeaf, HasLeaves}
-use Rattle.ist_core.specs.Ideals.{IsIdeal, of_none, of_one, of_more}
-use Rattle.ist_core.specs.Rebuilding.{IsFinishedWith}
 use Rattle.ist_core.specs.Installing.{new_leaf, pair_over, pair_row, HasRoomFor, nothing, same_key}
 use Rattle.ist_core.specs.Deciding.{IsPending}
 use Rattle.ist_core.specs.Lawful.{EachEnabled, CanOpen, state_of}
@@ -26,7 +21,7 @@ use Rattle.ist_links.proofs.ChangeLemmas.{undecided_stands}
 use Rattle.ist_links.proofs.PairLemmas.{IsFilledPair, pair_is_filled}
 use Rattle.ist_links.proofs.WholeLemmas.{finish_is_whole}
 use Rattle.ist_links.proofs.IdealLeafLemmas.{ideal_leaves, ideal_plain}
-use Rattle.ist_histories.proofs.NeedLemmas.{IsFinished, IsPair, HasForm, into_nothing, over_leaf, beside_low, beside_high, takes_out, begins, ends, Needs, AllNeeds}
+use Rattle.ist_histories.proofs.NeedLemmas.{IsPair, HasForm, into_nothing, over_leaf, beside_low, beside_high, takes_out, begins, ends, Needs, AllNeeds}
 
 module _ (pairs : List Pair) (words : ℕ) (opens : CanOpen pairs words) (log : Log) (h : EachEnabled (start pairs words) log) where
   -- the state behind the log
@@ -91,9 +86,11 @@ module _ (pairs : List Pair) (words : ℕ) (opens : CanOpen pairs words) (log : 
       at (ends rebuild row is from e f set) =
           let w = finish_is_whole pairs words opens log h base change p.published p.unset rebuild from in
           let read : past_rebuild Here.pieces (ref_of change.from) ≡ Some (InnerAt w.row.target) = ap (past_rebuild Here.pieces) from ∙ ap rebuild_reads w.published in
-          let root : past_rebuild Here.pieces (ref_of change.to) ≡ Some w.ref = ap (past_rebuild Here.pieces) w.to_is ∙ ideal_plain Here.pieces w.ref w.leaves w.row.target w.rows w.ideal in
-          (w.leaves, subst (λ ref. HasLeaves Here.pieces ref w.leaves) (sym read) w.reached,
-          subst (λ ref. HasLeaves Here.pieces ref w.leaves) (sym root) (ideal_leaves Here.pieces w.ref w.leaves w.row.target w.rows w.ideal))
+          let root : past_rebuild Here.pieces (ref_of change.to) ≡ Some w.ref = ap (past_rebuild Here.pieces) w.to_is ∙ ideal_plain Here.pieces w.ref w.leaves w.row.target w.rows w.ideal in (
+            w.leaves,
+            subst (λ ref. HasLeaves Here.pieces ref w.leaves) (sym read) w.reached,
+            subst (λ ref. HasLeaves Here.pieces ref w.leaves) (sym root) (ideal_leaves Here.pieces w.ref w.leaves w.row.target w.rows w.ideal),
+          )
       at (into_nothing leaf k from to new) = absurd (other 1 k (λ e. omega arith))
       at (over_leaf old leaf k from is to new) = absurd (other 1 k (λ e. omega arith))
       at (beside_low o ok leaf pair k from is less to p new) = absurd (other 1 k (λ e. omega arith))

@@ -1,13 +1,13 @@
 -- The contents of a new table are its start pairs. Serves the changes law.
-use Rattle.std.proofs.Common.{◌≡◌, ℕ, zero, suc, ◌+◌, ◌≤◌, List, [], ◌∷◌, ◌++◌, length, take, drop, map, zip, Option, Some, None, refl, sym, ap, ◌∙◌, subst, inl, inr, ⊎_elim, arith, append-nil, length-drop}
-use Rattle.std.proofs.lemmas.List.{map-append, take-append-drop, length-take-le}
+use Rattle.std.proofs.Common.{◌≡◌, ℕ, zero, suc, ◌≤◌, List, [], ◌∷◌, ◌++◌, length, take, drop, map, zip, Option, Some, refl, sym, ap, ◌∙◌, subst, inl, inr, arith, length-drop}
+use Rattle.std.proofs.lemmas.List.{map-append, take-append-drop}
 use Rattle.std.proofs.lemmas.List.Sums.{sum_by-cons}
 use Rattle.std.specs.List.{sum, flat_map}
 use Rattle.ist_core.specs.declared.pairs.Pair.{Pair}
 use Rattle.ist_core.specs.declared.states.LeafRow.{LeafRow}
 use Rattle.ist_core.specs.Arithmetic.{part_lens}
 use Rattle.ist_core.specs.RowLayout.{anchor, first_row}
-use Rattle.ist_core.specs.References.{Ref, Empty, LeafAt, InnerAt, ref_of}
+use Rattle.ist_core.specs.References.{Ref, ref_of}
 use Rattle.ist_core.specs.Elements.{Among, Each}
 use Rattle.ist_core.specs.Parts.{cut, parts}
 use Rattle.ist_core.specs.Pieces.{Pieces, Piece, Leaf}
@@ -15,7 +15,7 @@ use Rattle.ist_core.specs.StartLayout.{start, tree_at, placed_parts, rows_within
 use Rattle.ist_core.specs.Slots.{past_change, past_rebuild, logical}
 use Rattle.ist_core.specs.Leaves.{PlacedLeaf, pair_of, HasLeaves, none_here, leaf_here, row_here, SlotsHaveLeaves, no_slot, one_slot, HasContents}
 use Rattle.ist_core.specs.Lawful.{CanOpen}
-use Rattle.ist_core.proofs.ElementLemmas.{among-append, among_left, among_right, each-among, each_append}
+use Rattle.ist_core.proofs.ElementLemmas.{among_left, among_right, each-among, each_append}
 use Rattle.ist_core.proofs.PieceLemmas.{among-pieces_of}
 use Rattle.ist_core.proofs.PartLemmas.{sum-part_lens}
 use Rattle.ist_core.proofs.RisingLemmas.{Rises}
@@ -131,10 +131,11 @@ rows_of fuel base (pair ∷ []) all sub = (λ r e. subst (λ p. Among p all) (on
         row_is r e = cc
 rows_of zero base (pair ∷ more ∷ pairs) all sub = tt
 rows_of (suc fuel) base (pair ∷ more ∷ pairs) all sub =
-    let xs = pair ∷ more ∷ pairs in
-    (λ r e. absurd (cc),
-    each_flat_map (IsOf all) (λ part. rows_within fuel part.0 part.1) (placed_parts base xs)
-    (λ part i. rows_of fuel part.0 part.1 all (λ p j. sub p (among_cut p part.1 (part_lens (length xs)) xs (among_zip part _ (parts xs) i) j))))
+    let xs = pair ∷ more ∷ pairs in (
+      λ r e. absurd (cc),
+      each_flat_map (IsOf all) (λ part. rows_within fuel part.0 part.1) (placed_parts base xs)
+          (λ part i. rows_of fuel part.0 part.1 all (λ p j. sub p (among_cut p part.1 (part_lens (length xs)) xs (among_zip part _ (parts xs) i) j))),
+    )
 
 -- ---- one list
 
@@ -187,7 +188,7 @@ start_contents pairs words opens =
     let it = split_leaves (λ pair. pair.key) t.pieces (tree_at first_row pairs) pairs hang.rows hang.splits in
     let reads = split_plain (λ pair. pair.key) t.pieces (tree_at first_row pairs) pairs hang.rows hang.splits t.anchor (start_anchor pairs words opens) in
     let published : (base : ℕ) (r : LeafRow) → t.pieces base ≡ Some (Leaf r) → Among (record { key = r.key; value = r.value }) pairs =
-        λ base r e. each-among (IsOf pairs) (base, Leaf r) (rows_from first_row pairs) (rows_of (length pairs) first_row pairs pairs (λ p i. i)) (among-pieces_of (rows_from first_row pairs) base (Leaf r) e) r refl in
+    λ base r e. each-among (IsOf pairs) (base, Leaf r) (rows_from first_row pairs) (rows_of (length pairs) first_row pairs pairs (λ p i. i)) (among-pieces_of (rows_from first_row pairs) base (Leaf r) e) r refl in
     let rise = rises_from_next (λ pair. pair.key) pairs opens.rising in
     record {
       leaves = it.leaves;

@@ -1,12 +1,9 @@
 -- A finish leaves what each key is given: its root has the leaves of its rebuild's target. Serves the changes law.
-use Rattle.std.proofs.Common.{◌≡◌, ◌≢◌, ℕ, List, ◌∷◌, map, Option, Some, None, refl, sym, ap, ◌∙◌, subst, inl, inr}
+use Rattle.std.proofs.Common.{◌≡◌, ◌≢◌, ℕ, List, map, Option, Some, None, refl, sym, ap, ◌∙◌, subst, inl, inr}
 use Rattle.ist_core.specs.declared.pairs.Pair.{Pair}
-use Rattle.ist_core.specs.declared.states.InnerRow.{InnerRow}
 use Rattle.ist_core.specs.declared.states.ChangeRow.{ChangeRow}
 use Rattle.ist_core.specs.declared.states.RebuildRow.{RebuildRow}
-use Rattle.ist_core.specs.RowLayout.{anchor}
 use Rattle.ist_core.specs.References.{Ref, Empty, Unset, LeafAt, InnerAt, ChangeAt, RebuildAt, ref_of, unset_word}
-use Rattle.ist_core.specs.Naming.{HasDegree}
 use Rattle.ist_core.specs.Pieces.{Piece, Inner, Change, Rebuild}
 use Rattle.ist_core.specs.Snapshots.{Snapshot}
 use Rattle.ist_core.specs.StartLayout.{start}
@@ -92,9 +89,9 @@ module _ (pairs : List Pair) (words : ℕ) (opens : CanOpen pairs words) (log : 
       let root : change.to ≡ is.row.root = to ∙ ap (λ r. r.root) (sym same) in
       let named = subst (λ ref. ReadsAs Here change.node change.index (past_rebuild Here.pieces ref)) (sym from) (target_named change.node change.index rebuild is) in
       let also = subst (λ w. ReadsAs Here change.node change.index (past_rebuild Here.pieces (ref_of w))) (sym root)
-          (root_named change.node change.index rebuild is (λ z. set (ap (λ r. r.root) (sym same) ∙ z))) in
+      (root_named change.node change.index rebuild is (λ z. set (ap (λ r. r.root) (sym same) ∙ z))) in
       let one = finds_once Here.pieces key (past_rebuild Here.pieces (ref_of change.from)) (value_of key (map pair_of leaves)) value
-          (named_value (past_rebuild Here.pieces (ref_of change.from)) leaves old change.node change.index named key) found in
+      (named_value (past_rebuild Here.pieces (ref_of change.from)) leaves old change.node change.index named key) found in
       subst (λ v. Finds Here.pieces key (past_rebuild Here.pieces (ref_of change.to)) v) one
       (named_value (past_rebuild Here.pieces (ref_of change.to)) leaves new change.node change.index also key)
     where

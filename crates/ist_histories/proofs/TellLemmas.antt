@@ -30,7 +30,7 @@ use Rattle.ist_core.proofs.OrderLemmas.{names, past_rebuild_above}
 use Rattle.ist_core.proofs.SlotStepLemmas.{slot_stays}
 use Rattle.ist_core.proofs.FreezingLemmas.{side_not_yes, same_change}
 use Rattle.ist_histories.specs.Finding.{Finds, Gives}
-use Rattle.ist_histories.specs.Weaving.{AreLegal}
+use Rattle.ist_histories.specs.Telling.{AreLegal}
 use Rattle.ist_histories.proofs.MapLemmas.{replay-append, map_told, legal_append}
 use Rattle.ist_histories.proofs.NeedLemmas.{IsFinished, HasForm, into_nothing, over_leaf, beside_low, beside_high, takes_out, begins, ends, Needs, AllNeeds}
 use Rattle.ist_histories.proofs.ReadLemmas.{side_reads, change_logical, side_yes, Turns, sound_at, grows_at, change_word}

@@ -14,7 +14,8 @@ use Rattle.ist_core.specs.Histories.{PassCalls, StandInPrefixes, Reading, readin
 use Rattle.ist_core.specs.Resting.{AllStandIn}
 use Rattle.ist_core.proofs.ElementLemmas.{among-append, each-among, among-filter}
 use Rattle.ist_histories.specs.Calls.{HasCalls}
-use Rattle.ist_histories.specs.Weaving.{AreLegal, numbered}
+use Rattle.ist_histories.specs.Telling.{AreLegal}
+use Rattle.ist_histories.specs.Weaving.{numbered}
 use Rattle.ist_histories.proofs.ChangeLemmas.{changes_on, changes_rise, read_on}
 use Rattle.ist_histories.proofs.CallLemmas.{fresh_follows}
 use Rattle.ist_histories.proofs.MapLemmas.{same_head, same_tail, same_cons, map_told, legal_append, no_entry_leaves}

@@ -1,27 +1,23 @@
 -- That the calls of passes weave into one legal history, and that a call that was learnt of comes first.
-use Rattle.std.specs.Prelude.{ℕ, ◌+◌, ◌≤◌, List, [], ◌∷◌, map}
+use Rattle.std.specs.Prelude.{ℕ, ◌+◌, ◌≤◌, List, [], ◌∷◌}
 use Rattle.ist_core.specs.declared.calls.Call.{Call}
 use Rattle.ist_core.specs.declared.pairs.Pair.{Pair}
-use Rattle.ist_core.specs.Map.{Map, map_of}
+use Rattle.ist_core.specs.Map.{map_of}
 use Rattle.ist_core.specs.Elements.{Each}
 use Rattle.ist_core.specs.Logs.{Log, GoesOn}
-use Rattle.ist_core.specs.Changes.{Entry, changes_of}
+use Rattle.ist_core.specs.Changes.{changes_of}
+use Rattle.ist_core.specs.Lawful.{Lawful}
 use Rattle.ist_core.specs.Standing.{Follows, IsFresh}
-use Rattle.ist_core.specs.Histories.{PassCalls, StandInPrefixes, told_by_entry, woven, IsLegal}
+use Rattle.ist_core.specs.Histories.{PassCalls, StandInPrefixes, woven, IsLegal}
 use Rattle.ist_core.specs.Resting.{AllStandIn}
 use Rattle.ist_histories.specs.Calls.{HasCalls}
 
--- the changes alone are a legal history: each has the reply of the map at its place
-abbrev pub AreLegal : Map → List Entry → Type 0
-AreLegal m entries = IsLegal m (map told_by_entry entries)
-
--- passes that stand in prefixes of one log, whose changes alone are legal, have one legal history. With two passes it is the
--- clause of two that meet: the one stands in its own log, the other in that of its note, and the log of who met goes on from both
+-- passes that stand in prefixes of one lawful log have one legal history. With two passes it is the clause of two that meet:
+-- the one stands in its own log, the other in that of its note, and the log of who met goes on from both
 abbrev pub WovenIsLegal : Type 0
 WovenIsLegal =
-    (pairs : List Pair) (words : ℕ) (log : Log) (passes : List PassCalls)
-    → AreLegal (map_of pairs) (changes_of pairs words log)
-    → StandInPrefixes pairs words log passes
+    (pairs : List Pair) (words : ℕ) (log : Log) → Lawful pairs words log
+    → (passes : List PassCalls) → StandInPrefixes pairs words log passes
     → IsLegal (map_of pairs) (woven (changes_of pairs words log) passes)
 
 -- lists of calls as passes, numbered from this number on
@@ -32,9 +28,8 @@ numbered number (calls ∷ more) = record { number = number; calls = calls } ∷
 -- so have the passes that were taken back, by their numbers
 abbrev pub TakenBackIsLegal : Type 0
 TakenBackIsLegal =
-    (pairs : List Pair) (words : ℕ) (log : Log) (taken : List (List Call))
-    → AreLegal (map_of pairs) (changes_of pairs words log)
-    → AllStandIn pairs words log 0 taken
+    (pairs : List Pair) (words : ℕ) (log : Log) → Lawful pairs words log
+    → (taken : List (List Call)) → AllStandIn pairs words log 0 taken
     → IsLegal (map_of pairs) (woven (changes_of pairs words log) (numbered 0 taken))
 
 -- each call that a pass has learnt of comes before a call that is fresh: at no higher position, and with a lower stamp. What is
