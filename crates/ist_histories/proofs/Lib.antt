@@ -23,3 +23,4 @@ pub mod NeededLemmas
 pub mod ContentLemmas
 pub mod PositionLemmas
 pub mod EntryLemmas
+pub mod WordLemmas

@@ -1,11 +1,13 @@
 -- Loads: what each tells of the table at its own moment.
-use Rattle.std.specs.Prelude.{◌≡◌, ℕ, ◌+◌, ◌-◌, ◌≤◌, List, drop, length, slice_get, Some}
+use Rattle.std.specs.Prelude.{◌≡◌, ℕ, ◌+◌, ◌-◌, ◌<◌, ◌≤◌, ◌⊎◌, List, drop, length, slice_get, Some, None}
 use Rattle.ist_core.specs.declared.pairs.Pair.{Pair}
 use Rattle.ist_core.specs.RowLayout.{anchor_slot_place}
 use Rattle.ist_core.specs.Pieces.{Piece, words_of}
 use Rattle.ist_core.specs.Snapshots.{Snapshot}
+use Rattle.ist_core.specs.Images.{IsImage}
 use Rattle.ist_core.specs.Logs.{Log}
-use Rattle.ist_core.specs.Lawful.{state_of}
+use Rattle.ist_core.specs.Lawful.{Lawful, state_of}
+use Rattle.ist_core.specs.Rows.{IsSetAside}
 
 -- a load: its place, the word that it gave, and how many events the log had then
 pub record Load : Type 0 where
@@ -36,3 +38,26 @@ pub record IsLoad (pairs : List Pair) (words : ℕ) (log : Log) (place least : �
   pub place_is : load.place ≡ place
   pub since : least ≤ load.length
   pub within : load.length ≤ length log
+
+-- ---- what ties a load to the words of the table
+
+-- a word that the table has at a place stands there in the image
+abbrev pub WordsStandInTheImage : Type 0
+WordsStandInTheImage =
+    (t : Snapshot) (image : List ℕ) → IsImage t image → (place word : ℕ) → HasWord t place word
+    → slice_get image place ≡ Some word
+
+-- the table has one word at a place
+abbrev pub WordsAreOne : Type 0
+WordsAreOne =
+    (pairs : List Pair) (words : ℕ) (log : Log) → Lawful pairs words log → (place word other : ℕ)
+    → HasWord (state_of pairs words log) place word → HasWord (state_of pairs words log) place other
+    → word ≡ other
+
+-- such a place lies in no row that is held or was lost: in none that was set aside and isn't published
+abbrev pub WordsLieInNoOtherRow : Type 0
+WordsLieInNoOtherRow =
+    (pairs : List Pair) (words : ℕ) (log : Log) → Lawful pairs words log → (place word base size : ℕ)
+    → HasWord (state_of pairs words log) place word
+    → IsSetAside pairs words log base size → (state_of pairs words log).pieces base ≡ None
+    → (place < base) ⊎ (base + size ≤ place)

@@ -3,6 +3,7 @@ ghost use Rattle.ist_histories.specs.Telling.{TreeGivesTheMap, ContentsAreThePai
 ghost use Rattle.ist_histories.specs.Telling.{UpdatesHaveEntries, EntriesAreUpdates, EntriesAreOnce, EntriesAreOfOne, EntriesChangeTheMap};
 ghost use Rattle.ist_histories.specs.Calls.{ChangesGoOn, CallsStandOn, ReadingsStand, UpdatesStand};
 ghost use Rattle.ist_histories.specs.Weaving.{WovenIsLegal, TakenBackIsLegal, LearntCallsComeFirst};
+ghost use Rattle.ist_histories.specs.Loads.{WordsStandInTheImage, WordsAreOne, WordsLieInNoOtherRow};
 ghost use Rattle.ist_histories.specs.Searching.{SearchesHaveAPosition, SearchesStand, SlotLoadsHold, NodesWereMet, LooksGoUp};
 
 /// The changes of a log are what happened to the map. Behind them the tree gives each key what the
@@ -38,6 +39,14 @@ pub fn calls_stand_on()
 pub fn calls_are_added()
     ensures reading { ReadingsStand }
     ensures update { UpdatesStand }
+{}
+
+/// The table has one word at each place of a published row and in the anchor's slot; it stands there
+/// in the image, and in no row that is held or was lost.
+pub fn words_are_told()
+    ensures image { WordsStandInTheImage }
+    ensures one { WordsAreOne }
+    ensures elsewhere { WordsLieInNoOtherRow }
 {}
 
 /// A search that began at the anchor, and loaded each slot at a moment of its own, has the reply of
