@@ -24,3 +24,6 @@ pub mod ContentLemmas
 pub mod PositionLemmas
 pub mod EntryLemmas
 pub mod WordLemmas
+pub mod RefusedExampleLemmas
+pub mod CallExampleLemmas
+pub mod SearchExampleLemmas

@@ -11,7 +11,7 @@ use Rattle.ist_core.proofs.ElementLemmas.{each-among}
 use Rattle.ist_core.proofs.RisingLemmas.{Rises}
 
 -- the value of the key in the list, if a pair has it
-pub value_of : ℕ → List Pair → Option ℕ
+unfoldable pub value_of : ℕ → List Pair → Option ℕ
 value_of key [] = None
 value_of key (pair ∷ pairs) = if pair.key == key then Some pair.value else value_of key pairs
 

@@ -5,3 +5,4 @@ pub mod Calls
 pub mod Weaving
 pub mod Loads
 pub mod Searching
+pub mod ExampleCalls

@@ -4,4 +4,5 @@
 //! `specs/Lib.antt` gives the statements in reading order. Stands on `ist_core`.
 #![tactic(auto)]
 
+pub mod examples;
 pub mod laws;
