@@ -2,6 +2,7 @@ pub mod ChangeLemmas
 pub mod CallLemmas
 pub mod MapLemmas
 pub mod WovenLemmas
+pub mod OnceLemmas
 pub mod ReadLemmas
 pub mod PassLemmas
 pub mod NeedLemmas

@@ -136,7 +136,7 @@ module _ (pairs : List Pair) (words : ℕ) (opens : CanOpen pairs words) (needs 
   led_here : IsUpdate change.kind → IsLedHere
   led_here update =
       let pending = h.1.pending in
-      let by_key = came pairs words opens log h.0 base change pending.published update in
+      let by_key = came pairs words log h.0 base change pending.published update in
       let never : IsFinished Before change.node → ⊥ = unfinished pairs words opens log h.0 needed base change pending h.1.outcome in
       let led : Leads Before change.key change.node =
       ⊎_elim (λ x. x) (λ w. absurd (never (finished_grows (state_of pairs words w.at) Before (grow_between pairs words w.at log h.0 w.until) change.node w.finished)))

@@ -76,14 +76,14 @@ among-put_in x y (z ∷ ys) h = at (among-put_in x y ys) (comes_first y z) h
     at again false (inl e) = inr (inl e)
     at again false (inr h) = ⊎_elim (λ e. inl e) (λ i. inr (inr i)) (again h)
 
-among-in_order : (x : Reading) (xs : List Reading) → Among x (in_order xs) → Among x xs
+pub among-in_order : (x : Reading) (xs : List Reading) → Among x (in_order xs) → Among x xs
 among-in_order x [] h = h
 among-in_order x (y ∷ xs) h = ⊎_elim (λ e. inl e) (λ i. inr (among-in_order x xs i)) (among-put_in x y (in_order xs) h)
 
 -- a reading is a call of its pass that changes nothing
-record IsOf (pass : PassCalls) (x : Reading) : Type 0 where
-  call : Among x.call pass.calls
-  plain : is_change x.call ≡ false
+pub record IsOf (pass : PassCalls) (x : Reading) : Type 0 where
+  pub call : Among x.call pass.calls
+  pub plain : is_change x.call ≡ false
 
 among_numbered : (number : ℕ) (calls : List Call) (x : Reading)
     → Among x (map (λ call. record { number = number; call = call }) calls) → Among x.call calls
@@ -100,7 +100,7 @@ of_pass pass x h =
     untold false e = refl
     untold true e = absurd (cc)
 
-of_passes : (passes : List PassCalls) (x : Reading) → Among x (readings passes)
+pub of_passes : (passes : List PassCalls) (x : Reading) → Among x (readings passes)
     → (pass : PassCalls) × Among pass passes × IsOf pass x
 of_passes [] x h = absurd h
 of_passes (pass ∷ passes) x h =

@@ -2,7 +2,7 @@
 ghost use Rattle.ist_histories.specs.Telling.{TreeGivesTheMap, ContentsAreThePairs, PairsRise, ChangesAreLegal};
 ghost use Rattle.ist_histories.specs.Telling.{UpdatesHaveEntries, EntriesAreUpdates, EntriesAreOnce, EntriesAreOfOne, EntriesChangeTheMap};
 ghost use Rattle.ist_histories.specs.Calls.{ChangesGoOn, CallsStandOn, ReadingsStand, UpdatesStand};
-ghost use Rattle.ist_histories.specs.Weaving.{WovenIsLegal, TakenBackIsLegal, LearntCallsComeFirst};
+ghost use Rattle.ist_histories.specs.Weaving.{WovenIsLegal, WovenHasEachCall, TakenBackIsLegal, LearntCallsComeFirst};
 ghost use Rattle.ist_histories.specs.Loads.{WordsStandInTheImage, WordsAreOne, WordsLieInNoOtherRow};
 ghost use Rattle.ist_histories.specs.Searching.{SearchesHaveAPosition, SearchesStand, SlotLoadsHold, NodesWereMet, LooksGoUp};
 
@@ -67,9 +67,11 @@ pub fn searches_go_up()
 {}
 
 /// Calls of some passes, each standing in a prefix of one lawful log, are woven into one legal
-/// history. A call that a pass has learnt of has no later place than a call that is fresh.
+/// history, which has each change and each other call once. A call that a pass has learnt of has no
+/// later place than a call that is fresh.
 pub fn calls_are_woven()
     ensures woven { WovenIsLegal }
+    ensures once { WovenHasEachCall }
     ensures taken_back { TakenBackIsLegal }
     ensures learnt { LearntCallsComeFirst }
 {}
