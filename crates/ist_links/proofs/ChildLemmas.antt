@@ -20,7 +20,8 @@ use Rattle.ist_core.proofs.GrowingLemmas.{rebuild_there}
 use Rattle.ist_links.proofs.FormLemmas.{IsFormed, of_finish, of_leaf_put, of_pair_put, of_remove, of_start}
 use Rattle.ist_links.proofs.FormedLemmas.{changes_are_formed}
 use Rattle.ist_links.proofs.InductionLemmas.{grow_behind}
-use Rattle.ist_links.proofs.ReadLemmas.{ReadsAs, Turns, decide_reads, reads_step, turned_by}
+use Rattle.ist_links.proofs.ReadLemmas.{ReadsAs, Turns, decide_reads, turned_by}
+use Rattle.ist_links.proofs.ReadStepLemmas.{reads_step}
 
 -- what a slot reads as, and its child
 pub read_child : (t : Snapshot) (node i child : ℕ) (ref : Ref) → ReadsAs t node i ref

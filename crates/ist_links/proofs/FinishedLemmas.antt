@@ -83,7 +83,7 @@ passed_finished t _ _ child (of_target {target = target} {k = k} h f) e =
     one_inner a b e = cc
 
 -- a row keeps its number of slots
-same_length : (ps qs : Pieces) → AllGrow ps qs → (base : ℕ) (r s : InnerRow) → ps base ≡ Some (Inner r)
+pub same_length : (ps qs : Pieces) → AllGrow ps qs → (base : ℕ) (r s : InnerRow) → ps base ≡ Some (Inner r)
     → qs base ≡ Some (Inner s) → length s.slots ≡ length r.slots
 same_length ps qs g base r s e f =
     let it = inner_there ps qs g base r e in

@@ -26,7 +26,8 @@ use Rattle.ist_links.proofs.FormedLemmas.{changes_are_formed}
 use Rattle.ist_links.proofs.IdealLeafLemmas.{decided_stands, ideal_leaves, ideal_plain}
 use Rattle.ist_links.proofs.InductionLemmas.{grow_behind}
 use Rattle.ist_links.proofs.NewTreeLemmas.{ideal_kept}
-use Rattle.ist_links.proofs.ReadLemmas.{ReadsAs, Turns, decide_reads, reads_step, turned_by}
+use Rattle.ist_links.proofs.ReadLemmas.{ReadsAs, Turns, decide_reads, turned_by}
+use Rattle.ist_links.proofs.ReadStepLemmas.{reads_step}
 use Rattle.ist_links.proofs.WholeLemmas.{finish_is_whole}
 
 -- ---- leaves, from one table to another

@@ -9,6 +9,7 @@ pub mod ChangeLemmas
 pub mod FormLemmas
 pub mod FormedLemmas
 pub mod ReadLemmas
+pub mod ReadStepLemmas
 pub mod PassLemmas
 pub mod FinishedLemmas
 pub mod ChildLemmas
@@ -25,3 +26,4 @@ pub mod WholeLemmas
 pub mod IdealLeafLemmas
 pub mod KeepingContentLemmas
 pub mod ReplacingLemmas
+pub mod NumberLemmas

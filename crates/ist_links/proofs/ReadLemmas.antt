@@ -3,16 +3,18 @@
 use Rattle.std.proofs.Common.{Bool, List, None, Option, Some, ap, arith, false, inl, inr, option_map, refl, subst, sym, true, ℕ, ⊎_elim, ◌∙◌, ◌∷◌, ◌≡◌, ◌≢◌, ◌⊎◌}
 use Rattle.std.proofs.lemmas.Bool.Decides.{eqb_tells, nat_tests}
 use Rattle.ist_core.specs.declared.events.Event.{Event}
-use Rattle.ist_core.specs.declared.events.Event.TheVariants.{Count, Decide, Draw, Enter, Finish, Install, Lose, Mark, Okay, Pass, Place, Reserve, Resolve, Root}
+use Rattle.ist_core.specs.declared.events.Event.TheVariants.{Decide, Install, Place, Resolve}
 use Rattle.ist_core.specs.declared.lists.Row.{Row}
 use Rattle.ist_core.specs.declared.pairs.Pair.{Pair}
 use Rattle.ist_core.specs.declared.states.ChangeRow.{ChangeRow}
 use Rattle.ist_core.specs.After.{decision_word, side_of}
+use Rattle.ist_core.specs.Building.{CanPlace}
 use Rattle.ist_core.specs.Deciding.{CanDecide}
 use Rattle.ist_core.specs.Lawful.{CanOpen, EachEnabled, state_of}
 use Rattle.ist_core.specs.Logs.{Log, state}
 use Rattle.ist_core.specs.Pieces.{Change, Inner, Leaf, Piece, Pieces, Rebuild, changed_at, with_decision}
 use Rattle.ist_core.specs.References.{ChangeAt, Empty, InnerAt, LeafAt, RebuildAt, Ref, Unset, ref_of, word_of}
+use Rattle.ist_core.specs.RowLayout.{anchor}
 use Rattle.ist_core.specs.Slots.{SlotHolds, change_reads, past_change}
 use Rattle.ist_core.specs.Snapshots.{Snapshot}
 use Rattle.ist_core.specs.StartLayout.{start}
@@ -25,6 +27,7 @@ use Rattle.ist_core.proofs.OrderLemmas.{names}
 use Rattle.ist_core.proofs.PlaceLemmas.{anchor_free}
 use Rattle.ist_core.proofs.ReferenceLemmas.{ref_of-unset}
 use Rattle.ist_core.proofs.RowLemmas.{changed_at-other, changed_at-same}
+use Rattle.ist_core.proofs.SlotLemmas.{slot_once}
 use Rattle.ist_core.proofs.SlotStepLemmas.{IsNoDecide, WritesNoSlot, change_stays, install_stands, install_writes, place_writes, resolve_writes, slot_stays}
 use Rattle.ist_links.proofs.ChangeLemmas.{undecided_stands}
 use Rattle.ist_links.proofs.InductionLemmas.{sound_behind}
@@ -40,6 +43,12 @@ pub data Turns (first : Snapshot) (log : Log) (node i : ℕ) (ref : Ref) : Event
   turned_by : {caller base : ℕ} (h : CanDecide (state first log) log caller base true)
       → h.change.node ≡ node → h.change.index ≡ i → ref_of h.change.from ≡ Some ref
       → Turns first log node i ref (Decide caller base true)
+
+-- the event puts a part into slot i of the node, which wasn't set
+pub data Fills (first : Snapshot) (log : Log) (node i : ℕ) (ref : Ref) : Event → Type 0 where
+  filled_by : {caller rebuild j word : ℕ} {rows : List Row}
+      (h : CanPlace (state first log) caller rebuild j word rows)
+      → node ≡ h.root → i ≡ j → ref ≡ Unset → Fills first log node i ref (Place caller rebuild j word rows)
 
 -- ---- references
 
@@ -77,6 +86,14 @@ past_same ps qs (Some (InnerAt base)) ref same e = e
 past_same ps qs (Some (RebuildAt base)) ref same e = e
 past_same ps qs None ref same e = e
 
+-- a slot reads as one thing
+pub reads_once : (t : Snapshot) (node i : ℕ) (a b : Ref) → t.pieces anchor ≡ None → ReadsAs t node i a → ReadsAs t node i b → a ≡ b
+reads_once t node i a b free r s =
+    one (past_change t.pieces (ref_of r.word)) r.reads (ap (λ w. past_change t.pieces (ref_of w)) (slot_once t node i r.word s.word free r.holds s.holds) ∙ s.reads)
+  where
+    one : (o : Option Ref) → o ≡ Some a → o ≡ Some b → a ≡ b
+    one o x y = cc
+
 -- ---- sides
 
 -- an undecided change leaves `from`, one that was decided no too, and one that was decided yes `to`
@@ -103,7 +120,7 @@ side_plain ps node i None h base e = absurd (cc)
 -- ---- events
 
 -- what a slot reads as behind an event
-abbrev Reading : List Pair → ℕ → Log → ℕ → ℕ → Ref → Event → Type 0
+abbrev pub Reading : List Pair → ℕ → Log → ℕ → ℕ → Ref → Event → Type 0
 Reading pairs words log node i ref event =
     ReadsAs (state_of pairs words (event ∷ log)) node i ref ⊎ Turns (start pairs words) log node i ref event
 
@@ -116,7 +133,7 @@ module _ (pairs : List Pair) (words : ℕ) (opens : CanOpen pairs words) where
       ap (past_change (state_of pairs words log).pieces) (change_read pairs words opens log h base x e) ∙ ap change_reads e
 
   -- an event that writes no slot and decides nothing
-  reads_quiet : (log : Log) (event : Event) → EachEnabled (start pairs words) (event ∷ log)
+  pub reads_quiet : (log : Log) (event : Event) → EachEnabled (start pairs words) (event ∷ log)
       → WritesNoSlot event → IsNoDecide event → (node i : ℕ) (ref : Ref)
       → ReadsAs (state_of pairs words log) node i ref → Reading pairs words log node i ref event
   reads_quiet log event h none still node i ref r =
@@ -142,7 +159,7 @@ module _ (pairs : List Pair) (words : ℕ) (opens : CanOpen pairs words) where
       }
 
   -- a change that is installed reads as what it takes out
-  reads_install : (log : Log) (caller base : ℕ) (rows : List Row)
+  pub reads_install : (log : Log) (caller base : ℕ) (rows : List Row)
       → (h : EachEnabled (start pairs words) (Install caller base rows ∷ log)) → (node i : ℕ) (ref : Ref)
       → ReadsAs (state_of pairs words log) node i ref
       → Reading pairs words log node i ref (Install caller base rows)
@@ -165,7 +182,7 @@ module _ (pairs : List Pair) (words : ℕ) (opens : CanOpen pairs words) where
       (writes.others node i r.word r.holds)
 
   -- what a change leaves behind reads as the change did
-  reads_resolve : (log : Log) (caller base : ℕ)
+  pub reads_resolve : (log : Log) (caller base : ℕ)
       → (h : EachEnabled (start pairs words) (Resolve caller base ∷ log)) → (node i : ℕ) (ref : Ref)
       → ReadsAs (state_of pairs words log) node i ref
       → Reading pairs words log node i ref (Resolve caller base)
@@ -189,23 +206,23 @@ module _ (pairs : List Pair) (words : ℕ) (opens : CanOpen pairs words) where
       (writes.others node i r.word r.holds)
 
   -- a Place writes a slot that wasn't set
-  reads_place : (log : Log) (caller rebuild j word : ℕ) (rows : List Row)
-      → EachEnabled (start pairs words) (Place caller rebuild j word rows ∷ log) → (node i : ℕ) (ref : Ref)
-      → ref ≢ Unset → ReadsAs (state_of pairs words log) node i ref
-      → Reading pairs words log node i ref (Place caller rebuild j word rows)
-  reads_place log caller rebuild j word rows h node i ref set r =
+  pub reads_place : (log : Log) (caller rebuild j word : ℕ) (rows : List Row)
+      → (h : EachEnabled (start pairs words) (Place caller rebuild j word rows ∷ log))
+      → (node i : ℕ) (ref : Ref) → ReadsAs (state_of pairs words log) node i ref
+      → Reading pairs words log node i ref (Place caller rebuild j word rows) ⊎ Fills (start pairs words) log node i ref (Place caller rebuild j word rows)
+  reads_place log caller rebuild j word rows h node i ref r =
       let t = state_of pairs words log in
       let writes = place_writes t caller rebuild j word rows h.1 (sound_behind pairs words log h.0) (anchor_free pairs words log h.0) in
       ⊎_elim
-      (λ w. absurd (set (one_ref (past_change t.pieces (ref_of r.word)) ref Unset r.reads (ap (λ v. past_change t.pieces (ref_of v)) w.0 ∙ ap (past_change t.pieces) ref_of-unset))))
-      (λ stays. inl (reads_left log (Place caller rebuild j word rows) h tt node i ref r stays))
+      (λ w. inr (filled_by h.1 w.1 w.2 (one_ref (past_change t.pieces (ref_of r.word)) ref Unset r.reads (ap (λ v. past_change t.pieces (ref_of v)) w.0 ∙ ap (past_change t.pieces) ref_of-unset))))
+      (λ stays. inl (inl (reads_left log (Place caller rebuild j word rows) h tt node i ref r stays)))
       (writes.others node i r.word r.holds)
     where
       one_ref : (o : Option Ref) (a b : Ref) → o ≡ Some a → o ≡ Some b → a ≡ b
       one_ref o a b x y = cc
 
   -- a Decide turns the slot of its change, or leaves what it reads as
-  reads_decide : (log : Log) (caller base : ℕ) (said : Bool)
+  pub reads_decide : (log : Log) (caller base : ℕ) (said : Bool)
       → EachEnabled (start pairs words) (Decide caller base said ∷ log) → (node i : ℕ) (ref : Ref)
       → ReadsAs (state_of pairs words log) node i ref
       → Reading pairs words log node i ref (Decide caller base said)
@@ -279,22 +296,3 @@ module _ (pairs : List Pair) (words : ℕ) (opens : CanOpen pairs words) where
             (undecided_stands pairs words opens log h.0 base x e none);
         reads = change_past (Decide caller base true ∷ log) h base (record x { decision = decided_yes }) (changed_at-same t.pieces base f ∙ ap (option_map f) e) ∙ is;
       }
-
-  -- what a slot reads as it reads as behind each event, or the event decides yes a change of it
-  pub reads_step : (log : Log) (event : Event) → EachEnabled (start pairs words) (event ∷ log)
-      → (node i : ℕ) (ref : Ref) → ref ≢ Unset → ReadsAs (state_of pairs words log) node i ref
-      → Reading pairs words log node i ref event
-  reads_step log (Install caller base rows) h node i ref set r = reads_install log caller base rows h node i ref r
-  reads_step log (Resolve caller base) h node i ref set r = reads_resolve log caller base h node i ref r
-  reads_step log (Place caller rebuild j word rows) h node i ref set r = reads_place log caller rebuild j word rows h node i ref set r
-  reads_step log (Decide caller base said) h node i ref set r = reads_decide log caller base said h node i ref r
-  reads_step log (Enter caller) h node i ref set r = reads_quiet log (Enter caller) h tt tt node i ref r
-  reads_step log (Reserve caller b size) h node i ref set r = reads_quiet log (Reserve caller b size) h tt tt node i ref r
-  reads_step log (Okay caller change) h node i ref set r = reads_quiet log (Okay caller change) h tt tt node i ref r
-  reads_step log (Count caller n) h node i ref set r = reads_quiet log (Count caller n) h tt tt node i ref r
-  reads_step log (Mark caller n) h node i ref set r = reads_quiet log (Mark caller n) h tt tt node i ref r
-  reads_step log (Pass caller n j word) h node i ref set r = reads_quiet log (Pass caller n j word) h tt tt node i ref r
-  reads_step log (Finish caller n keys) h node i ref set r = reads_quiet log (Finish caller n keys) h tt tt node i ref r
-  reads_step log (Root caller rebuild word rows) h node i ref set r = reads_quiet log (Root caller rebuild word rows) h tt tt node i ref r
-  reads_step log (Draw caller rebuild part) h node i ref set r = reads_quiet log (Draw caller rebuild part) h tt tt node i ref r
-  reads_step log (Lose caller bases) h node i ref set r = reads_quiet log (Lose caller bases) h tt tt node i ref r

@@ -1,5 +1,5 @@
 -- Which changes name a rebuild: one start and its finishes, all of one slot. Serves the replacement law.
-use Rattle.std.proofs.Common.{List, None, Option, Some, ap, arith, inl, inr, subst, sym, ℕ, ◌∙◌, ◌∷◌, ◌≡◌, ◌⊎◌}
+use Rattle.std.proofs.Common.{List, None, Some, ap, arith, inl, inr, subst, sym, ℕ, ◌∙◌, ◌∷◌, ◌≡◌, ◌⊎◌}
 use Rattle.ist_core.specs.declared.events.Event.{Event}
 use Rattle.ist_core.specs.declared.events.Event.TheVariants.{Decide, Install}
 use Rattle.ist_core.specs.declared.lists.Row.{Row}
@@ -11,8 +11,7 @@ use Rattle.ist_core.specs.Logs.{Log}
 use Rattle.ist_core.specs.Pieces.{Change, Rebuild, row_at}
 use Rattle.ist_core.specs.Rebuilding.{IsStarted}
 use Rattle.ist_core.specs.References.{ChangeAt, Empty, InnerAt, LeafAt, RebuildAt, Ref, ref_of, word_of}
-use Rattle.ist_core.specs.RowLayout.{anchor}
-use Rattle.ist_core.specs.Slots.{SlotHolds, past_change}
+use Rattle.ist_core.specs.Slots.{SlotHolds}
 use Rattle.ist_core.specs.Snapshots.{HoldsRows, Snapshot}
 use Rattle.ist_core.specs.StartLayout.{start}
 use Rattle.ist_core.specs.Statuses.{decided_yes, start_kind, undecided}
@@ -75,15 +74,6 @@ pub side_rebuild : (t : Snapshot) → WordsName t → (base : ℕ) (x : ChangeRo
     → IsRebuildFor t.pieces x.node x.index rebuild
 side_rebuild t o base x e rebuild (inl from) = subst (λ r. SideNames t.pieces x.node x.index r) from (o.rows base (Change x) e).0
 side_rebuild t o base x e rebuild (inr to) = subst (λ r. SideNames t.pieces x.node x.index r) to (o.rows base (Change x) e).1
-
--- ---- what a slot reads as, once
-
-pub reads_once : (t : Snapshot) (node i : ℕ) (a b : Ref) → t.pieces anchor ≡ None → ReadsAs t node i a → ReadsAs t node i b → a ≡ b
-reads_once t node i a b free r s =
-    one (past_change t.pieces (ref_of r.word)) r.reads (ap (λ w. past_change t.pieces (ref_of w)) (slot_once t node i r.word s.word free r.holds s.holds) ∙ s.reads)
-  where
-    one : (o : Option Ref) → o ≡ Some a → o ≡ Some b → a ≡ b
-    one o x y = cc
 
 module _ (pairs : List Pair) (words : ℕ) (opens : CanOpen pairs words) where
   -- an undecided change reads as what it takes out

@@ -1,5 +1,5 @@
 -- The laws over lawful logs on rebuilds and on the contents. `src/laws.rt` lists them.
-use Rattle.std.specs.Prelude.{List, Some, true, ℕ, ◌∷◌, ◌≡◌}
+use Rattle.std.specs.Prelude.{List, Some, length, true, ℕ, ◌∷◌, ◌≡◌}
 use Rattle.ist_core.specs.declared.events.Event.{Event}
 use Rattle.ist_core.specs.declared.events.Event.TheVariants.{Decide}
 use Rattle.ist_core.specs.declared.pairs.Pair.{Pair}
@@ -10,7 +10,7 @@ use Rattle.ist_core.specs.Lawful.{Lawful, state_of}
 use Rattle.ist_core.specs.Leaves.{HasContents, HasLeaves, PlacedLeaf}
 use Rattle.ist_core.specs.Logs.{Log}
 use Rattle.ist_core.specs.Pieces.{Change, Rebuild}
-use Rattle.ist_core.specs.Rebuilding.{IsUpdate}
+use Rattle.ist_core.specs.Rebuilding.{IsFinishedWith, IsUpdate}
 use Rattle.ist_core.specs.References.{InnerAt, RebuildAt, Ref, ref_of}
 use Rattle.ist_core.specs.Snapshots.{Snapshot}
 
@@ -54,3 +54,12 @@ UpdatesAloneChange =
     → LeavesContents (state_of pairs words log) event → (contents : List Pair)
     → HasContents (state_of pairs words log) contents
     → HasContents (state_of pairs words (event ∷ log)) contents
+
+-- ---- finished rows
+
+-- a finished row's number is the number of leaves below it
+abbrev pub NumbersCountLeaves : Type 0
+NumbersCountLeaves =
+    (pairs : List Pair) (words : ℕ) (log : Log) → Lawful pairs words log → (node k : ℕ) (leaves : List PlacedLeaf)
+    → IsFinishedWith (state_of pairs words log) node k
+    → HasLeaves (state_of pairs words log).pieces (Some (InnerAt node)) leaves → length leaves ≡ k
