@@ -48,6 +48,13 @@ ideal_reads ps _ _ _ _ of_none = refl
 ideal_reads ps _ _ _ _ (of_one same e) = refl
 ideal_reads ps _ _ _ _ (of_more r top under) = refl
 
+-- in any table
+pub ideal_reads_any : (us ps : Pieces) (ref : Ref) (leaves : List PlacedLeaf) (above : ℕ) (rows : List ℕ)
+    → IsIdeal ps ref leaves above rows → past_rebuild us (past_change us (Some ref)) ≡ Some ref
+ideal_reads_any us ps _ _ _ _ of_none = refl
+ideal_reads_any us ps _ _ _ _ (of_one same e) = refl
+ideal_reads_any us ps _ _ _ _ (of_more r top under) = refl
+
 mutual
   -- an ideal subtree has the leaves that it is over
   pub ideal_leaves : (ps : Pieces) (ref : Ref) (leaves : List PlacedLeaf) (above : ℕ) (rows : List ℕ)

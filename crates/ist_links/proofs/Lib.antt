@@ -27,3 +27,4 @@ pub mod IdealLeafLemmas
 pub mod KeepingContentLemmas
 pub mod ReplacingLemmas
 pub mod NumberLemmas
+pub mod ReturnLemmas

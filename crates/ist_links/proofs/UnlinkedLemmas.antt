@@ -39,7 +39,7 @@ use Rattle.ist_links.proofs.RebuiltLemmas.{started_reads, unreplaced_before}
 use Rattle.ist_links.proofs.UntouchedLemmas.{not_the_anchor, stays_whole, untouched, was_linked_here, was_linked_parent}
 
 -- the top of an ideal subtree is one of its rows
-ideal_among : (ps : Pieces) (ref : Ref) (leaves : List PlacedLeaf) (above : ℕ) (rows : List ℕ) (base : ℕ)
+pub ideal_among : (ps : Pieces) (ref : Ref) (leaves : List PlacedLeaf) (above : ℕ) (rows : List ℕ) (base : ℕ)
     → IsIdeal ps ref leaves above rows → ref ≡ InnerAt base → Among base rows
 ideal_among ps _ _ _ _ base of_none e = absurd (cc)
 ideal_among ps _ _ _ _ base (of_one same k) e = absurd (cc)
