@@ -27,18 +27,20 @@ use Rattle.ist_links.proofs.InductionLemmas.{grow_behind}
 use Rattle.ist_links.proofs.OriginLemmas.{StatusComes, finished_now, is_new, marked_now, status_was}
 use Rattle.ist_links.proofs.QuietLemmas.{start_quiet}
 
+-- the target of a rebuild stays its target
+pub target_grows : (t u : Snapshot) → AllGrow t.pieces u.pieces → (rebuild target : ℕ) → HasTarget t rebuild target → HasTarget u rebuild target
+target_grows t u g rebuild target h =
+    let it = rebuild_there t.pieces u.pieces g rebuild h.row h.published in
+    record { row = it.0; published = it.1; target_is = it.2.target ∙ h.target_is }
+
 -- what a word counts for it goes on counting for
 counts_grows : (t u : Snapshot) → AllGrow t.pieces u.pieces → (o : Option Ref) (k : ℕ) → CountsFor t o k
     → CountsFor u o k
 counts_grows t u g _ _ no_key = no_key
 counts_grows t u g _ _ one_key = one_key
 counts_grows t u g _ _ (of_child {child = child} {k = k} f) = of_child (finished_with_grows t u g child k f)
-counts_grows t u g _ _ (of_target {target = target} {k = k} h f) = of_target (target_grows h) (finished_with_grows t u g target k f)
-  where
-    target_grows : {rebuild target : ℕ} → HasTarget t rebuild target → HasTarget u rebuild target
-    target_grows {rebuild} {target} h =
-        let it = rebuild_there t.pieces u.pieces g rebuild h.row h.published in
-        record { row = it.0; published = it.1; target_is = it.2.target ∙ h.target_is }
+counts_grows t u g _ _ (of_target {rebuild = rebuild} {target = target} {k = k} h f) =
+    of_target (target_grows t u g rebuild target h) (finished_with_grows t u g target k f)
 
 -- what was passed stays passed; of the slots only their number counts
 passed_grows : (t u : Snapshot) → AllGrow t.pieces u.pieces → (log : Log) (event : Event)

@@ -1,5 +1,5 @@
 -- The leaves that are reached from an ideal subtree are those that it is over. Serves the replacement law.
-use Rattle.std.proofs.Common.{Bool, List, Some, [], ap, arith, drop, length, length-drop, refl, subst, sym, take, ℕ, ◌++◌, ◌∙◌, ◌∷◌, ◌≡◌}
+use Rattle.std.proofs.Common.{Bool, List, Some, [], ap, arith, drop, length, length-drop, refl, subst, sym, take, ℕ, ◌++◌, ◌<◌, ◌∙◌, ◌∷◌, ◌≡◌}
 use Rattle.std.proofs.lemmas.List.{take-append-drop}
 use Rattle.std.proofs.lemmas.List.Sums.{sum_by-cons}
 use Rattle.std.specs.List.{sum}
@@ -13,7 +13,7 @@ use Rattle.ist_core.specs.Leaves.{HasLeaves, PlacedLeaf, SlotsHaveLeaves, leaf_h
 use Rattle.ist_core.specs.Logs.{Log}
 use Rattle.ist_core.specs.Parts.{cut, parts}
 use Rattle.ist_core.specs.Pieces.{Inner, Leaf, Pieces, with_decision}
-use Rattle.ist_core.specs.References.{LeafAt, Ref}
+use Rattle.ist_core.specs.References.{InnerAt, LeafAt, Ref}
 use Rattle.ist_core.specs.Slots.{past_change, past_rebuild}
 use Rattle.ist_core.proofs.NamingStepLemmas.{changed_at-fixed}
 use Rattle.ist_core.proofs.PartLemmas.{sum-part_lens}
@@ -41,19 +41,12 @@ joined_parts xs = joined_cut (part_lens (length xs)) xs (sum-part_lens (length x
 
 -- ---- leaves
 
--- an ideal reference reads as itself
-pub ideal_reads : (ps : Pieces) (ref : Ref) (leaves : List PlacedLeaf) (above : ℕ) (rows : List ℕ)
-    → IsIdeal ps ref leaves above rows → past_rebuild ps (past_change ps (Some ref)) ≡ Some ref
-ideal_reads ps _ _ _ _ of_none = refl
-ideal_reads ps _ _ _ _ (of_one same e) = refl
-ideal_reads ps _ _ _ _ (of_more r top under) = refl
-
--- in any table
-pub ideal_reads_any : (us ps : Pieces) (ref : Ref) (leaves : List PlacedLeaf) (above : ℕ) (rows : List ℕ)
+-- an ideal reference reads as itself, in any table
+pub ideal_reads : (us ps : Pieces) (ref : Ref) (leaves : List PlacedLeaf) (above : ℕ) (rows : List ℕ)
     → IsIdeal ps ref leaves above rows → past_rebuild us (past_change us (Some ref)) ≡ Some ref
-ideal_reads_any us ps _ _ _ _ of_none = refl
-ideal_reads_any us ps _ _ _ _ (of_one same e) = refl
-ideal_reads_any us ps _ _ _ _ (of_more r top under) = refl
+ideal_reads us ps _ _ _ _ of_none = refl
+ideal_reads us ps _ _ _ _ (of_one same e) = refl
+ideal_reads us ps _ _ _ _ (of_more r top under) = refl
 
 mutual
   -- an ideal subtree has the leaves that it is over
@@ -69,15 +62,22 @@ mutual
       → AreIdeal ps words behind above rows → SlotsHaveLeaves ps words (joined behind)
   parts_leaves ps _ _ _ _ no_part = no_slot
   parts_leaves ps _ _ above _ (one_part {word = word} {words = words} {here = here} {rest = rest} {part = part} {behind = behind} ref is first more) =
-      one_slot (subst (λ o. HasLeaves ps o part) (sym (ap (λ o. past_rebuild ps (past_change ps o)) is ∙ ideal_reads ps ref part above here first)) (ideal_leaves ps ref part above here first))
+      one_slot (subst (λ o. HasLeaves ps o part) (sym (ap (λ o. past_rebuild ps (past_change ps o)) is ∙ ideal_reads ps ps ref part above here first)) (ideal_leaves ps ref part above here first))
       (parts_leaves ps words behind above rest more)
 
--- an ideal reference is no rebuild
-pub ideal_plain : (ps : Pieces) (ref : Ref) (leaves : List PlacedLeaf) (above : ℕ) (rows : List ℕ)
-    → IsIdeal ps ref leaves above rows → past_rebuild ps (Some ref) ≡ Some ref
-ideal_plain ps _ _ _ _ of_none = refl
-ideal_plain ps _ _ _ _ (of_one same e) = refl
-ideal_plain ps _ _ _ _ (of_more r top under) = refl
+-- an ideal reference is no rebuild, in any table
+pub ideal_plain : (us ps : Pieces) (ref : Ref) (leaves : List PlacedLeaf) (above : ℕ) (rows : List ℕ)
+    → IsIdeal ps ref leaves above rows → past_rebuild us (Some ref) ≡ Some ref
+ideal_plain us ps _ _ _ _ of_none = refl
+ideal_plain us ps _ _ _ _ (of_one same e) = refl
+ideal_plain us ps _ _ _ _ (of_more r top under) = refl
+
+-- its row lies above
+pub ideal_above : (ps : Pieces) (ref : Ref) (leaves : List PlacedLeaf) (above : ℕ) (rows : List ℕ) (base : ℕ)
+    → IsIdeal ps ref leaves above rows → ref ≡ InnerAt base → above < base
+ideal_above ps _ _ _ _ base of_none e = absurd (cc)
+ideal_above ps _ _ _ _ base (of_one same k) e = absurd (cc)
+ideal_above ps _ _ above _ base (of_more {base = b} r top under) e = let same : b ≡ base = cc in subst (λ n. above < n) same top.higher
 
 -- a Decide leaves leaves and inner rows as they are
 pub decided_stands : (pairs : List Pair) (words : ℕ) (log : Log) (caller base : ℕ) (said : Bool) (rows : List ℕ)

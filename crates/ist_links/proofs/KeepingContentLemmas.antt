@@ -136,7 +136,7 @@ module _ (pairs : List Pair) (words : ℕ) (opens : CanOpen pairs words) where
           let target : past_rebuild t.pieces (Some ref) ≡ Some (InnerAt w.row.target) = ap (past_rebuild t.pieces) (sym from ∙ f.from) ∙ leads_rebuild t.pieces f.rebuild w.row w.published in
           let same : leaves ≡ w.leaves = same_leaves t.pieces (Some (InnerAt w.row.target)) leaves w.leaves (subst (λ o. HasLeaves t.pieces o leaves) target has) w.reached in
           let ideal = ideal_kept t.pieces u.pieces w.ref w.leaves w.row.target w.rows w.ideal (decided_stands pairs words log caller base true w.rows) in
-          let read = reads w.ref w.to_is ∙ ideal_plain u.pieces w.ref w.leaves w.row.target w.rows ideal in
+          let read = reads w.ref w.to_is ∙ ideal_plain u.pieces u.pieces w.ref w.leaves w.row.target w.rows ideal in
           inr (subst (λ o. HasLeaves u.pieces o leaves) (sym read) (subst (λ ls. HasLeaves u.pieces (Some w.ref) ls) (sym same) (ideal_leaves u.pieces w.ref w.leaves w.row.target w.rows ideal)))
 
   -- each slot has the leaves that it had

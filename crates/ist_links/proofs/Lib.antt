@@ -28,3 +28,6 @@ pub mod KeepingContentLemmas
 pub mod ReplacingLemmas
 pub mod NumberLemmas
 pub mod ReturnLemmas
+pub mod CalledLemmas
+pub mod ReplacedLemmas
+pub mod RestLemmas

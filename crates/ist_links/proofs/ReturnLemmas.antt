@@ -26,7 +26,7 @@ use Rattle.ist_core.proofs.SlotStepLemmas.{place_writes}
 use Rattle.ist_links.proofs.ChildLemmas.{IsReadBy, child_read, leads_grows, leads_rebuild, read_child}
 use Rattle.ist_links.proofs.FormLemmas.{IsFormed, of_finish, of_leaf_put, of_pair_put, of_remove, of_start}
 use Rattle.ist_links.proofs.FormedLemmas.{changes_are_formed}
-use Rattle.ist_links.proofs.IdealLeafLemmas.{ideal_reads_any}
+use Rattle.ist_links.proofs.IdealLeafLemmas.{ideal_reads}
 use Rattle.ist_links.proofs.InductionLemmas.{grow_behind, sound_behind}
 use Rattle.ist_links.proofs.PairLemmas.{pair_is_filled}
 use Rattle.ist_links.proofs.ReadLemmas.{Fills, ReadsAs, Turns, decide_reads, filled_by, reads_once, turned_by}
@@ -166,7 +166,7 @@ module _ (pairs : List Pair) (words : ℕ) (opens : CanOpen pairs words) where
       let read : past_change u.pieces (Some can.ref) ≡ Some ref = ap (past_change u.pieces) (sym can.ref_is) ∙ ap (λ w. past_change u.pieces (ref_of w)) (sym same) ∙ r.reads in
       let qs = with_inners t.pieces rows in
       let child_is : Some can.ref ≡ Some (InnerAt child) =
-      sym (ideal_reads_any u.pieces qs can.ref can.part can.root (bases_of rows) can.ideal) ∙ ap (past_rebuild u.pieces) read ∙ leads in
+      sym (ideal_reads u.pieces qs can.ref can.part can.root (bases_of rows) can.ideal) ∙ ap (past_rebuild u.pieces) read ∙ leads in
       let among = ideal_among qs can.ref can.part can.root (bases_of rows) child can.ideal (one_ref can.ref (InnerAt child) child_is) in
       no_piece (t.pieces child) (Inner there.0) (held_free t caller rows can.held (sound_behind pairs words log h.0) child among) there.1
     where
