@@ -43,12 +43,12 @@ said_yes true e = refl
 said_yes false e = let two : ◌≡◌ {A = ℕ} 2 1 = e in absurd (omega arith)
 
 -- the change that an event resolves is published and decided
-record IsDecidedAt (t : Snapshot) (base : ℕ) : Type 0 where
-  row : ChangeRow
-  published : t.pieces base ≡ Some (Change row)
-  decided : row.decision ≢ undecided
+pub record IsDecidedAt (t : Snapshot) (base : ℕ) : Type 0 where
+  pub row : ChangeRow
+  pub published : t.pieces base ≡ Some (Change row)
+  pub decided : row.decision ≢ undecided
 
-resolved_now : (first : Snapshot) (log : Log) (event : Event) (base : ℕ) → Enabled first log event
+pub resolved_now : (first : Snapshot) (log : Log) (event : Event) (base : ℕ) → Enabled first log event
     → Resolves base event → IsDecidedAt (state first log) base
 resolved_now first log (Resolve caller change) base h is =
     record { row = h.change; published = subst (λ b. (state first log).pieces b ≡ Some (Change h.change)) is h.published; decided = h.decided }

@@ -31,3 +31,4 @@ pub mod ReturnLemmas
 pub mod CalledLemmas
 pub mod ReplacedLemmas
 pub mod RestLemmas
+pub mod ResolvedLemmas

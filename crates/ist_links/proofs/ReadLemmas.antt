@@ -107,7 +107,7 @@ pub side_yes : (x : ChangeRow) → x.decision ≡ decided_yes → side_of x ≡ 
 side_yes x e = grind (arith, nat_tests)
 
 -- a side of a change is no change
-side_plain : (ps : Pieces) (node i : ℕ) (o : Option Ref) → SideNames ps node i o → (base : ℕ)
+pub side_plain : (ps : Pieces) (node i : ℕ) (o : Option Ref) → SideNames ps node i o → (base : ℕ)
     → o ≢ Some (ChangeAt base)
 side_plain ps node i (Some (ChangeAt at)) h base e = h
 side_plain ps node i (Some Empty) h base e = absurd (cc)

@@ -85,7 +85,7 @@ module _ (pairs : List Pair) (words : ℕ) (opens : CanOpen pairs words) where
           clash x a b = cc
 
   -- a slot of a node that stood there held a word
-  slot_held : (log : Log) (event : Event) → EachEnabled (start pairs words) (event ∷ log) → (node i word : ℕ)
+  pub slot_held : (log : Log) (event : Event) → EachEnabled (start pairs words) (event ∷ log) → (node i word : ℕ)
       → Stood log node → SlotHolds (state_of pairs words (event ∷ log)) node i word
       → (old : ℕ) × SlotHolds (state_of pairs words log) node i old
   slot_held log event h node i word stood (in_anchor a b e) = ((state_of pairs words log).anchor, in_anchor a b refl)

@@ -1,5 +1,5 @@
 -- The laws over lawful logs on rebuilds and on the contents. `src/laws.rt` lists them.
-use Rattle.std.specs.Prelude.{List, Some, length, true, ℕ, ◌∷◌, ◌≡◌}
+use Rattle.std.specs.Prelude.{List, Some, length, true, ℕ, ◌∷◌, ◌≡◌, ◌≢◌}
 use Rattle.ist_core.specs.declared.events.Event.{Event}
 use Rattle.ist_core.specs.declared.events.Event.TheVariants.{Decide}
 use Rattle.ist_core.specs.declared.pairs.Pair.{Pair}
@@ -8,11 +8,51 @@ use Rattle.ist_core.specs.declared.states.RebuildRow.{RebuildRow}
 use Rattle.ist_core.specs.Ideals.{IsIdeal}
 use Rattle.ist_core.specs.Lawful.{Lawful, state_of}
 use Rattle.ist_core.specs.Leaves.{HasContents, HasLeaves, PlacedLeaf}
+use Rattle.ist_core.specs.Links.{Linked}
 use Rattle.ist_core.specs.Logs.{Log}
 use Rattle.ist_core.specs.Pieces.{Change, Rebuild}
-use Rattle.ist_core.specs.Rebuilding.{IsFinishedWith, IsUpdate}
-use Rattle.ist_core.specs.References.{InnerAt, RebuildAt, Ref, ref_of}
+use Rattle.ist_core.specs.Rebuilding.{IsFinishedWith, IsReplaced, IsStarted, IsUpdate}
+use Rattle.ist_core.specs.References.{InnerAt, RebuildAt, Ref, ref_of, unset_word}
+use Rattle.ist_core.specs.Slots.{SlotHolds, past_change}
 use Rattle.ist_core.specs.Snapshots.{Snapshot}
+use Rattle.ist_links.specs.Linking.{IsFinished}
+
+-- ---- rebuilds in their slots
+
+-- slot i of the node holds the rebuild, or a change that reads as it
+pub record ReadsAsRebuild (t : Snapshot) (node i rebuild : ℕ) : Type 0 where
+  pub word : ℕ
+  pub holds : SlotHolds t node i word
+  pub reads : past_change t.pieces (ref_of word) ≡ Some (RebuildAt rebuild)
+
+-- a started rebuild stands in its slot until it is replaced
+abbrev pub StartedRebuildsStand : Type 0
+StartedRebuildsStand =
+    (pairs : List Pair) (words : ℕ) (log : Log) → Lawful pairs words log → (rebuild : ℕ) (row : RebuildRow)
+    → (state_of pairs words log).pieces rebuild ≡ Some (Rebuild row) → IsStarted (state_of pairs words log) rebuild
+    → ¬ (IsReplaced (state_of pairs words log) rebuild)
+    → ReadsAsRebuild (state_of pairs words log) row.parent row.index rebuild
+
+-- one that was replaced doesn't, ever again
+abbrev pub ReplacedRebuildsAreGone : Type 0
+ReplacedRebuildsAreGone =
+    (pairs : List Pair) (words : ℕ) (log : Log) → Lawful pairs words log → (rebuild : ℕ) (row : RebuildRow)
+    → (state_of pairs words log).pieces rebuild ≡ Some (Rebuild row) → IsReplaced (state_of pairs words log) rebuild
+    → ¬ (ReadsAsRebuild (state_of pairs words log) row.parent row.index rebuild)
+
+-- and its target isn't linked
+abbrev pub ReplacedTargetsAreOut : Type 0
+ReplacedTargetsAreOut =
+    (pairs : List Pair) (words : ℕ) (log : Log) → Lawful pairs words log → (rebuild : ℕ) (row : RebuildRow)
+    → (state_of pairs words log).pieces rebuild ≡ Some (Rebuild row) → IsReplaced (state_of pairs words log) rebuild
+    → ¬ (Linked (state_of pairs words log) row.target)
+
+-- the target of a rebuild with a root is finished
+abbrev pub RootsComeLate : Type 0
+RootsComeLate =
+    (pairs : List Pair) (words : ℕ) (log : Log) → Lawful pairs words log → (rebuild : ℕ) (row : RebuildRow)
+    → (state_of pairs words log).pieces rebuild ≡ Some (Rebuild row) → row.root ≢ unset_word
+    → IsFinished (state_of pairs words log) row.target
 
 -- ---- roots
 
