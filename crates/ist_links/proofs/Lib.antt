@@ -32,3 +32,4 @@ pub mod CalledLemmas
 pub mod ReplacedLemmas
 pub mod RestLemmas
 pub mod ResolvedLemmas
+pub mod LowLemmas

@@ -3,3 +3,4 @@
 pub mod Linking
 pub mod Replacing
 pub mod Opening
+pub mod Drawing

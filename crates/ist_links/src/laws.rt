@@ -6,6 +6,7 @@ ghost use Rattle.ist_links.specs.Linking.{OkayedSlotsAreUnpassed, YesIsLinked, U
 ghost use Rattle.ist_links.specs.Replacing.{StartedRebuildsStand, ReplacedRebuildsAreGone, ReplacedTargetsAreOut, RootsComeLate};
 ghost use Rattle.ist_links.specs.Replacing.{RootsAreIdeal, UpdatesAloneChange, NumbersCountLeaves};
 ghost use Rattle.ist_links.specs.Opening.{RowsAreOpenAtRest};
+ghost use Rattle.ist_links.specs.Drawing.{TargetsAreSmall, DrawsStayLow};
 
 /// A row that was linked is linked or finished, so that one that is open still is linked, and one that
 /// isn't linked any more is never linked again. What hangs below a finished row is finished.
@@ -65,4 +66,11 @@ pub fn numbers_count_leaves()
 /// or finished.
 pub fn rows_are_open_at_rest()
     ensures all_open { RowsAreOpenAtRest }
+{}
+
+/// A target has fewer leaves than a table has places, since they share no word; so the draw word of its
+/// rebuild stays far below where it would wrap.
+pub fn draws_stay_low()
+    ensures small { TargetsAreSmall }
+    ensures low { DrawsStayLow }
 {}
