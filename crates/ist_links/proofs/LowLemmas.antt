@@ -142,7 +142,7 @@ module _ (pairs : List Pair) (words : ℕ) (opens : CanOpen pairs words) where
       (λ log caller base part h can before none. absurd (can.rooted none))
 
   -- the target of a rebuild with a root is finished with no more keys than there are places
-  target_few : (log : Log) → EachEnabled (start pairs words) log → (base : ℕ) (r : RebuildRow)
+  pub target_few : (log : Log) → EachEnabled (start pairs words) log → (base : ℕ) (r : RebuildRow)
       → (state_of pairs words log).pieces base ≡ Some (Rebuild r) → r.root ≢ unset_word → (k : ℕ)
       → IsFinishedWith (state_of pairs words log) r.target k → k ≤ place_limit
   target_few log h base r e set k f =
