@@ -36,13 +36,6 @@ OpenRowsAreLinked =
     → WasLinked (start pairs words) log node → IsOpen (state_of pairs words log) node
     → Linked (state_of pairs words log) node
 
--- a row that was linked and isn't any more is never linked again
-abbrev pub UnlinkedRowsStayOut : Type 0
-UnlinkedRowsStayOut =
-    (pairs : List Pair) (words : ℕ) (earlier log : Log) → Lawful pairs words log → GoesOn earlier log
-    → (node : ℕ) → WasLinked (start pairs words) earlier node → ¬ (Linked (state_of pairs words earlier) node)
-    → ¬ (Linked (state_of pairs words log) node)
-
 -- a row that isn't open was linked
 abbrev pub ClosedRowsWereLinked : Type 0
 ClosedRowsWereLinked =

@@ -16,7 +16,6 @@ use Rattle.ist_core.specs.Slots.{IsOpen, SlotHolds, anchor_is, past_rebuild, reb
 use Rattle.ist_core.specs.Snapshots.{Snapshot}
 use Rattle.ist_core.specs.StartLayout.{start}
 use Rattle.ist_core.specs.Statuses.{open_word}
-use Rattle.ist_links.specs.Opening.{RebuildsAreDone}
 use Rattle.ist_core.proofs.FrozenLemmas.{closed, frozen_reads}
 use Rattle.ist_core.proofs.HomeLemmas.{Mentions}
 use Rattle.ist_core.proofs.MentionLemmas.{child_mentioned}
@@ -24,10 +23,11 @@ use Rattle.ist_core.proofs.OrderLemmas.{child_above, names}
 use Rattle.ist_core.proofs.ParentLemmas.{one_home}
 use Rattle.ist_core.proofs.PlaceLemmas.{anchor_free}
 use Rattle.ist_core.proofs.SlotLemmas.{no_row, same_inner}
-use Rattle.ist_links.proofs.CalledLemmas.{closed_is_called}
 use Rattle.ist_links.proofs.ClosedLemmas.{linked_now}
-use Rattle.ist_links.proofs.ReplacedLemmas.{replaced_unlinked, target_named}
 use Rattle.ist_links.proofs.UntouchedLemmas.{not_the_anchor, was_linked_here}
+use Rattle.ist_rebuilds.proofs.CalledLemmas.{closed_is_called}
+use Rattle.ist_rebuilds.proofs.ReplacedLemmas.{replaced_unlinked, target_named}
+use Rattle.ist_rebuilds.specs.Opening.{RebuildsAreDone}
 
 -- a passed slot holds a word
 kept_word : (t : Snapshot) (log : Log) (node i word : ℕ) → KeepsWord t log node i word → (w : ℕ) × SlotHolds t node i w

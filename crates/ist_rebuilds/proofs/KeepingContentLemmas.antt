@@ -15,7 +15,6 @@ use Rattle.ist_core.specs.RowLayout.{anchor}
 use Rattle.ist_core.specs.Slots.{SlotHolds, in_anchor, in_row, logical, past_change, past_rebuild, rebuild_reads}
 use Rattle.ist_core.specs.Snapshots.{Snapshot}
 use Rattle.ist_core.specs.StartLayout.{start}
-use Rattle.ist_links.specs.Replacing.{LeavesContents}
 use Rattle.ist_core.proofs.GrowingLemmas.{inner_there, leaf_there, rebuild_there}
 use Rattle.ist_core.proofs.LeafLemmas.{same_leaves}
 use Rattle.ist_core.proofs.PlaceLemmas.{anchor_free}
@@ -23,12 +22,13 @@ use Rattle.ist_core.proofs.SlotLemmas.{slot_once}
 use Rattle.ist_links.proofs.ChildLemmas.{leads_grows, leads_rebuild}
 use Rattle.ist_links.proofs.FormLemmas.{IsFormed, of_finish, of_leaf_put, of_pair_put, of_remove, of_start}
 use Rattle.ist_links.proofs.FormedLemmas.{changes_are_formed}
-use Rattle.ist_links.proofs.IdealLeafLemmas.{decided_stands, ideal_leaves, ideal_plain}
 use Rattle.ist_links.proofs.InductionLemmas.{grow_behind}
-use Rattle.ist_links.proofs.NewTreeLemmas.{ideal_kept}
 use Rattle.ist_links.proofs.ReadLemmas.{ReadsAs, Turns, decide_reads, turned_by}
 use Rattle.ist_links.proofs.ReadStepLemmas.{reads_step}
-use Rattle.ist_links.proofs.WholeLemmas.{finish_is_whole}
+use Rattle.ist_rebuilds.proofs.IdealLeafLemmas.{decided_stands, ideal_leaves, ideal_plain}
+use Rattle.ist_rebuilds.proofs.NewTreeLemmas.{ideal_kept}
+use Rattle.ist_rebuilds.proofs.WholeLemmas.{finish_is_whole}
+use Rattle.ist_rebuilds.specs.Replacing.{LeavesContents}
 
 -- ---- leaves, from one table to another
 
@@ -136,7 +136,7 @@ module _ (pairs : List Pair) (words : ℕ) (opens : CanOpen pairs words) where
           let target : past_rebuild t.pieces (Some ref) ≡ Some (InnerAt w.row.target) = ap (past_rebuild t.pieces) (sym from ∙ f.from) ∙ leads_rebuild t.pieces f.rebuild w.row w.published in
           let same : leaves ≡ w.leaves = same_leaves t.pieces (Some (InnerAt w.row.target)) leaves w.leaves (subst (λ o. HasLeaves t.pieces o leaves) target has) w.reached in
           let ideal = ideal_kept t.pieces u.pieces w.ref w.leaves w.row.target w.rows w.ideal (decided_stands pairs words log caller base true w.rows) in
-          let read = reads w.ref w.to_is ∙ ideal_plain u.pieces u.pieces w.ref w.leaves w.row.target w.rows ideal in
+          let read = reads w.ref w.to_is ∙ ideal_plain u.pieces w.ref w.leaves w.row.target w.rows ideal in
           inr (subst (λ o. HasLeaves u.pieces o leaves) (sym read) (subst (λ ls. HasLeaves u.pieces (Some w.ref) ls) (sym same) (ideal_leaves u.pieces w.ref w.leaves w.row.target w.rows ideal)))
 
   -- each slot has the leaves that it had

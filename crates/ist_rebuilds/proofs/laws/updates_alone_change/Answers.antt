@@ -1,5 +1,5 @@
-use Rattle.ist_links.proofs.KeepingContentLemmas.{contents_kept}
-use Rattle.ist_links.proofs.laws.updates_alone_change.Goals as goal
+use Rattle.ist_rebuilds.proofs.KeepingContentLemmas.{contents_kept}
+use Rattle.ist_rebuilds.proofs.laws.updates_alone_change.Goals as goal
 
 pub returns : goal.returns
 returns c =

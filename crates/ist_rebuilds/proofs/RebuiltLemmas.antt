@@ -24,7 +24,7 @@ use Rattle.ist_links.proofs.FormedLemmas.{changes_are_formed}
 use Rattle.ist_links.proofs.InductionLemmas.{changes_by, grow_behind}
 use Rattle.ist_links.proofs.ReadLemmas.{ReadsAs, Turns, decide_reads, reads_once, turned_by}
 use Rattle.ist_links.proofs.ReadStepLemmas.{reads_step}
-use Rattle.ist_links.proofs.StartingLemmas.{finish_of, side_rebuild, undecided_reads, undecided_unstarted}
+use Rattle.ist_rebuilds.proofs.StartingLemmas.{finish_of, side_rebuild, undecided_reads, undecided_unstarted}
 
 module _ (pairs : List Pair) (words : ℕ) (opens : CanOpen pairs words) where
   -- what isn't replaced behind an event wasn't before

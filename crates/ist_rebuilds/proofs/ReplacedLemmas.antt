@@ -26,14 +26,14 @@ use Rattle.ist_core.proofs.SlotLemmas.{slot_once}
 use Rattle.ist_links.proofs.ChangeLemmas.{said_yes}
 use Rattle.ist_links.proofs.ClosedLemmas.{same_rebuild, started_target_linked}
 use Rattle.ist_links.proofs.FormedLemmas.{changes_are_formed}
-use Rattle.ist_links.proofs.IdealLeafLemmas.{ideal_above, ideal_plain}
 use Rattle.ist_links.proofs.InductionLemmas.{changes_by, grow_behind}
 use Rattle.ist_links.proofs.LinkLemmas.{deciding}
 use Rattle.ist_links.proofs.ReadLemmas.{decide_reads}
-use Rattle.ist_links.proofs.ReplacingLemmas.{puts_ideal}
-use Rattle.ist_links.proofs.ReturnLemmas.{unlinked_step}
-use Rattle.ist_links.proofs.StartingLemmas.{finish_of, side_rebuild}
 use Rattle.ist_links.proofs.UntouchedLemmas.{not_the_anchor}
+use Rattle.ist_rebuilds.proofs.IdealLeafLemmas.{ideal_above, ideal_plain_in}
+use Rattle.ist_rebuilds.proofs.ReplacingLemmas.{puts_ideal}
+use Rattle.ist_rebuilds.proofs.ReturnLemmas.{unlinked_step}
+use Rattle.ist_rebuilds.proofs.StartingLemmas.{finish_of, side_rebuild}
 
 module _ (pairs : List Pair) (words : ℕ) (opens : CanOpen pairs words) where
   -- the slot that an inner row hangs in is the one that a rebuild of it is for
@@ -74,7 +74,7 @@ module _ (pairs : List Pair) (words : ℕ) (opens : CanOpen pairs words) where
           let slot = subst (λ m. SlotHolds u m x.index c.word) (home.0 ∙ n) (subst (λ m. SlotHolds u node m c.word) (home.1 ∙ j) c.holds) in
           let same = slot_once u x.node x.index c.word reads.word (anchor_free pairs words (Decide caller base true ∷ log) h) slot reads.holds in
           let lead : past_rebuild u.pieces (Some p.ref) ≡ Some (InnerAt child) = ap (past_rebuild u.pieces) (sym reads.reads) ∙ ap (logical u.pieces) (sym same) ∙ c.reads in
-          let is_ref : p.ref ≡ InnerAt r.target = one_ref p.ref (InnerAt r.target) (sym (ideal_plain u.pieces t.pieces p.ref p.leaves r.target p.rows p.ideal) ∙ lead ∙ ap (λ m. Some (InnerAt m)) is) in
+          let is_ref : p.ref ≡ InnerAt r.target = one_ref p.ref (InnerAt r.target) (sym (ideal_plain_in u.pieces t.pieces p.ref p.leaves r.target p.rows p.ideal) ∙ lead ∙ ap (λ m. Some (InnerAt m)) is) in
           let high = ideal_above t.pieces p.ref p.leaves r.target p.rows r.target p.ideal is_ref in
           omega arith
         where

@@ -36,9 +36,9 @@ use Rattle.ist_core.proofs.SplitLemmas.{key_of_leaf}
 use Rattle.ist_core.proofs.YesLemmas.{distinct_below}
 use Rattle.ist_links.proofs.FormedLemmas.{rooted_is_finished}
 use Rattle.ist_links.proofs.InductionLemmas.{rebuilds_by}
-use Rattle.ist_links.proofs.NewTreeLemmas.{ideal_set}
-use Rattle.ist_links.proofs.NumberLemmas.{number_is}
-use Rattle.ist_links.proofs.WholeLemmas.{target_leaves_kept}
+use Rattle.ist_rebuilds.proofs.NewTreeLemmas.{ideal_set}
+use Rattle.ist_rebuilds.proofs.NumberLemmas.{number_is}
+use Rattle.ist_rebuilds.proofs.WholeLemmas.{target_leaves_kept}
 
 -- ---- leaves that rise are few
 

@@ -1,7 +1,7 @@
 use Rattle.ist_links.proofs.FormedLemmas.{rooted_is_finished}
-use Rattle.ist_links.proofs.RebuiltLemmas as rebuilt
-use Rattle.ist_links.proofs.ReplacedLemmas.{replaced_unlinked}
-use Rattle.ist_links.proofs.laws.rebuilds_stand.Goals as goal
+use Rattle.ist_rebuilds.proofs.RebuiltLemmas as rebuilt
+use Rattle.ist_rebuilds.proofs.ReplacedLemmas.{replaced_unlinked}
+use Rattle.ist_rebuilds.proofs.laws.rebuilds_stand.Goals as goal
 
 pub returns : goal.returns
 returns c =

@@ -1,5 +1,5 @@
-use Rattle.ist_links.proofs.ReplacingLemmas as roots
-use Rattle.ist_links.proofs.laws.roots_are_ideal.Goals as goal
+use Rattle.ist_rebuilds.proofs.ReplacingLemmas as roots
+use Rattle.ist_rebuilds.proofs.laws.roots_are_ideal.Goals as goal
 
 pub returns : goal.returns
 returns c =

@@ -32,11 +32,11 @@ use Rattle.ist_core.proofs.SlotLemmas.{same_inner, slot_once}
 use Rattle.ist_links.proofs.ComesLemmas.{rebuild_comes}
 use Rattle.ist_links.proofs.FormLemmas.{started_grows}
 use Rattle.ist_links.proofs.InductionLemmas.{grow_behind, rebuilds_by, sound_behind}
-use Rattle.ist_links.proofs.NewTreeLemmas.{GoesDown, StandsIn, StandsWhole}
 use Rattle.ist_links.proofs.OriginLemmas.{RebuildComes, is_begun, is_drawn, is_rooted, rebuild_was}
 use Rattle.ist_links.proofs.QuietLemmas.{start_quiet}
-use Rattle.ist_links.proofs.RebuiltLemmas.{started_reads, unreplaced_before}
 use Rattle.ist_links.proofs.UntouchedLemmas.{not_the_anchor, stays_whole, untouched, was_linked_here, was_linked_parent}
+use Rattle.ist_rebuilds.proofs.NewTreeLemmas.{GoesDown, StandsIn, StandsWhole}
+use Rattle.ist_rebuilds.proofs.RebuiltLemmas.{started_reads, unreplaced_before}
 
 -- the top of an ideal subtree is one of its rows
 pub ideal_among : (ps : Pieces) (ref : Ref) (leaves : List PlacedLeaf) (above : ℕ) (rows : List ℕ) (base : ℕ)

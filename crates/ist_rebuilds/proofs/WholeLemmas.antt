@@ -26,17 +26,18 @@ use Rattle.ist_core.specs.Statuses.{undecided}
 use Rattle.ist_core.proofs.GrowingLemmas.{rebuild_there}
 use Rattle.ist_core.proofs.KeepingLemmas.{leaves_kept}
 use Rattle.ist_core.proofs.LayoutLemmas.{length-parts}
+use Rattle.ist_core.proofs.LeafLemmas.{reached}
 use Rattle.ist_core.proofs.NamingStepLemmas.{changed_at-fixed}
-use Rattle.ist_links.proofs.BuiltLemmas.{IsBuiltOver, partly_step, whole_step}
 use Rattle.ist_links.proofs.ChangeLemmas.{said_something}
 use Rattle.ist_links.proofs.ComesLemmas.{rebuild_comes}
 use Rattle.ist_links.proofs.FormedLemmas.{rooted_is_finished}
 use Rattle.ist_links.proofs.InductionLemmas.{changes_by, grow_behind}
-use Rattle.ist_links.proofs.NewTreeLemmas.{ArePartly, IsPartly, ideal_kept, in_parts, partly_all, partly_kept, partly_none, top_kept, whole}
 use Rattle.ist_links.proofs.OriginLemmas.{RebuildComes, is_begun, is_drawn, is_rooted, rebuild_was}
 use Rattle.ist_links.proofs.QuietLemmas.{start_quiet}
 use Rattle.ist_links.proofs.ReadLemmas.{ReadsAs}
-use Rattle.ist_links.proofs.RebuiltLemmas.{finish_unreplaced, read_unreplaced, unreplaced_before}
+use Rattle.ist_rebuilds.proofs.BuiltLemmas.{IsBuiltOver, partly_step, whole_step}
+use Rattle.ist_rebuilds.proofs.NewTreeLemmas.{ArePartly, IsPartly, ideal_kept, in_parts, partly_all, partly_kept, partly_none, top_kept, whole}
+use Rattle.ist_rebuilds.proofs.RebuiltLemmas.{finish_unreplaced, read_unreplaced, unreplaced_before}
 use Rattle.ist_core.specs.Installing as kinds
 
 -- a root, as it comes, in the table of its condition

@@ -1,5 +1,5 @@
-use Rattle.ist_links.proofs.LowLemmas as draws
-use Rattle.ist_links.proofs.laws.draws_stay_low.Goals as goal
+use Rattle.ist_rebuilds.proofs.LowLemmas as draws
+use Rattle.ist_rebuilds.proofs.laws.draws_stay_low.Goals as goal
 
 pub returns : goal.returns
 returns c =

@@ -17,7 +17,7 @@ use Rattle.ist_core.specs.References.{InnerAt, LeafAt, Ref}
 use Rattle.ist_core.specs.Slots.{past_change, past_rebuild}
 use Rattle.ist_core.proofs.NamingStepLemmas.{changed_at-fixed}
 use Rattle.ist_core.proofs.PartLemmas.{sum-part_lens}
-use Rattle.ist_links.proofs.NewTreeLemmas.{StandsIn}
+use Rattle.ist_rebuilds.proofs.NewTreeLemmas.{StandsIn}
 
 -- ---- parts, joined
 
@@ -65,12 +65,19 @@ mutual
       one_slot (subst (λ o. HasLeaves ps o part) (sym (ap (λ o. past_rebuild ps (past_change ps o)) is ∙ ideal_reads ps ps ref part above here first)) (ideal_leaves ps ref part above here first))
       (parts_leaves ps words behind above rest more)
 
--- an ideal reference is no rebuild, in any table
-pub ideal_plain : (us ps : Pieces) (ref : Ref) (leaves : List PlacedLeaf) (above : ℕ) (rows : List ℕ)
+-- an ideal reference is no rebuild
+pub ideal_plain : (ps : Pieces) (ref : Ref) (leaves : List PlacedLeaf) (above : ℕ) (rows : List ℕ)
+    → IsIdeal ps ref leaves above rows → past_rebuild ps (Some ref) ≡ Some ref
+ideal_plain ps _ _ _ _ of_none = refl
+ideal_plain ps _ _ _ _ (of_one same e) = refl
+ideal_plain ps _ _ _ _ (of_more r top under) = refl
+
+-- nor is it in any other table
+pub ideal_plain_in : (us ps : Pieces) (ref : Ref) (leaves : List PlacedLeaf) (above : ℕ) (rows : List ℕ)
     → IsIdeal ps ref leaves above rows → past_rebuild us (Some ref) ≡ Some ref
-ideal_plain us ps _ _ _ _ of_none = refl
-ideal_plain us ps _ _ _ _ (of_one same e) = refl
-ideal_plain us ps _ _ _ _ (of_more r top under) = refl
+ideal_plain_in us ps _ _ _ _ of_none = refl
+ideal_plain_in us ps _ _ _ _ (of_one same e) = refl
+ideal_plain_in us ps _ _ _ _ (of_more r top under) = refl
 
 -- its row lies above
 pub ideal_above : (ps : Pieces) (ref : Ref) (leaves : List PlacedLeaf) (above : ℕ) (rows : List ℕ) (base : ℕ)

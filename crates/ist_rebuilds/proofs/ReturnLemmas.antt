@@ -26,14 +26,14 @@ use Rattle.ist_core.proofs.SlotStepLemmas.{place_writes}
 use Rattle.ist_links.proofs.ChildLemmas.{IsReadBy, child_read, leads_grows, leads_rebuild, read_child}
 use Rattle.ist_links.proofs.FormLemmas.{IsFormed, of_finish, of_leaf_put, of_pair_put, of_remove, of_start}
 use Rattle.ist_links.proofs.FormedLemmas.{changes_are_formed}
-use Rattle.ist_links.proofs.IdealLeafLemmas.{ideal_reads}
 use Rattle.ist_links.proofs.InductionLemmas.{grow_behind, sound_behind}
 use Rattle.ist_links.proofs.PairLemmas.{pair_is_filled}
 use Rattle.ist_links.proofs.ReadLemmas.{Fills, ReadsAs, Turns, decide_reads, filled_by, reads_once, turned_by}
 use Rattle.ist_links.proofs.ReadStepLemmas.{Stood, Turning, filled_now, read_before, reads_back, turned_now, was_anchor, was_row}
-use Rattle.ist_links.proofs.RebuiltLemmas.{finish_unreplaced}
-use Rattle.ist_links.proofs.UnlinkedLemmas.{ideal_among, root_never_linked}
 use Rattle.ist_links.proofs.UntouchedLemmas.{not_the_anchor, was_linked_here, was_linked_parent}
+use Rattle.ist_rebuilds.proofs.IdealLeafLemmas.{ideal_reads}
+use Rattle.ist_rebuilds.proofs.RebuiltLemmas.{finish_unreplaced}
+use Rattle.ist_rebuilds.proofs.UnlinkedLemmas.{ideal_among, root_never_linked}
 
 -- two references to inner rows are one
 one_inner : (a b : ℕ) → Some (InnerAt a) ≡ Some (InnerAt b) → a ≡ b

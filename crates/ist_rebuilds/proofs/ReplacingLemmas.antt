@@ -10,13 +10,13 @@ use Rattle.ist_core.specs.Pieces.{Change, Rebuild}
 use Rattle.ist_core.specs.References.{RebuildAt, Ref, Unset, ref_of, unset_word}
 use Rattle.ist_core.specs.StartLayout.{start}
 use Rattle.ist_core.specs.Statuses.{undecided}
-use Rattle.ist_links.specs.Replacing.{PutsIdealRoot}
 use Rattle.ist_core.proofs.ReferenceLemmas.{ref_of-unset}
 use Rattle.ist_links.proofs.ClosedLemmas.{same_rebuild}
-use Rattle.ist_links.proofs.IdealLeafLemmas.{decided_stands}
 use Rattle.ist_links.proofs.LinkLemmas.{deciding}
-use Rattle.ist_links.proofs.NewTreeLemmas.{ideal_kept, ideal_set}
-use Rattle.ist_links.proofs.WholeLemmas.{finish_is_whole, target_leaves_kept}
+use Rattle.ist_rebuilds.proofs.IdealLeafLemmas.{decided_stands}
+use Rattle.ist_rebuilds.proofs.NewTreeLemmas.{ideal_kept, ideal_set}
+use Rattle.ist_rebuilds.proofs.WholeLemmas.{finish_is_whole, target_leaves_kept}
+use Rattle.ist_rebuilds.specs.Replacing.{PutsIdealRoot}
 
 module _ (pairs : List Pair) (words : ℕ) (opens : CanOpen pairs words) where
   -- the root of an undecided finish is ideal

@@ -1,5 +1,5 @@
-use Rattle.ist_links.proofs.NumberLemmas.{number_is}
-use Rattle.ist_links.proofs.laws.numbers_count_leaves.Goals as goal
+use Rattle.ist_rebuilds.proofs.NumberLemmas.{number_is}
+use Rattle.ist_rebuilds.proofs.laws.numbers_count_leaves.Goals as goal
 
 pub returns : goal.returns
 returns c =

@@ -31,11 +31,11 @@ use Rattle.ist_core.proofs.StepLemmas.{rows_placed}
 use Rattle.ist_links.proofs.ClosedLemmas.{same_rebuild}
 use Rattle.ist_links.proofs.ComesLemmas.{rebuild_comes}
 use Rattle.ist_links.proofs.InductionLemmas.{sound_behind}
-use Rattle.ist_links.proofs.NewTreeLemmas.{ArePartly, IsPartly, StandsIn, ideal_each, ideal_kept, ideal_set, ideal_whole, in_parts, partly_each, partly_kept, partly_placed, partly_whole, top_kept, whole}
 use Rattle.ist_links.proofs.OriginLemmas.{RebuildComes, is_begun, is_drawn, is_rooted, rebuild_was}
 use Rattle.ist_links.proofs.QuietLemmas.{start_quiet}
-use Rattle.ist_links.proofs.UnlinkedLemmas.{inner_set, never_down, never_stand, root_among, root_named, root_never_linked}
 use Rattle.ist_links.proofs.UntouchedLemmas.{Stays, is_filled, stays_so, untouched}
+use Rattle.ist_rebuilds.proofs.NewTreeLemmas.{ArePartly, IsPartly, StandsIn, ideal_each, ideal_kept, ideal_set, ideal_whole, in_parts, partly_each, partly_kept, partly_placed, partly_whole, top_kept, whole}
+use Rattle.ist_rebuilds.proofs.UnlinkedLemmas.{inner_set, never_down, never_stand, root_among, root_named, root_never_linked}
 
 -- ---- one rebuild a root
 

@@ -1,5 +1,5 @@
-use Rattle.ist_links.proofs.RestLemmas.{rest_is_open}
-use Rattle.ist_links.proofs.laws.rows_are_open_at_rest.Goals as goal
+use Rattle.ist_rebuilds.proofs.RestLemmas.{rest_is_open}
+use Rattle.ist_rebuilds.proofs.laws.rows_are_open_at_rest.Goals as goal
 
 pub returns : goal.returns
 returns c =
