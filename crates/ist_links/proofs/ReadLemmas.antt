@@ -48,7 +48,8 @@ pub data Turns (first : Snapshot) (log : Log) (node i : ℕ) (ref : Ref) : Event
 pub data Fills (first : Snapshot) (log : Log) (node i : ℕ) (ref : Ref) : Event → Type 0 where
   filled_by : {caller rebuild j word : ℕ} {rows : List Row}
       (h : CanPlace (state first log) caller rebuild j word rows)
-      → node ≡ h.root → i ≡ j → ref ≡ Unset → Fills first log node i ref (Place caller rebuild j word rows)
+      → node ≡ h.root → i ≡ j → ref ≡ Unset
+      → Fills first log node i ref (Place caller rebuild j word rows)
 
 -- ---- references
 
@@ -64,7 +65,8 @@ past_plain ps (Some (RebuildAt base)) plain = refl
 past_plain ps None plain = refl
 
 -- what reads as a change stood at its base
-change_there_by : (o : Option Piece) (ref : Ref) → change_reads o ≡ Some ref → (x : ChangeRow) × (o ≡ Some (Change x))
+change_there_by : (o : Option Piece) (ref : Ref) → change_reads o ≡ Some ref
+    → (x : ChangeRow) × (o ≡ Some (Change x))
 change_there_by (Some (Change x)) ref e = (x, refl)
 change_there_by (Some (Leaf x)) ref e = absurd (cc)
 change_there_by (Some (Inner x)) ref e = absurd (cc)
@@ -73,7 +75,8 @@ change_there_by None ref e = absurd (cc)
 
 -- a reference reads as before where the change that it names, if any, reads as before
 past_same : (ps qs : Pieces) (o : Option Ref) (ref : Ref)
-    → ((base : ℕ) (x : ChangeRow) → o ≡ Some (ChangeAt base) → ps base ≡ Some (Change x) → (y : ChangeRow) × (qs base ≡ Some (Change y)) × (side_of y ≡ side_of x))
+    → ((base : ℕ) (x : ChangeRow) → o ≡ Some (ChangeAt base) → ps base ≡ Some (Change x)
+    → (y : ChangeRow) × (qs base ≡ Some (Change y)) × (side_of y ≡ side_of x))
     → past_change ps o ≡ Some ref → past_change qs o ≡ Some ref
 past_same ps qs (Some (ChangeAt base)) ref same e =
     let x = change_there_by (ps base) ref e in
@@ -87,7 +90,8 @@ past_same ps qs (Some (RebuildAt base)) ref same e = e
 past_same ps qs None ref same e = e
 
 -- a slot reads as one thing
-pub reads_once : (t : Snapshot) (node i : ℕ) (a b : Ref) → t.pieces anchor ≡ None → ReadsAs t node i a → ReadsAs t node i b → a ≡ b
+pub reads_once : (t : Snapshot) (node i : ℕ) (a b : Ref) → t.pieces anchor ≡ None
+    → ReadsAs t node i a → ReadsAs t node i b → a ≡ b
 reads_once t node i a b free r s =
     one (past_change t.pieces (ref_of r.word)) r.reads (ap (λ w. past_change t.pieces (ref_of w)) (slot_once t node i r.word s.word free r.holds s.holds) ∙ s.reads)
   where
@@ -147,7 +151,8 @@ module _ (pairs : List Pair) (words : ℕ) (opens : CanOpen pairs words) where
 
   -- a slot that an event leaves
   reads_left : (log : Log) (event : Event) → EachEnabled (start pairs words) (event ∷ log)
-      → IsNoDecide event → (node i : ℕ) (ref : Ref) (r : ReadsAs (state_of pairs words log) node i ref)
+      → IsNoDecide event → (node i : ℕ) (ref : Ref)
+      (r : ReadsAs (state_of pairs words log) node i ref)
       → SlotHolds (state_of pairs words (event ∷ log)) node i r.word
       → ReadsAs (state_of pairs words (event ∷ log)) node i ref
   reads_left log event h still node i ref r slot =
@@ -160,7 +165,8 @@ module _ (pairs : List Pair) (words : ℕ) (opens : CanOpen pairs words) where
 
   -- a change that is installed reads as what it takes out
   pub reads_install : (log : Log) (caller base : ℕ) (rows : List Row)
-      → (h : EachEnabled (start pairs words) (Install caller base rows ∷ log)) → (node i : ℕ) (ref : Ref)
+      → (h : EachEnabled (start pairs words) (Install caller base rows ∷ log))
+      → (node i : ℕ) (ref : Ref)
       → ReadsAs (state_of pairs words log) node i ref
       → Reading pairs words log node i ref (Install caller base rows)
   reads_install log caller base rows h node i ref r =
@@ -229,7 +235,8 @@ module _ (pairs : List Pair) (words : ℕ) (opens : CanOpen pairs words) where
   reads_decide log caller base said h node i ref r = at said h (is_change_at (ref_of r.word) base)
     where
       -- the reference is the change's, or another
-      is_change_at : (o : Option Ref) (base : ℕ) → (o ≡ Some (ChangeAt base)) ⊎ (o ≢ Some (ChangeAt base))
+      is_change_at : (o : Option Ref) (base : ℕ)
+          → (o ≡ Some (ChangeAt base)) ⊎ (o ≢ Some (ChangeAt base))
       is_change_at (Some (ChangeAt b)) base = ⊎_elim (λ k. inl (ap (λ n. Some (ChangeAt n)) k.1)) (λ k. inr (λ e. k.1 (let same : b ≡ base = cc in same))) (eqb_tells b base)
       is_change_at (Some Empty) base = inr (λ e. cc)
       is_change_at (Some Unset) base = inr (λ e. cc)
@@ -282,8 +289,10 @@ module _ (pairs : List Pair) (words : ℕ) (opens : CanOpen pairs words) where
           (ap ref_of (sym (side_undecided h.1.change h.1.pending.unset)) ∙ sym (ap change_reads h.1.pending.published) ∙ ap (past_change t.pieces) (sym is) ∙ r.reads))
 
   -- the slot of a change that is decided yes reads as what it puts there
-  pub decide_reads : (log : Log) (caller base : ℕ) → EachEnabled (start pairs words) (Decide caller base true ∷ log)
-      → (x : ChangeRow) → (state_of pairs words log).pieces base ≡ Some (Change x) → (ref : Ref) → ref_of x.to ≡ Some ref
+  pub decide_reads : (log : Log) (caller base : ℕ)
+      → EachEnabled (start pairs words) (Decide caller base true ∷ log)
+      → (x : ChangeRow) → (state_of pairs words log).pieces base ≡ Some (Change x) → (ref : Ref)
+      → ref_of x.to ≡ Some ref
       → ReadsAs (state_of pairs words (Decide caller base true ∷ log)) x.node x.index ref
   decide_reads log caller base h x e ref is =
       let t = state_of pairs words log in

@@ -20,7 +20,8 @@ use Rattle.ist_links.proofs.InductionLemmas.{grow_behind}
 use Rattle.ist_links.proofs.ReadLemmas.{Fills, Reading, ReadsAs, Turns, filled_by, reads_decide, reads_install, reads_once, reads_place, reads_quiet, reads_resolve}
 
 -- a list of the same length has an element where the other has one
-get_alike : (xs ys : List ℕ) (i x : ℕ) → length xs ≡ length ys → slice_get xs i ≡ Some x → (y : ℕ) × (slice_get ys i ≡ Some y)
+get_alike : (xs ys : List ℕ) (i x : ℕ) → length xs ≡ length ys → slice_get xs i ≡ Some x
+    → (y : ℕ) × (slice_get ys i ≡ Some y)
 get_alike [] ys i x e at = absurd (cc)
 get_alike (a ∷ xs) [] i x e at = absurd (omega arith)
 get_alike (a ∷ xs) (b ∷ ys) zero x e at = (b, refl)
@@ -64,7 +65,8 @@ module _ (pairs : List Pair) (words : ℕ) (opens : CanOpen pairs words) where
 
   -- what each slot of a table reads as
   pub slot_reads : (log : Log) → EachEnabled (start pairs words) log → (node i word : ℕ)
-      → SlotHolds (state_of pairs words log) node i word → (ref : Ref) × ReadsAs (state_of pairs words log) node i ref
+      → SlotHolds (state_of pairs words log) node i word
+      → (ref : Ref) × ReadsAs (state_of pairs words log) node i ref
   slot_reads log h node i word slot =
       at (past_change t.pieces (ref_of word)) refl (past_change_names t node i (ref_of word) o (slot_names t node i word o slot))
     where
@@ -85,7 +87,8 @@ module _ (pairs : List Pair) (words : ℕ) (opens : CanOpen pairs words) where
           clash x a b = cc
 
   -- a slot of a node that stood there held a word
-  pub slot_held : (log : Log) (event : Event) → EachEnabled (start pairs words) (event ∷ log) → (node i word : ℕ)
+  pub slot_held : (log : Log) (event : Event) → EachEnabled (start pairs words) (event ∷ log)
+      → (node i word : ℕ)
       → Stood log node → SlotHolds (state_of pairs words (event ∷ log)) node i word
       → (old : ℕ) × SlotHolds (state_of pairs words log) node i old
   slot_held log event h node i word stood (in_anchor a b e) = ((state_of pairs words log).anchor, in_anchor a b refl)
@@ -99,12 +102,14 @@ module _ (pairs : List Pair) (words : ℕ) (opens : CanOpen pairs words) where
   -- where a slot comes to what it reads as: it read so before, or its change is decided yes now, or it is filled now
   pub data Turning (log : Log) (node i : ℕ) (ref : Ref) (event : Event) : Type 0 where
     read_before : ReadsAs (state_of pairs words log) node i ref → Turning log node i ref event
-    turned_now : (was : Ref) → ReadsAs (state_of pairs words log) node i was → Turns (start pairs words) log node i was event → Turning log node i ref event
+    turned_now : (was : Ref) → ReadsAs (state_of pairs words log) node i was
+        → Turns (start pairs words) log node i was event → Turning log node i ref event
     filled_now : Fills (start pairs words) log node i Unset event → Turning log node i ref event
 
   -- what a slot reads as behind an event
   pub reads_back : (log : Log) (event : Event) → EachEnabled (start pairs words) (event ∷ log)
-      → (node i : ℕ) (ref : Ref) → Stood log node → ReadsAs (state_of pairs words (event ∷ log)) node i ref
+      → (node i : ℕ) (ref : Ref) → Stood log node
+      → ReadsAs (state_of pairs words (event ∷ log)) node i ref
       → Turning log node i ref event
   reads_back log event h node i ref stood r =
       let old = slot_held log event h node i r.word stood r.holds in
@@ -119,8 +124,10 @@ module _ (pairs : List Pair) (words : ℕ) (opens : CanOpen pairs words) where
       (λ f. filled event was.0 f)
       (reads_any log event h node i was.0 was.1)
     where
-      filled : (event : Event) (was : Ref) → Fills (start pairs words) log node i was event → Turning log node i ref event
+      filled : (event : Event) (was : Ref) → Fills (start pairs words) log node i was event
+          → Turning log node i ref event
       filled event was f = filled_now (subst (λ x. Fills (start pairs words) log node i x event) (unset event was f) f)
         where
-          unset : (event : Event) (was : Ref) → Fills (start pairs words) log node i was event → was ≡ Unset
+          unset : (event : Event) (was : Ref) → Fills (start pairs words) log node i was event
+              → was ≡ Unset
           unset _ was (filled_by can here at is) = is

@@ -40,22 +40,27 @@ ideal_no_change ps _ _ _ _ (of_more r top under) base e = absurd (cc)
 
 module _ (pairs : List Pair) (words : ℕ) (opens : CanOpen pairs words) where
   -- the word of a change in a slot that isn't the one that an event writes stood there
-  kept_word : (log : Log) (event : Event) → EachEnabled (start pairs words) (event ∷ log) → (node i old word : ℕ)
-      → SlotHolds (state_of pairs words (event ∷ log)) node i old → SlotHolds (state_of pairs words (event ∷ log)) node i word
-      → SlotHolds (state_of pairs words log) node i old → SlotHolds (state_of pairs words log) node i word
+  kept_word : (log : Log) (event : Event) → EachEnabled (start pairs words) (event ∷ log)
+      → (node i old word : ℕ)
+      → SlotHolds (state_of pairs words (event ∷ log)) node i old
+      → SlotHolds (state_of pairs words (event ∷ log)) node i word
+      → SlotHolds (state_of pairs words log) node i old
+      → SlotHolds (state_of pairs words log) node i word
   kept_word log event h node i old word stays now was =
       subst (λ w. SlotHolds (state_of pairs words log) node i w) (slot_once (state_of pairs words (event ∷ log)) node i old word (anchor_free pairs words (event ∷ log) h) stays now) was
 
   -- what a change leaves behind is no change
   side_no_change : (log : Log) → EachEnabled (start pairs words) log → (at : ℕ) (x : ChangeRow)
-      → (state_of pairs words log).pieces at ≡ Some (Change x) → (base : ℕ) → ref_of (side_of x) ≢ Some (ChangeAt base)
+      → (state_of pairs words log).pieces at ≡ Some (Change x) → (base : ℕ)
+      → ref_of (side_of x) ≢ Some (ChangeAt base)
   side_no_change log h at x e =
       let t = state_of pairs words log in
       let row = (names pairs words opens log h).rows at (Change x) e in
       side_plain t.pieces x.node x.index (ref_of (side_of x)) (side_names t.pieces x.node x.index x row.0 row.1)
 
   -- a change that was published stood in its slot before the event, if it does behind it
-  stood_before : (log : Log) (event : Event) → EachEnabled (start pairs words) (event ∷ log) → (base : ℕ) (x : ChangeRow)
+  stood_before : (log : Log) (event : Event) → EachEnabled (start pairs words) (event ∷ log)
+      → (base : ℕ) (x : ChangeRow)
       → (state_of pairs words log).pieces base ≡ Some (Change x) → (node i old : ℕ)
       → SlotHolds (state_of pairs words log) node i old
       → SlotHolds (state_of pairs words (event ∷ log)) node i (word_of (ChangeAt base))
@@ -110,7 +115,8 @@ module _ (pairs : List Pair) (words : ℕ) (opens : CanOpen pairs words) where
   stood_before log (Lose caller bases) h base x e node i old was now = kept_word log (Lose caller bases) h node i old (word_of (ChangeAt base)) (slot_stays (start pairs words) log (Lose caller bases) h.1 (sound_behind pairs words log h.0) tt node i old was) now was
 
   -- a change that was resolved is published
-  resolved_published : (log : Log) → EachEnabled (start pairs words) log → (base : ℕ) → Happened (Resolves base) log
+  resolved_published : (log : Log) → EachEnabled (start pairs words) log → (base : ℕ)
+      → Happened (Resolves base) log
       → (x : ChangeRow) × ((state_of pairs words log).pieces base ≡ Some (Change x))
   resolved_published [] h base happened = absurd happened
   resolved_published (event ∷ log) h base (inl now) =
@@ -123,8 +129,10 @@ module _ (pairs : List Pair) (words : ℕ) (opens : CanOpen pairs words) where
       (on.0, on.1)
 
   -- the slot that a resolved change leaves holds its side
-  left_now : (log : Log) (event : Event) → EachEnabled (start pairs words) (event ∷ log) → (base : ℕ) → Resolves base event
-      → (node i : ℕ) → ¬ (SlotHolds (state_of pairs words (event ∷ log)) node i (word_of (ChangeAt base)))
+  left_now : (log : Log) (event : Event) → EachEnabled (start pairs words) (event ∷ log)
+      → (base : ℕ) → Resolves base event
+      → (node i : ℕ)
+      → ¬ (SlotHolds (state_of pairs words (event ∷ log)) node i (word_of (ChangeAt base)))
   left_now log (Resolve caller at) h base is node i slot =
       let t = state_of pairs words log in
       let u = state_of pairs words (Resolve caller at ∷ log) in
@@ -156,7 +164,8 @@ module _ (pairs : List Pair) (words : ℕ) (opens : CanOpen pairs words) where
   left_now log (Lose caller bases) h base is node i slot = absurd is
 
   -- a change that was resolved stands in no slot
-  pub resolved_gone : (log : Log) → EachEnabled (start pairs words) log → (base : ℕ) → Happened (Resolves base) log
+  pub resolved_gone : (log : Log) → EachEnabled (start pairs words) log → (base : ℕ)
+      → Happened (Resolves base) log
       → (node i : ℕ) → ¬ (SlotHolds (state_of pairs words log) node i (word_of (ChangeAt base)))
   resolved_gone [] h base happened node i slot = absurd happened
   resolved_gone (event ∷ log) h base (inl now) node i slot = left_now log event h base now node i slot
@@ -173,7 +182,9 @@ module _ (pairs : List Pair) (words : ℕ) (opens : CanOpen pairs words) where
       let old = slot_held pairs words opens log event h node i (word_of (ChangeAt base)) (stood log h.0 node was (eqb_tells node anchor)) slot in
       resolved_gone log h.0 base before node i (stood_before log event h base x.0 x.1 node i old.0 old.1 slot)
     where
-      stood : (log : Log) → EachEnabled (start pairs words) log → (node : ℕ) → WasLinked (start pairs words) log node
-          → (((node == anchor) ≡ true) × (node ≡ anchor)) ⊎ (((node == anchor) ≡ false) × (node ≢ anchor)) → Stood pairs words opens log node
+      stood : (log : Log) → EachEnabled (start pairs words) log → (node : ℕ)
+          → WasLinked (start pairs words) log node
+          → (((node == anchor) ≡ true) × (node ≡ anchor))
+          ⊎ (((node == anchor) ≡ false) × (node ≢ anchor)) → Stood pairs words opens log node
       stood log h node was (inl k) = was_anchor k.1
       stood log h node was (inr k) = was_row (was_linked_here pairs words opens log h node k.1 was)

@@ -41,16 +41,19 @@ use Rattle.ist_rebuilds.proofs.UnlinkedLemmas.{inner_set, never_down, never_stan
 
 -- where a rebuild with this root comes from
 data RootCame (pairs : List Pair) (words : ℕ) (log : Log) (event : Event) (rebuild base : ℕ) : Type 0 where
-  root_was : (s : RebuildRow) → (state_of pairs words log).pieces rebuild ≡ Some (Rebuild s) → ref_of s.root ≡ Some (InnerAt base)
+  root_was : (s : RebuildRow) → (state_of pairs words log).pieces rebuild ≡ Some (Rebuild s)
+      → ref_of s.root ≡ Some (InnerAt base)
       → RootCame pairs words log event rebuild base
   root_new : (caller word : ℕ) (rows : List Row) → event ≡ Root caller rebuild word rows
       → (state_of pairs words log).pieces base ≡ None → RootCame pairs words log event rebuild base
 
-same_root : (a b c d v w : ℕ) (xs ys : List Row) (event : Event) → event ≡ Root a b v xs → event ≡ Root c d w ys → b ≡ d
+same_root : (a b c d v w : ℕ) (xs ys : List Row) (event : Event) → event ≡ Root a b v xs
+    → event ≡ Root c d w ys → b ≡ d
 same_root a b c d v w xs ys event e f = cc
 
 module _ (pairs : List Pair) (words : ℕ) (opens : CanOpen pairs words) where
-  root_came : (log : Log) (event : Event) → EachEnabled (start pairs words) (event ∷ log) → (rebuild base : ℕ) (r : RebuildRow)
+  root_came : (log : Log) (event : Event) → EachEnabled (start pairs words) (event ∷ log)
+      → (rebuild base : ℕ) (r : RebuildRow)
       → ref_of r.root ≡ Some (InnerAt base) → RebuildComes (start pairs words) log rebuild r event
       → RootCame pairs words log event rebuild base
   root_came log event h rebuild base r is (rebuild_was old) = root_was r old is
@@ -63,22 +66,27 @@ module _ (pairs : List Pair) (words : ℕ) (opens : CanOpen pairs words) where
   root_came log _ h rebuild base r is (is_drawn can same) = root_was can.row can.published (ap (λ x. ref_of x.root) (sym same) ∙ is)
 
   -- two rebuilds have two roots
-  pub root_once : (log : Log) → EachEnabled (start pairs words) log → (a b base : ℕ) (r s : RebuildRow)
-      → (state_of pairs words log).pieces a ≡ Some (Rebuild r) → (state_of pairs words log).pieces b ≡ Some (Rebuild s)
+  pub root_once : (log : Log) → EachEnabled (start pairs words) log
+      → (a b base : ℕ) (r s : RebuildRow)
+      → (state_of pairs words log).pieces a ≡ Some (Rebuild r)
+      → (state_of pairs words log).pieces b ≡ Some (Rebuild s)
       → ref_of r.root ≡ Some (InnerAt base) → ref_of s.root ≡ Some (InnerAt base) → a ≡ b
   root_once [] h a b base r s e f x y = absurd (start_quiet pairs words a (Rebuild r) e)
   root_once (event ∷ log) h a b base r s e f x y =
       both (root_came log event h a base r x (rebuild_comes pairs words log event h a r e)) (root_came log event h b base s y (rebuild_comes pairs words log event h b s f))
       (λ p q i j k l. root_once log h.0 a b base p q i j k l)
     where
-      clash : (rebuild : ℕ) (q : RebuildRow) → (state_of pairs words log).pieces rebuild ≡ Some (Rebuild q)
+      clash : (rebuild : ℕ) (q : RebuildRow)
+          → (state_of pairs words log).pieces rebuild ≡ Some (Rebuild q)
           → ref_of q.root ≡ Some (InnerAt base) → (state_of pairs words log).pieces base ≡ None → ⊥
       clash rebuild q k named none =
           let it = mentioned_here (state_of pairs words log) q.parent q.index base (names pairs words opens log h.0) (root_named pairs words opens log rebuild base q k named) in
           no_piece ((state_of pairs words log).pieces base) (Inner it.0) none it.1
 
       both : RootCame pairs words log event a base → RootCame pairs words log event b base
-          → ((p q : RebuildRow) → (state_of pairs words log).pieces a ≡ Some (Rebuild p) → (state_of pairs words log).pieces b ≡ Some (Rebuild q) → ref_of p.root ≡ Some (InnerAt base) → ref_of q.root ≡ Some (InnerAt base) → a ≡ b)
+          → ((p q : RebuildRow) → (state_of pairs words log).pieces a ≡ Some (Rebuild p)
+          → (state_of pairs words log).pieces b ≡ Some (Rebuild q)
+          → ref_of p.root ≡ Some (InnerAt base) → ref_of q.root ≡ Some (InnerAt base) → a ≡ b)
           → a ≡ b
       both (root_was p i k) (root_was q j l) before = before p q i j k l
       both (root_was p i k) (root_new c w rows is none) before = absurd (clash a p i k none)
@@ -127,7 +135,8 @@ module _ (pairs : List Pair) (words : ℕ) (opens : CanOpen pairs words) where
       → EachEnabled (start pairs words) (Place caller rebuild i word rows ∷ log)
       → (can : CanPlace (state_of pairs words log) caller rebuild i word rows)
       → (at : ℕ) (r : RebuildRow) → (state_of pairs words log).pieces at ≡ Some (Rebuild r)
-      → (leaves : List PlacedLeaf) → HasLeaves (state_of pairs words log).pieces (Some (InnerAt r.target)) leaves
+      → (leaves : List PlacedLeaf)
+      → HasLeaves (state_of pairs words log).pieces (Some (InnerAt r.target)) leaves
       → ref_of r.root ≡ Some (InnerAt can.root) → (row : InnerRow)
       → IsTop (state_of pairs words log).pieces can.root row leaves r.target
       → (built : List ℕ)
@@ -170,7 +179,8 @@ module _ (pairs : List Pair) (words : ℕ) (opens : CanOpen pairs words) where
   -- the top row of a tree in parts behind an event
   top_step : (log : Log) (event : Event) → EachEnabled (start pairs words) (event ∷ log)
       → (at : ℕ) (r : RebuildRow) → (state_of pairs words log).pieces at ≡ Some (Rebuild r)
-      → (leaves : List PlacedLeaf) → HasLeaves (state_of pairs words log).pieces (Some (InnerAt r.target)) leaves
+      → (leaves : List PlacedLeaf)
+      → HasLeaves (state_of pairs words log).pieces (Some (InnerAt r.target)) leaves
       → (base : ℕ) → ref_of r.root ≡ Some (InnerAt base) → (row now : InnerRow)
       → IsTop (state_of pairs words log).pieces base row leaves r.target → (built : List ℕ)
       → ArePartly (state_of pairs words (event ∷ log)).pieces row.slots (parts leaves) base built

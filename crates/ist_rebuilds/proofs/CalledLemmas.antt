@@ -22,7 +22,8 @@ use Rattle.ist_links.proofs.OriginLemmas.{StatusComes, finished_now, is_new, mar
 use Rattle.ist_links.proofs.QuietLemmas.{start_quiet}
 
 -- a cause stays one
-called_grows : (t u : Snapshot) → AllGrow t.pieces u.pieces → (log : Log) (event : Event) (node : ℕ) → IsCalled t log node
+called_grows : (t u : Snapshot) → AllGrow t.pieces u.pieces → (log : Log) (event : Event) (node : ℕ)
+    → IsCalled t log node
     → IsCalled u (event ∷ log) node
 called_grows t u g log event node (as_target rebuild target started) = as_target rebuild (target_grows t u g rebuild node target) (started_grows t u g rebuild started)
 called_grows t u g log event node (as_child above i word p is) = as_child above i word (inr p) is
@@ -30,15 +31,18 @@ called_grows t u g log event node (behind_rebuild above i word rebuild p is targ
 
 module _ (pairs : List Pair) (words : ℕ) where
   -- each row that isn't open has a cause
-  pub closed_is_called : (log : Log) → EachEnabled (start pairs words) log → (node : ℕ) (r : InnerRow)
+  pub closed_is_called : (log : Log) → EachEnabled (start pairs words) log
+      → (node : ℕ) (r : InnerRow)
       → (state_of pairs words log).pieces node ≡ Some (Inner r) → r.status ≢ open_word
       → IsCalled (state_of pairs words log) log node
   closed_is_called [] h node r e closed = absurd (closed (start_quiet pairs words node (Inner r) e))
   closed_is_called (event ∷ log) h node r e closed =
       by_origin event h (status_comes pairs words log event h node r e) (λ s old shut. closed_is_called log h.0 node s old shut)
     where
-      by_origin : (event : Event) → EachEnabled (start pairs words) (event ∷ log) → StatusComes (start pairs words) log node r.status event
-          → ((s : InnerRow) → (state_of pairs words log).pieces node ≡ Some (Inner s) → s.status ≢ open_word → IsCalled (state_of pairs words log) log node)
+      by_origin : (event : Event) → EachEnabled (start pairs words) (event ∷ log)
+          → StatusComes (start pairs words) log node r.status event
+          → ((s : InnerRow) → (state_of pairs words log).pieces node ≡ Some (Inner s)
+          → s.status ≢ open_word → IsCalled (state_of pairs words log) log node)
           → IsCalled (state_of pairs words (event ∷ log)) (event ∷ log) node
       by_origin event all (status_was s old same) before =
           called_grows (state_of pairs words log) (state_of pairs words (event ∷ log)) (grow_behind pairs words log event all) log event node (before s old (λ o. closed (same ∙ o)))

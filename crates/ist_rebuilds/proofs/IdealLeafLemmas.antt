@@ -42,7 +42,8 @@ joined_parts xs = joined_cut (part_lens (length xs)) xs (sum-part_lens (length x
 -- ---- leaves
 
 -- an ideal reference reads as itself, in any table
-pub ideal_reads : (us ps : Pieces) (ref : Ref) (leaves : List PlacedLeaf) (above : ℕ) (rows : List ℕ)
+pub ideal_reads : (us ps : Pieces) (ref : Ref) (leaves : List PlacedLeaf) (above : ℕ)
+    (rows : List ℕ)
     → IsIdeal ps ref leaves above rows → past_rebuild us (past_change us (Some ref)) ≡ Some ref
 ideal_reads us ps _ _ _ _ of_none = refl
 ideal_reads us ps _ _ _ _ (of_one same e) = refl
@@ -50,7 +51,8 @@ ideal_reads us ps _ _ _ _ (of_more r top under) = refl
 
 mutual
   -- an ideal subtree has the leaves that it is over
-  pub ideal_leaves : (ps : Pieces) (ref : Ref) (leaves : List PlacedLeaf) (above : ℕ) (rows : List ℕ)
+  pub ideal_leaves : (ps : Pieces) (ref : Ref) (leaves : List PlacedLeaf) (above : ℕ)
+      (rows : List ℕ)
       → IsIdeal ps ref leaves above rows → HasLeaves ps (Some ref) leaves
   ideal_leaves ps _ _ _ _ of_none = none_here
   ideal_leaves ps _ _ _ _ (of_one {base = base} {leaf = leaf} same e) =
@@ -58,7 +60,8 @@ mutual
   ideal_leaves ps _ _ above _ (of_more {base = base} {leaves = leaves} {rows = rows} r top under) =
       row_here r top.published (subst (λ ls. SlotsHaveLeaves ps r.slots ls) (joined_parts leaves) (parts_leaves ps r.slots (parts leaves) base rows under))
 
-  parts_leaves : (ps : Pieces) (words : List ℕ) (behind : List (List PlacedLeaf)) (above : ℕ) (rows : List ℕ)
+  parts_leaves : (ps : Pieces) (words : List ℕ) (behind : List (List PlacedLeaf)) (above : ℕ)
+      (rows : List ℕ)
       → AreIdeal ps words behind above rows → SlotsHaveLeaves ps words (joined behind)
   parts_leaves ps _ _ _ _ no_part = no_slot
   parts_leaves ps _ _ above _ (one_part {word = word} {words = words} {here = here} {rest = rest} {part = part} {behind = behind} ref is first more) =
@@ -73,21 +76,24 @@ ideal_plain ps _ _ _ _ (of_one same e) = refl
 ideal_plain ps _ _ _ _ (of_more r top under) = refl
 
 -- nor is it in any other table
-pub ideal_plain_in : (us ps : Pieces) (ref : Ref) (leaves : List PlacedLeaf) (above : ℕ) (rows : List ℕ)
+pub ideal_plain_in : (us ps : Pieces) (ref : Ref) (leaves : List PlacedLeaf) (above : ℕ)
+    (rows : List ℕ)
     → IsIdeal ps ref leaves above rows → past_rebuild us (Some ref) ≡ Some ref
 ideal_plain_in us ps _ _ _ _ of_none = refl
 ideal_plain_in us ps _ _ _ _ (of_one same e) = refl
 ideal_plain_in us ps _ _ _ _ (of_more r top under) = refl
 
 -- its row lies above
-pub ideal_above : (ps : Pieces) (ref : Ref) (leaves : List PlacedLeaf) (above : ℕ) (rows : List ℕ) (base : ℕ)
+pub ideal_above : (ps : Pieces) (ref : Ref) (leaves : List PlacedLeaf) (above : ℕ) (rows : List ℕ)
+    (base : ℕ)
     → IsIdeal ps ref leaves above rows → ref ≡ InnerAt base → above < base
 ideal_above ps _ _ _ _ base of_none e = absurd (cc)
 ideal_above ps _ _ _ _ base (of_one same k) e = absurd (cc)
 ideal_above ps _ _ above _ base (of_more {base = b} r top under) e = let same : b ≡ base = cc in subst (λ n. above < n) same top.higher
 
 -- a Decide leaves leaves and inner rows as they are
-pub decided_stands : (pairs : List Pair) (words : ℕ) (log : Log) (caller base : ℕ) (said : Bool) (rows : List ℕ)
+pub decided_stands : (pairs : List Pair) (words : ℕ) (log : Log) (caller base : ℕ) (said : Bool)
+    (rows : List ℕ)
     → StandsIn (state_of pairs words log).pieces (state_of pairs words (Decide caller base said ∷ log)).pieces rows
 decided_stands pairs words log caller base said rows =
     let t = state_of pairs words log in

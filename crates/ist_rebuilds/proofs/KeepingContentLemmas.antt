@@ -49,19 +49,22 @@ AlikeSlots ps qs old new =
 pub record Alike (ps qs : Pieces) : Type 0 where
   pub leaf : (base : ℕ) (r : LeafRow) → ps base ≡ Some (Leaf r) → qs base ≡ Some (Leaf r)
   pub row : (base : ℕ) (r : InnerRow) → ps base ≡ Some (Inner r)
-      → (s : InnerRow) × (qs base ≡ Some (Inner s)) × (length s.slots ≡ length r.slots) × AlikeSlots ps qs r.slots s.slots
+      → (s : InnerRow) × (qs base ≡ Some (Inner s))
+      × (length s.slots ≡ length r.slots) × AlikeSlots ps qs r.slots s.slots
 
 module _ (ps qs : Pieces) (alike : Alike ps qs) where
   mutual
     -- what is reached in the first table is reached in the second
-    pub leaves_move : (ref : Option Ref) (leaves : List PlacedLeaf) → HasLeaves ps ref leaves → HasLeaves qs ref leaves
+    pub leaves_move : (ref : Option Ref) (leaves : List PlacedLeaf) → HasLeaves ps ref leaves
+        → HasLeaves qs ref leaves
     leaves_move _ _ none_here = none_here
     leaves_move _ _ (leaf_here {base = base} r e) = leaf_here r (alike.leaf base r e)
     leaves_move _ _ (row_here {base = base} {leaves = leaves} r e under) =
         let it = alike.row base r e in
         row_here it.0 it.1 (slots_move r.slots leaves under it.0.slots it.2 it.3)
 
-    slots_move : (words : List ℕ) (leaves : List PlacedLeaf) → SlotsHaveLeaves ps words leaves → (new : List ℕ)
+    slots_move : (words : List ℕ) (leaves : List PlacedLeaf) → SlotsHaveLeaves ps words leaves
+        → (new : List ℕ)
         → length new ≡ length words → AlikeSlots ps qs words new → SlotsHaveLeaves qs new leaves
     slots_move _ _ no_slot [] long slots = no_slot
     slots_move _ _ no_slot (v ∷ vs) long slots = absurd (omega arith)
@@ -74,7 +77,8 @@ module _ (ps qs : Pieces) (alike : Alike ps qs) where
 -- ---- one event
 
 -- what a reference reads as, if it leads anywhere, it reads as once rows grow
-past_rebuild_grows : (t u : Snapshot) → AllGrow t.pieces u.pieces → (ref : Ref) (leaves : List PlacedLeaf)
+past_rebuild_grows : (t u : Snapshot) → AllGrow t.pieces u.pieces
+    → (ref : Ref) (leaves : List PlacedLeaf)
     → HasLeaves t.pieces (past_rebuild t.pieces (Some ref)) leaves
     → past_rebuild u.pieces (Some ref) ≡ past_rebuild t.pieces (Some ref)
 past_rebuild_grows t u g (RebuildAt base) leaves h = at (t.pieces base) refl h
@@ -142,8 +146,10 @@ module _ (pairs : List Pair) (words : ℕ) (opens : CanOpen pairs words) where
   -- each slot has the leaves that it had
   slot_leaves : (log : Log) (event : Event) → EachEnabled (start pairs words) (event ∷ log)
       → LeavesContents (state_of pairs words log) event → (node i w v : ℕ)
-      → SlotHolds (state_of pairs words log) node i w → SlotHolds (state_of pairs words (event ∷ log)) node i v
-      → (leaves : List PlacedLeaf) → HasLeaves (state_of pairs words log).pieces (logical (state_of pairs words log).pieces w) leaves
+      → SlotHolds (state_of pairs words log) node i w
+      → SlotHolds (state_of pairs words (event ∷ log)) node i v
+      → (leaves : List PlacedLeaf)
+      → HasLeaves (state_of pairs words log).pieces (logical (state_of pairs words log).pieces w) leaves
       → (logical (state_of pairs words (event ∷ log)).pieces v ≡ logical (state_of pairs words log).pieces w)
       ⊎ HasLeaves (state_of pairs words (event ∷ log)).pieces (logical (state_of pairs words (event ∷ log)).pieces v) leaves
   slot_leaves log event h keeps node i w v old now leaves has = at (past_change (state_of pairs words log).pieces (ref_of w)) refl has
@@ -168,7 +174,8 @@ module _ (pairs : List Pair) (words : ℕ) (opens : CanOpen pairs words) where
   -- an event that decides no update yes keeps the contents
   pub contents_kept : (log : Log) (event : Event) → EachEnabled (start pairs words) (event ∷ log)
       → LeavesContents (state_of pairs words log) event → (contents : List Pair)
-      → HasContents (state_of pairs words log) contents → HasContents (state_of pairs words (event ∷ log)) contents
+      → HasContents (state_of pairs words log) contents
+      → HasContents (state_of pairs words (event ∷ log)) contents
   contents_kept log event h keeps contents c =
       let t = state_of pairs words log in
       let u = state_of pairs words (event ∷ log) in

@@ -44,13 +44,15 @@ use Rattle.ist_rebuilds.proofs.WholeLemmas.{target_leaves_kept}
 
 mutual
   -- each leaf that is reached is published
-  leaves_stand : (ps : Pieces) (ref : Option Ref) (leaves : List PlacedLeaf) → HasLeaves ps ref leaves
+  leaves_stand : (ps : Pieces) (ref : Option Ref) (leaves : List PlacedLeaf)
+      → HasLeaves ps ref leaves
       → Each (λ leaf. ps leaf.base ≡ Some (Leaf leaf.row)) leaves
   leaves_stand ps _ _ none_here = tt
   leaves_stand ps _ _ (leaf_here r e) = (e, tt)
   leaves_stand ps _ _ (row_here {leaves = leaves} r e under) = slots_stand ps r.slots leaves under
 
-  slots_stand : (ps : Pieces) (words : List ℕ) (leaves : List PlacedLeaf) → SlotsHaveLeaves ps words leaves
+  slots_stand : (ps : Pieces) (words : List ℕ) (leaves : List PlacedLeaf)
+      → SlotsHaveLeaves ps words leaves
       → Each (λ leaf. ps leaf.base ≡ Some (Leaf leaf.row)) leaves
   slots_stand ps _ _ no_slot = tt
   slots_stand ps _ _ (one_slot {word = word} {words = words} {here = here} {rest = rest} first more) =
@@ -62,8 +64,10 @@ leaf_bases [] = []
 leaf_bases (leaf ∷ leaves) = leaf.base ∷ leaf_bases leaves
 
 -- a leaf whose key is above another's has another base
-base_absent : (ps : Pieces) (leaf : PlacedLeaf) (leaves : List PlacedLeaf) → ps leaf.base ≡ Some (Leaf leaf.row)
-    → Each (λ l. ps l.base ≡ Some (Leaf l.row)) leaves → Each (λ l. key_of_leaf leaf < key_of_leaf l) leaves
+base_absent : (ps : Pieces) (leaf : PlacedLeaf) (leaves : List PlacedLeaf)
+    → ps leaf.base ≡ Some (Leaf leaf.row)
+    → Each (λ l. ps l.base ≡ Some (Leaf l.row)) leaves
+    → Each (λ l. key_of_leaf leaf < key_of_leaf l) leaves
     → ¬ (Among leaf.base (leaf_bases leaves))
 base_absent ps leaf [] e all above i = i
 base_absent ps leaf (l ∷ leaves) e all above (inl same) =
@@ -77,7 +81,8 @@ base_absent ps leaf (l ∷ leaves) e all above (inl same) =
 base_absent ps leaf (l ∷ leaves) e all above (inr i) = base_absent ps leaf leaves e all.1 above.1 i
 
 -- rising leaves have distinct bases
-bases_distinct : (ps : Pieces) (leaves : List PlacedLeaf) → Each (λ l. ps l.base ≡ Some (Leaf l.row)) leaves
+bases_distinct : (ps : Pieces) (leaves : List PlacedLeaf)
+    → Each (λ l. ps l.base ≡ Some (Leaf l.row)) leaves
     → Rises key_of_leaf leaves → Distinct (leaf_bases leaves)
 bases_distinct ps [] all rise = tt
 bases_distinct ps (leaf ∷ leaves) all rise = (base_absent ps leaf leaves all.0 all.1 rise.0, bases_distinct ps leaves all.1 rise.1)
@@ -86,7 +91,8 @@ length-leaf_bases : (leaves : List PlacedLeaf) → length (leaf_bases leaves) �
 length-leaf_bases [] = refl
 length-leaf_bases (leaf ∷ leaves) = let rest = length-leaf_bases leaves in omega arith
 
-bases_low : (ps : Pieces) (n : ℕ) → ((base : ℕ) (p : Piece) → ps base ≡ Some p → base < n) → (leaves : List PlacedLeaf)
+bases_low : (ps : Pieces) (n : ℕ) → ((base : ℕ) (p : Piece) → ps base ≡ Some p → base < n)
+    → (leaves : List PlacedLeaf)
     → Each (λ l. ps l.base ≡ Some (Leaf l.row)) leaves → Each (λ b. b < n) (leaf_bases leaves)
 bases_low ps n low [] all = tt
 bases_low ps n low (leaf ∷ leaves) all = (low leaf.base (Leaf leaf.row) all.0, bases_low ps n low leaves all.1)
@@ -105,7 +111,8 @@ module _ (pairs : List Pair) (words : ℕ) (opens : CanOpen pairs words) where
   HasTargetLeaves log r = (leaves : List PlacedLeaf) × HasLeaves (state_of pairs words log).pieces (Some (InnerAt r.target)) leaves
 
   target_leaves : (log : Log) → EachEnabled (start pairs words) log → (base : ℕ) (r : RebuildRow)
-      → (state_of pairs words log).pieces base ≡ Some (Rebuild r) → r.root ≢ unset_word → HasTargetLeaves log r
+      → (state_of pairs words log).pieces base ≡ Some (Rebuild r) → r.root ≢ unset_word
+      → HasTargetLeaves log r
   target_leaves =
       rebuilds_by pairs words (λ log base r. r.root ≢ unset_word → HasTargetLeaves log r)
       (λ log event h base r old there before set. let it = before set in (it.0, target_leaves_kept pairs words opens log event h base r old set it.0 it.1))
@@ -116,11 +123,13 @@ module _ (pairs : List Pair) (words : ℕ) (opens : CanOpen pairs words) where
       let it = before set in (it.0, target_leaves_kept pairs words opens log (Draw caller base part) h base can.row can.published set it.0 it.1))
 
   -- a root that comes is set
-  root_comes_set : (log : Log) (caller base word : ℕ) (rows : List Row) → CanRoot (state_of pairs words log) caller base word rows
+  root_comes_set : (log : Log) (caller base word : ℕ) (rows : List Row)
+      → CanRoot (state_of pairs words log) caller base word rows
       → word ≢ unset_word
   root_comes_set log caller base word rows can none = at (with_inners (state_of pairs words log).pieces rows) can.k can.leaves can.row.target (bases_of rows) can.root
     where
-      at : (ps : Pieces) (k : ℕ) (leaves : List PlacedLeaf) (target : ℕ) (bases : List ℕ) → IsRoot ps word k leaves target bases → ⊥
+      at : (ps : Pieces) (k : ℕ) (leaves : List PlacedLeaf) (target : ℕ) (bases : List ℕ)
+          → IsRoot ps word k leaves target bases → ⊥
       at ps k leaves target bases (root_whole ref few is ideal) =
           ideal_set ps ref leaves target bases ideal (one ref (sym is ∙ ap ref_of none ∙ ref_of-unset))
         where
@@ -158,10 +167,12 @@ module _ (pairs : List Pair) (words : ℕ) (opens : CanOpen pairs words) where
 
   -- its draw word is at most that, and one more for each caller
   pub draw_low : (log : Log) → EachEnabled (start pairs words) log → (base : ℕ) (r : RebuildRow)
-      → (state_of pairs words log).pieces base ≡ Some (Rebuild r) → r.draw ≤ place_limit + caller_limit
+      → (state_of pairs words log).pieces base ≡ Some (Rebuild r)
+      → r.draw ≤ place_limit + caller_limit
   draw_low log h base r e = at (eqb_tells r.root unset_word)
     where
-      at : (((r.root == unset_word) ≡ true) × (r.root ≡ unset_word)) ⊎ (((r.root == unset_word) ≡ false) × (r.root ≢ unset_word))
+      at : (((r.root == unset_word) ≡ true) × (r.root ≡ unset_word))
+          ⊎ (((r.root == unset_word) ≡ false) × (r.root ≢ unset_word))
           → r.draw ≤ place_limit + caller_limit
       at (inl none) = let undrawn = rootless_undrawn log h base r e none.1 in omega arith
       at (inr set) =

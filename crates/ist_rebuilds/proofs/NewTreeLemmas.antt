@@ -16,7 +16,8 @@ use Rattle.ist_core.proofs.ReferenceLemmas.{ref_of-unset}
 -- what a row of one table is in another: leaves stand, and so do these inner rows
 pub record StandsIn (ps qs : Pieces) (rows : List ℕ) : Type 0 where
   pub leaf : (base : ℕ) (r : LeafRow) → ps base ≡ Some (Leaf r) → qs base ≡ Some (Leaf r)
-  pub inner : (base : ℕ) (r : InnerRow) → Among base rows → ps base ≡ Some (Inner r) → qs base ≡ Some (Inner r)
+  pub inner : (base : ℕ) (r : InnerRow) → Among base rows → ps base ≡ Some (Inner r)
+      → qs base ≡ Some (Inner r)
 
 -- the top of a tree stays one where its row stays
 pub top_kept : (ps qs : Pieces) (base : ℕ) (r : InnerRow) (leaves : List PlacedLeaf) (above : ℕ)
@@ -35,7 +36,8 @@ top_kept ps qs base r leaves above h e =
 
 mutual
   -- an ideal subtree stays one where its rows stand
-  pub ideal_kept : (ps qs : Pieces) (ref : Ref) (leaves : List PlacedLeaf) (above : ℕ) (rows : List ℕ)
+  pub ideal_kept : (ps qs : Pieces) (ref : Ref) (leaves : List PlacedLeaf) (above : ℕ)
+      (rows : List ℕ)
       → IsIdeal ps ref leaves above rows → StandsIn ps qs rows → IsIdeal qs ref leaves above rows
   ideal_kept ps qs _ _ _ _ of_none s = of_none
   ideal_kept ps qs _ _ _ _ (of_one {base = base} {leaf = leaf} same e) s = of_one same (s.leaf base leaf.row e)
@@ -45,7 +47,8 @@ mutual
 
   pub parts_kept : (ps qs : Pieces) (words : List ℕ) (behind : List (List PlacedLeaf)) (above : ℕ)
       (rows : List ℕ)
-      → AreIdeal ps words behind above rows → StandsIn ps qs rows → AreIdeal qs words behind above rows
+      → AreIdeal ps words behind above rows → StandsIn ps qs rows
+      → AreIdeal qs words behind above rows
   parts_kept ps qs _ _ _ _ no_part s = no_part
   parts_kept ps qs _ _ above _ (one_part {words = words} {here = here} {rest = rest} {part = part} {behind = behind} ref e first more) s =
       one_part ref e (ideal_kept ps qs ref part above here first record { leaf = s.leaf; inner = λ b x i k. s.inner b x (among_left b here rest i) k })
@@ -101,23 +104,28 @@ mutual
 pub data ArePartly (ps : Pieces) : List ℕ → List (List PlacedLeaf) → ℕ → List ℕ → Type 0 where
   no_more : {above : ℕ} → ArePartly ps [] [] above []
   not_built : {above : ℕ} {words rest : List ℕ} {part : List PlacedLeaf} {behind : List (List PlacedLeaf)}
-      → ArePartly ps words behind above rest → ArePartly ps (unset_word ∷ words) (part ∷ behind) above rest
+      → ArePartly ps words behind above rest
+      → ArePartly ps (unset_word ∷ words) (part ∷ behind) above rest
   is_built : {word above : ℕ} {words here rest : List ℕ} {part : List PlacedLeaf} {behind : List (List PlacedLeaf)}
-      (ref : Ref) → ref_of word ≡ Some ref → IsIdeal ps ref part above here → ArePartly ps words behind above rest
+      (ref : Ref) → ref_of word ≡ Some ref → IsIdeal ps ref part above here
+      → ArePartly ps words behind above rest
       → ArePartly ps (word ∷ words) (part ∷ behind) above (here ++ rest)
 
 -- the reference is an ideal subtree, or the top row of one of which some parts aren't built yet. `rows` are the bases of what
 -- is built, but for such a top row
 pub data IsPartly (ps : Pieces) : Ref → List PlacedLeaf → ℕ → List ℕ → Type 0 where
-  whole : {ref : Ref} {leaves : List PlacedLeaf} {above : ℕ} {rows : List ℕ} → IsIdeal ps ref leaves above rows
+  whole : {ref : Ref} {leaves : List PlacedLeaf} {above : ℕ} {rows : List ℕ}
+      → IsIdeal ps ref leaves above rows
       → IsPartly ps ref leaves above rows
-  in_parts : {base above : ℕ} {leaves : List PlacedLeaf} {rows : List ℕ} (r : InnerRow) → IsTop ps base r leaves above
+  in_parts : {base above : ℕ} {leaves : List PlacedLeaf} {rows : List ℕ} (r : InnerRow)
+      → IsTop ps base r leaves above
       → ArePartly ps r.slots (parts leaves) base rows → IsPartly ps (InnerAt base) leaves above rows
 
 -- what is built stays where its rows stand
 pub partly_kept : (ps qs : Pieces) (words : List ℕ) (behind : List (List PlacedLeaf)) (above : ℕ)
     (rows : List ℕ)
-    → ArePartly ps words behind above rows → StandsIn ps qs rows → ArePartly qs words behind above rows
+    → ArePartly ps words behind above rows → StandsIn ps qs rows
+    → ArePartly qs words behind above rows
 partly_kept ps qs _ _ _ _ no_more s = no_more
 partly_kept ps qs _ _ above _ (not_built {words = words} {rest = rest} {behind = behind} more) s = not_built (partly_kept ps qs words behind above rest more s)
 partly_kept ps qs _ _ above _ (is_built {words = words} {here = here} {rest = rest} {part = part} {behind = behind} ref e first more) s =
@@ -143,7 +151,8 @@ partly_all ps _ _ above _ (is_built {words = words} {rest = rest} {behind = behi
     one_part ref e first (partly_all ps words behind above rest more (λ i k. set (suc i) k))
 
 -- at first nothing is built
-pub partly_none : (ps : Pieces) (behind : List (List PlacedLeaf)) (above : ℕ) → ArePartly ps (replicate (length behind) unset_word) behind above []
+pub partly_none : (ps : Pieces) (behind : List (List PlacedLeaf)) (above : ℕ)
+    → ArePartly ps (replicate (length behind) unset_word) behind above []
 partly_none ps [] above = no_more
 partly_none ps (part ∷ behind) above = not_built (partly_none ps behind above)
 
@@ -152,8 +161,10 @@ abbrev pub SomePartly : Pieces → List ℕ → List (List PlacedLeaf) → ℕ �
 SomePartly ps words behind above = (rows : List ℕ) × ArePartly ps words behind above rows
 
 -- a part comes into its slot
-pub partly_placed : (ps : Pieces) (words : List ℕ) (behind : List (List PlacedLeaf)) (above : ℕ) (rows : List ℕ)
-    → ArePartly ps words behind above rows → (i word : ℕ) (part : List PlacedLeaf) (ref : Ref) (new : List ℕ)
+pub partly_placed : (ps : Pieces) (words : List ℕ) (behind : List (List PlacedLeaf)) (above : ℕ)
+    (rows : List ℕ)
+    → ArePartly ps words behind above rows → (i word : ℕ) (part : List PlacedLeaf) (ref : Ref)
+    (new : List ℕ)
     → slice_get words i ≡ Some unset_word → slice_get behind i ≡ Some part → ref_of word ≡ Some ref
     → IsIdeal ps ref part above new → SomePartly ps (slice_set words i word) behind above
 partly_placed ps _ _ above _ no_more i word part ref new free at is ideal = absurd (cc)
@@ -180,7 +191,8 @@ module _ (ps : Pieces) (P : ℕ → Type 0) (down : GoesDown ps P) where
   mutual
     -- where it holds of the top of an ideal subtree it holds of each row
     pub ideal_each : (ref : Ref) (leaves : List PlacedLeaf) (above : ℕ) (rows : List ℕ)
-        → IsIdeal ps ref leaves above rows → ((base : ℕ) → ref ≡ InnerAt base → P base) → Each P rows
+        → IsIdeal ps ref leaves above rows → ((base : ℕ) → ref ≡ InnerAt base → P base)
+        → Each P rows
     ideal_each _ _ _ _ of_none top = tt
     ideal_each _ _ _ _ (of_one same e) top = tt
     ideal_each _ _ above _ (of_more {base = base} {leaves = leaves} {rows = rows} r head under) top = (
@@ -191,7 +203,8 @@ module _ (ps : Pieces) (P : ℕ → Type 0) (down : GoesDown ps P) where
 
     parts_each : (words : List ℕ) (behind : List (List PlacedLeaf)) (above : ℕ) (rows : List ℕ)
         → AreIdeal ps words behind above rows
-        → ((k word child : ℕ) → slice_get words k ≡ Some word → ref_of word ≡ Some (InnerAt child) → P child) → Each P rows
+        → ((k word child : ℕ) → slice_get words k ≡ Some word → ref_of word ≡ Some (InnerAt child)
+        → P child) → Each P rows
     parts_each _ _ _ _ no_part here_each = tt
     parts_each _ _ above _ (one_part {word = word} {words = words} {here = here} {rest = rest} {part = part} {behind = behind} ref is first more) here_each =
         each_append P here rest
@@ -201,7 +214,8 @@ module _ (ps : Pieces) (P : ℕ → Type 0) (down : GoesDown ps P) where
   -- the same of what is built
   pub partly_each : (words : List ℕ) (behind : List (List PlacedLeaf)) (above : ℕ) (rows : List ℕ)
       → ArePartly ps words behind above rows
-      → ((k word child : ℕ) → slice_get words k ≡ Some word → ref_of word ≡ Some (InnerAt child) → P child) → Each P rows
+      → ((k word child : ℕ) → slice_get words k ≡ Some word → ref_of word ≡ Some (InnerAt child)
+      → P child) → Each P rows
   partly_each _ _ _ _ no_more here_each = tt
   partly_each _ _ above _ (not_built {words = words} {rest = rest} {behind = behind} more) here_each =
       partly_each words behind above rest more (λ k w child at named. here_each (suc k) w child at named)

@@ -26,7 +26,8 @@ data Counts (Has : ℕ → ℕ → Type 0) : Option Ref → ℕ → Type 0 where
 -- the words read as what counts for so many keys in all
 data CountAll (ps : Pieces) (Has : ℕ → ℕ → Type 0) : List ℕ → ℕ → Type 0 where
   count_none : CountAll ps Has [] 0
-  count_one : {word here rest : ℕ} {words : List ℕ} → Counts Has (logical ps word) here → CountAll ps Has words rest
+  count_one : {word here rest : ℕ} {words : List ℕ} → Counts Has (logical ps word) here
+      → CountAll ps Has words rest
       → CountAll ps Has (word ∷ words) (here + rest)
 
 -- what counts, by the reference
@@ -36,7 +37,8 @@ CountsBy Has (Some (LeafAt base)) k = k ≡ 1
 CountsBy Has (Some (InnerAt base)) k = Has base k
 CountsBy Has _ k = ⊥
 
-counts_by : (Has : ℕ → ℕ → Type 0) (ref : Option Ref) (k : ℕ) → Counts Has ref k → CountsBy Has ref k
+counts_by : (Has : ℕ → ℕ → Type 0) (ref : Option Ref) (k : ℕ) → Counts Has ref k
+    → CountsBy Has ref k
 counts_by Has _ _ nothing_here = refl
 counts_by Has _ _ one_leaf = refl
 counts_by Has _ _ (one_node has) = has
@@ -46,20 +48,23 @@ abbrev CountAllBy : Pieces → (ℕ → ℕ → Type 0) → List ℕ → ℕ →
 CountAllBy ps Has [] k = k ≡ 0
 CountAllBy ps Has (word ∷ words) k = (here : ℕ) × (rest : ℕ) × Counts Has (logical ps word) here × CountAll ps Has words rest × (k ≡ here + rest)
 
-count_all_by : (ps : Pieces) (Has : ℕ → ℕ → Type 0) (words : List ℕ) (k : ℕ) → CountAll ps Has words k → CountAllBy ps Has words k
+count_all_by : (ps : Pieces) (Has : ℕ → ℕ → Type 0) (words : List ℕ) (k : ℕ)
+    → CountAll ps Has words k → CountAllBy ps Has words k
 count_all_by ps Has _ _ count_none = refl
 count_all_by ps Has _ _ (count_one {here = here} {rest = rest} c more) = (here, rest, c, more, refl)
 
 -- where each row has what its slots count for, a reference has as many leaves
 module _ (ps : Pieces) (Has : ℕ → ℕ → Type 0) (all : (base k : ℕ) (r : InnerRow) → Has base k → ps base ≡ Some (Inner r) → CountAll ps Has r.slots k) where
   mutual
-    leaves_counted : (ref : Option Ref) (leaves : List PlacedLeaf) → HasLeaves ps ref leaves → (k : ℕ)
+    leaves_counted : (ref : Option Ref) (leaves : List PlacedLeaf) → HasLeaves ps ref leaves
+        → (k : ℕ)
         → CountsBy Has ref k → length leaves ≡ k
     leaves_counted _ _ none_here k c = sym c
     leaves_counted _ _ (leaf_here r e) k c = sym c
     leaves_counted _ _ (row_here {base = base} {leaves = leaves} r e under) k c = slots_counted r.slots leaves under k (all base k r c e)
 
-    slots_counted : (words : List ℕ) (leaves : List PlacedLeaf) → SlotsHaveLeaves ps words leaves → (k : ℕ)
+    slots_counted : (words : List ℕ) (leaves : List PlacedLeaf) → SlotsHaveLeaves ps words leaves
+        → (k : ℕ)
         → CountAll ps Has words k → length leaves ≡ k
     slots_counted _ _ no_slot k c = sym (count_all_by ps Has [] k c)
     slots_counted _ _ (one_slot {word = word} {words = words} {here = here} {rest = rest} first more) k c =
@@ -71,7 +76,8 @@ module _ (ps : Pieces) (Has : ℕ → ℕ → Type 0) (all : (base k : ℕ) (r :
         omega arith
 
 -- what a passed word counts for, by what it reads as
-passed_counts : (t : Snapshot) (o : Option Ref) (k : ℕ) → CountsFor t o k → Counts (IsFinishedWith t) (past_rebuild t.pieces o) k
+passed_counts : (t : Snapshot) (o : Option Ref) (k : ℕ) → CountsFor t o k
+    → Counts (IsFinishedWith t) (past_rebuild t.pieces o) k
 passed_counts t _ _ no_key = nothing_here
 passed_counts t _ _ one_key = one_leaf
 passed_counts t _ _ (of_child f) = one_node f
@@ -82,7 +88,8 @@ module _ (pairs : List Pair) (words : ℕ) (opens : CanOpen pairs words) where
   -- the slots of a finished row count for its number
   passed_count : (log : Log) → EachEnabled (start pairs words) log → (node i k : ℕ) (slots : List ℕ)
       → ArePassed (state_of pairs words log) log node i slots k
-      → ((j m word : ℕ) → m ≡ i + j → slice_get slots j ≡ Some word → SlotHolds (state_of pairs words log) node m word)
+      → ((j m word : ℕ) → m ≡ i + j → slice_get slots j ≡ Some word
+      → SlotHolds (state_of pairs words log) node m word)
       → CountAll (state_of pairs words log).pieces (IsFinishedWith (state_of pairs words log)) slots k
   passed_count log h node i _ _ past_end get = count_none
   passed_count log h node i _ _ (one_passed {here = here} {rest = rest} {slot = slot} {slots = slots} word p c more) get =
@@ -92,7 +99,8 @@ module _ (pairs : List Pair) (words : ℕ) (opens : CanOpen pairs words) where
       (passed_count log h node (i + 1) rest slots more (λ j m w at e. get (suc j) m w (omega arith) e))
 
   -- a finished row has as many leaves below it as its number says
-  pub number_is : (log : Log) → EachEnabled (start pairs words) log → (node k : ℕ) (leaves : List PlacedLeaf)
+  pub number_is : (log : Log) → EachEnabled (start pairs words) log
+      → (node k : ℕ) (leaves : List PlacedLeaf)
       → IsFinishedWith (state_of pairs words log) node k
       → HasLeaves (state_of pairs words log).pieces (Some (InnerAt node)) leaves → length leaves ≡ k
   number_is log h node k leaves f has =

@@ -28,13 +28,17 @@ use Rattle.ist_rebuilds.proofs.StartingLemmas.{finish_of, side_rebuild, undecide
 
 module _ (pairs : List Pair) (words : ℕ) (opens : CanOpen pairs words) where
   -- what isn't replaced behind an event wasn't before
-  pub unreplaced_before : (log : Log) (event : Event) → EachEnabled (start pairs words) (event ∷ log) → (rebuild : ℕ)
-      → ¬ (IsReplaced (state_of pairs words (event ∷ log)) rebuild) → ¬ (IsReplaced (state_of pairs words log) rebuild)
+  pub unreplaced_before : (log : Log) (event : Event)
+      → EachEnabled (start pairs words) (event ∷ log) → (rebuild : ℕ)
+      → ¬ (IsReplaced (state_of pairs words (event ∷ log)) rebuild)
+      → ¬ (IsReplaced (state_of pairs words log) rebuild)
   unreplaced_before log event h rebuild unr k = unr (replaced_grows (state_of pairs words log) (state_of pairs words (event ∷ log)) (grow_behind pairs words log event h) rebuild k)
 
   -- where the slot's change is decided yes and takes the rebuild out, it is replaced
-  turned_replaced : (log : Log) (event : Event) → EachEnabled (start pairs words) (event ∷ log) → (rebuild node i : ℕ)
-      → Turns (start pairs words) log node i (RebuildAt rebuild) event → IsReplaced (state_of pairs words (event ∷ log)) rebuild
+  turned_replaced : (log : Log) (event : Event) → EachEnabled (start pairs words) (event ∷ log)
+      → (rebuild node i : ℕ)
+      → Turns (start pairs words) log node i (RebuildAt rebuild) event
+      → IsReplaced (state_of pairs words (event ∷ log)) rebuild
   turned_replaced log _ h rebuild node i (turned_by {base = base} can n j from) =
       let t = state_of pairs words log in
       let f = with_decision decided_yes in
@@ -49,7 +53,8 @@ module _ (pairs : List Pair) (words : ℕ) (opens : CanOpen pairs words) where
 
   -- the slot of a change that was decided yes and put a rebuild in reads as it until it is replaced
   start_reads : (log : Log) → EachEnabled (start pairs words) log → (base : ℕ) (x : ChangeRow)
-      → (state_of pairs words log).pieces base ≡ Some (Change x) → x.decision ≡ decided_yes → (rebuild : ℕ)
+      → (state_of pairs words log).pieces base ≡ Some (Change x) → x.decision ≡ decided_yes
+      → (rebuild : ℕ)
       → ref_of x.to ≡ Some (RebuildAt rebuild) → ¬ (IsReplaced (state_of pairs words log) rebuild)
       → ReadsAs (state_of pairs words log) x.node x.index (RebuildAt rebuild)
   start_reads =
@@ -62,17 +67,22 @@ module _ (pairs : List Pair) (words : ℕ) (opens : CanOpen pairs words) where
       (λ log caller base rows h can is. let none = can.unset in absurd (omega arith))
       (λ log caller base said h can before is rebuild to unr. at log caller base said h can (said_yes said is) rebuild to)
     where
-      at : (log : Log) (caller base : ℕ) (said : Bool) → EachEnabled (start pairs words) (Decide caller base said ∷ log)
-          → (can : CanDecide (state_of pairs words log) log caller base said) → said ≡ true → (rebuild : ℕ)
+      at : (log : Log) (caller base : ℕ) (said : Bool)
+          → EachEnabled (start pairs words) (Decide caller base said ∷ log)
+          → (can : CanDecide (state_of pairs words log) log caller base said) → said ≡ true
+          → (rebuild : ℕ)
           → ref_of can.change.to ≡ Some (RebuildAt rebuild)
           → ReadsAs (state_of pairs words (Decide caller base said ∷ log)) can.change.node can.change.index (RebuildAt rebuild)
       at log caller base true h can is rebuild to = decide_reads pairs words opens log caller base h can.change can.pending.published (RebuildAt rebuild) to
       at log caller base false h can is rebuild to = absurd (cc)
 
   -- the slot of a started rebuild reads as the rebuild until it is replaced
-  pub started_reads : (log : Log) → EachEnabled (start pairs words) log → (rebuild : ℕ) (r : RebuildRow)
-      → (state_of pairs words log).pieces rebuild ≡ Some (Rebuild r) → IsStarted (state_of pairs words log) rebuild
-      → ¬ (IsReplaced (state_of pairs words log) rebuild) → ReadsAs (state_of pairs words log) r.parent r.index (RebuildAt rebuild)
+  pub started_reads : (log : Log) → EachEnabled (start pairs words) log
+      → (rebuild : ℕ) (r : RebuildRow)
+      → (state_of pairs words log).pieces rebuild ≡ Some (Rebuild r)
+      → IsStarted (state_of pairs words log) rebuild
+      → ¬ (IsReplaced (state_of pairs words log) rebuild)
+      → ReadsAs (state_of pairs words log) r.parent r.index (RebuildAt rebuild)
   started_reads log h rebuild r e s unr =
       let t = state_of pairs words log in
       let here = start_reads log h s.base s.change s.published s.decision rebuild s.to unr in
@@ -90,12 +100,14 @@ module _ (pairs : List Pair) (words : ℕ) (opens : CanOpen pairs words) where
 
   -- what an undecided change puts in the place of a started rebuild is another reference
   other_to : (log : Log) → EachEnabled (start pairs words) log → (base : ℕ) (x : ChangeRow)
-      → (state_of pairs words log).pieces base ≡ Some (Change x) → x.decision ≡ undecided → (rebuild : ℕ)
+      → (state_of pairs words log).pieces base ≡ Some (Change x) → x.decision ≡ undecided
+      → (rebuild : ℕ)
       → IsStarted (state_of pairs words log) rebuild
       → (ref : Ref) × (ref_of x.to ≡ Some ref) × (ref ≢ Unset) × (ref ≢ RebuildAt rebuild)
   other_to log h base x e none rebuild s = at (ref_of x.to) refl ((names pairs words opens log h).rows base (Change x) e).1
     where
-      at : (o : Option Ref) → ref_of x.to ≡ o → SideNames (state_of pairs words log).pieces x.node x.index o
+      at : (o : Option Ref) → ref_of x.to ≡ o
+          → SideNames (state_of pairs words log).pieces x.node x.index o
           → (ref : Ref) × (ref_of x.to ≡ Some ref) × (ref ≢ Unset) × (ref ≢ RebuildAt rebuild)
       at (Some Empty) is k = (Empty, is, λ q. cc, λ q. cc)
       at (Some (LeafAt b)) is k = (LeafAt b, is, λ q. cc, λ q. cc)
@@ -107,7 +119,8 @@ module _ (pairs : List Pair) (words : ℕ) (opens : CanOpen pairs words) where
 
   -- the slot of a finish that was decided yes reads as something else
   finish_reads : (log : Log) → EachEnabled (start pairs words) log → (base : ℕ) (x : ChangeRow)
-      → (state_of pairs words log).pieces base ≡ Some (Change x) → x.decision ≡ decided_yes → (rebuild : ℕ)
+      → (state_of pairs words log).pieces base ≡ Some (Change x) → x.decision ≡ decided_yes
+      → (rebuild : ℕ)
       → ref_of x.from ≡ Some (RebuildAt rebuild) → ReadsElse log x.node x.index rebuild
   finish_reads =
       changes_by pairs words (λ log base x. x.decision ≡ decided_yes → (rebuild : ℕ) → ref_of x.from ≡ Some (RebuildAt rebuild) → ReadsElse log x.node x.index rebuild)
@@ -128,8 +141,10 @@ module _ (pairs : List Pair) (words : ℕ) (opens : CanOpen pairs words) where
           let it = finish_of (state_of pairs words log) x rebuild (changes_are_formed pairs words log h base x e) from in
           subst (λ b. IsStarted (state_of pairs words log) b) it.same it.form.started
 
-      turned : (log : Log) (event : Event) → EachEnabled (start pairs words) (event ∷ log) → (node i : ℕ) (ref : Ref) (rebuild : ℕ)
-          → IsStarted (state_of pairs words log) rebuild → Turns (start pairs words) log node i ref event
+      turned : (log : Log) (event : Event) → EachEnabled (start pairs words) (event ∷ log)
+          → (node i : ℕ) (ref : Ref) (rebuild : ℕ)
+          → IsStarted (state_of pairs words log) rebuild
+          → Turns (start pairs words) log node i ref event
           → ReadsElse (event ∷ log) node i rebuild
       turned log _ h node i ref rebuild s (turned_by {caller = caller} {base = base} can n j from) =
           let it = other_to log h.0 base can.change can.pending.published can.pending.unset rebuild s in
@@ -142,8 +157,10 @@ module _ (pairs : List Pair) (words : ℕ) (opens : CanOpen pairs words) where
             other = it.3;
           }
 
-      at : (log : Log) (caller base : ℕ) (said : Bool) → EachEnabled (start pairs words) (Decide caller base said ∷ log)
-          → (can : CanDecide (state_of pairs words log) log caller base said) → said ≡ true → (rebuild : ℕ)
+      at : (log : Log) (caller base : ℕ) (said : Bool)
+          → EachEnabled (start pairs words) (Decide caller base said ∷ log)
+          → (can : CanDecide (state_of pairs words log) log caller base said) → said ≡ true
+          → (rebuild : ℕ)
           → ref_of can.change.from ≡ Some (RebuildAt rebuild)
           → ReadsElse (Decide caller base said ∷ log) can.change.node can.change.index rebuild
       at log caller base false h can is rebuild from = absurd (cc)
@@ -157,7 +174,8 @@ module _ (pairs : List Pair) (words : ℕ) (opens : CanOpen pairs words) where
           }
 
   -- a rebuild that its slot reads as wasn't replaced
-  pub read_unreplaced : (log : Log) → EachEnabled (start pairs words) log → (rebuild : ℕ) (r : RebuildRow)
+  pub read_unreplaced : (log : Log) → EachEnabled (start pairs words) log
+      → (rebuild : ℕ) (r : RebuildRow)
       → (state_of pairs words log).pieces rebuild ≡ Some (Rebuild r)
       → ReadsAs (state_of pairs words log) r.parent r.index (RebuildAt rebuild)
       → ¬ (IsReplaced (state_of pairs words log) rebuild)
@@ -171,8 +189,10 @@ module _ (pairs : List Pair) (words : ℕ) (opens : CanOpen pairs words) where
       elsewhere.other (reads_once t r.parent r.index elsewhere.ref (RebuildAt rebuild) (anchor_free pairs words log h) there reads)
 
   -- while a finish is undecided its rebuild wasn't replaced
-  pub finish_unreplaced : (log : Log) → EachEnabled (start pairs words) log → (base : ℕ) (x : ChangeRow)
-      → (state_of pairs words log).pieces base ≡ Some (Change x) → x.decision ≡ undecided → (rebuild : ℕ)
+  pub finish_unreplaced : (log : Log) → EachEnabled (start pairs words) log
+      → (base : ℕ) (x : ChangeRow)
+      → (state_of pairs words log).pieces base ≡ Some (Change x) → x.decision ≡ undecided
+      → (rebuild : ℕ)
       → ref_of x.from ≡ Some (RebuildAt rebuild) → ¬ (IsReplaced (state_of pairs words log) rebuild)
   finish_unreplaced log h base x e none rebuild from =
       let t = state_of pairs words log in

@@ -37,14 +37,17 @@ use Rattle.ist_rebuilds.proofs.StartingLemmas.{finish_of, side_rebuild}
 
 module _ (pairs : List Pair) (words : ℕ) (opens : CanOpen pairs words) where
   -- the slot that an inner row hangs in is the one that a rebuild of it is for
-  pub target_named : (log : Log) (rebuild : ℕ) (r : RebuildRow) → (state_of pairs words log).pieces rebuild ≡ Some (Rebuild r)
+  pub target_named : (log : Log) (rebuild : ℕ) (r : RebuildRow)
+      → (state_of pairs words log).pieces rebuild ≡ Some (Rebuild r)
       → Mentions (state_of pairs words log) r.parent r.index (InnerAt r.target)
   target_named log rebuild r e = inr (rebuild, Rebuild r, e, (refl, refl, inl refl))
 
   -- behind the yes of a finish its slot leads to no row of the target's base
-  finish_apart : (log : Log) (caller base : ℕ) → EachEnabled (start pairs words) (Decide caller base true ∷ log)
+  finish_apart : (log : Log) (caller base : ℕ)
+      → EachEnabled (start pairs words) (Decide caller base true ∷ log)
       → (x : ChangeRow) (rebuild : ℕ) (r : RebuildRow)
-      → (state_of pairs words log).pieces base ≡ Some (Change x) → ref_of x.from ≡ Some (RebuildAt rebuild)
+      → (state_of pairs words log).pieces base ≡ Some (Change x)
+      → ref_of x.from ≡ Some (RebuildAt rebuild)
       → (state_of pairs words log).pieces rebuild ≡ Some (Rebuild r)
       → ¬ (Linked (state_of pairs words (Decide caller base true ∷ log)) r.target)
   finish_apart log caller base h x rebuild r e from there l = at r.target refl l
@@ -52,7 +55,8 @@ module _ (pairs : List Pair) (words : ℕ) (opens : CanOpen pairs words) where
       row : InnerHere (state_of pairs words log).pieces r.target
       row = ((names pairs words opens log h.0).rows rebuild (Rebuild r) there).1
 
-      at : (child : ℕ) → child ≡ r.target → Linked (state_of pairs words (Decide caller base true ∷ log)) child → ⊥
+      at : (child : ℕ) → child ≡ r.target
+          → Linked (state_of pairs words (Decide caller base true ∷ log)) child → ⊥
       at _ is at_anchor = not_the_anchor pairs words opens log h.0 r.target row.0 row.1 (sym is)
       at _ is (below {node = node} {child = child} i k c) =
           let t = state_of pairs words log in
@@ -82,9 +86,12 @@ module _ (pairs : List Pair) (words : ℕ) (opens : CanOpen pairs words) where
           one_ref a b q = cc
 
   -- the target of a rebuild that was replaced isn't linked
-  pub replaced_unlinked : (log : Log) → EachEnabled (start pairs words) log → (base : ℕ) (x : ChangeRow)
-      → (state_of pairs words log).pieces base ≡ Some (Change x) → x.decision ≡ decided_yes → (rebuild : ℕ) (r : RebuildRow)
-      → ref_of x.from ≡ Some (RebuildAt rebuild) → (state_of pairs words log).pieces rebuild ≡ Some (Rebuild r)
+  pub replaced_unlinked : (log : Log) → EachEnabled (start pairs words) log
+      → (base : ℕ) (x : ChangeRow)
+      → (state_of pairs words log).pieces base ≡ Some (Change x) → x.decision ≡ decided_yes
+      → (rebuild : ℕ) (r : RebuildRow)
+      → ref_of x.from ≡ Some (RebuildAt rebuild)
+      → (state_of pairs words log).pieces rebuild ≡ Some (Rebuild r)
       → ¬ (Linked (state_of pairs words log) r.target)
   replaced_unlinked =
       changes_by pairs words (λ log base x. x.decision ≡ decided_yes → (rebuild : ℕ) (r : RebuildRow) → ref_of x.from ≡ Some (RebuildAt rebuild) → (state_of pairs words log).pieces rebuild ≡ Some (Rebuild r) → ¬ (Linked (state_of pairs words log) r.target))
@@ -101,15 +108,19 @@ module _ (pairs : List Pair) (words : ℕ) (opens : CanOpen pairs words) where
       decided log caller base said h can (said_yes said is) rebuild r from e)
     where
       -- a rebuild keeps its target
-      same_target : (log : Log) (event : Event) → EachEnabled (start pairs words) (event ∷ log) → (rebuild : ℕ) (r s : RebuildRow)
-          → (state_of pairs words log).pieces rebuild ≡ Some (Rebuild r) → (state_of pairs words (event ∷ log)).pieces rebuild ≡ Some (Rebuild s)
+      same_target : (log : Log) (event : Event) → EachEnabled (start pairs words) (event ∷ log)
+          → (rebuild : ℕ) (r s : RebuildRow)
+          → (state_of pairs words log).pieces rebuild ≡ Some (Rebuild r)
+          → (state_of pairs words (event ∷ log)).pieces rebuild ≡ Some (Rebuild s)
           → s.target ≡ r.target
       same_target log event h rebuild r s e f =
           let it = rebuild_there (state_of pairs words log).pieces (state_of pairs words (event ∷ log)).pieces (grow_behind pairs words log event h) rebuild r e in
           ap (λ x. x.target) (same_rebuild ((state_of pairs words (event ∷ log)).pieces rebuild) s it.0 f it.1) ∙ it.2.target
 
-      decided : (log : Log) (caller base : ℕ) (said : Bool) → EachEnabled (start pairs words) (Decide caller base said ∷ log)
-          → (can : CanDecide (state_of pairs words log) log caller base said) → said ≡ true → (rebuild : ℕ) (r : RebuildRow)
+      decided : (log : Log) (caller base : ℕ) (said : Bool)
+          → EachEnabled (start pairs words) (Decide caller base said ∷ log)
+          → (can : CanDecide (state_of pairs words log) log caller base said) → said ≡ true
+          → (rebuild : ℕ) (r : RebuildRow)
           → ref_of can.change.from ≡ Some (RebuildAt rebuild)
           → (state_of pairs words (Decide caller base said ∷ log)).pieces rebuild ≡ Some (Rebuild r)
           → ¬ (Linked (state_of pairs words (Decide caller base said ∷ log)) r.target)

@@ -21,8 +21,10 @@ use Rattle.ist_rebuilds.specs.Replacing.{PutsIdealRoot}
 module _ (pairs : List Pair) (words : ℕ) (opens : CanOpen pairs words) where
   -- the root of an undecided finish is ideal
   pub puts_ideal : (log : Log) → EachEnabled (start pairs words) log → (base : ℕ) (x : ChangeRow)
-      → (state_of pairs words log).pieces base ≡ Some (Change x) → x.decision ≡ undecided → (rebuild : ℕ) (row : RebuildRow)
-      → ref_of x.from ≡ Some (RebuildAt rebuild) → (state_of pairs words log).pieces rebuild ≡ Some (Rebuild row)
+      → (state_of pairs words log).pieces base ≡ Some (Change x) → x.decision ≡ undecided
+      → (rebuild : ℕ) (row : RebuildRow)
+      → ref_of x.from ≡ Some (RebuildAt rebuild)
+      → (state_of pairs words log).pieces rebuild ≡ Some (Rebuild row)
       → PutsIdealRoot (state_of pairs words log) x row
   puts_ideal log h base x e none rebuild row from there =
       let t = state_of pairs words log in
@@ -40,8 +42,10 @@ module _ (pairs : List Pair) (words : ℕ) (opens : CanOpen pairs words) where
       }
 
   -- it stays so behind the yes
-  pub puts_ideal_behind : (log : Log) (caller base : ℕ) → EachEnabled (start pairs words) (Decide caller base true ∷ log)
-      → (x : ChangeRow) (rebuild : ℕ) (row : RebuildRow) → (state_of pairs words log).pieces rebuild ≡ Some (Rebuild row)
+  pub puts_ideal_behind : (log : Log) (caller base : ℕ)
+      → EachEnabled (start pairs words) (Decide caller base true ∷ log)
+      → (x : ChangeRow) (rebuild : ℕ) (row : RebuildRow)
+      → (state_of pairs words log).pieces rebuild ≡ Some (Rebuild row)
       → row.root ≢ unset_word → PutsIdealRoot (state_of pairs words log) x row
       → PutsIdealRoot (state_of pairs words (Decide caller base true ∷ log)) x row
   puts_ideal_behind log caller base h x rebuild row there set p =
@@ -58,9 +62,11 @@ module _ (pairs : List Pair) (words : ℕ) (opens : CanOpen pairs words) where
       }
 
   -- both, where a finish is decided yes
-  pub roots_are_ideal : (log : Log) (caller base : ℕ) → EachEnabled (start pairs words) (Decide caller base true ∷ log)
+  pub roots_are_ideal : (log : Log) (caller base : ℕ)
+      → EachEnabled (start pairs words) (Decide caller base true ∷ log)
       → (x : ChangeRow) (rebuild : ℕ) (row : RebuildRow)
-      → (state_of pairs words log).pieces base ≡ Some (Change x) → ref_of x.from ≡ Some (RebuildAt rebuild)
+      → (state_of pairs words log).pieces base ≡ Some (Change x)
+      → ref_of x.from ≡ Some (RebuildAt rebuild)
       → (state_of pairs words log).pieces rebuild ≡ Some (Rebuild row)
       → PutsIdealRoot (state_of pairs words log) x row × PutsIdealRoot (state_of pairs words (Decide caller base true ∷ log)) x row
   roots_are_ideal log caller base h x rebuild row e from there =

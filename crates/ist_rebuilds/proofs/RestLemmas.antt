@@ -30,20 +30,24 @@ use Rattle.ist_rebuilds.proofs.ReplacedLemmas.{replaced_unlinked, target_named}
 use Rattle.ist_rebuilds.specs.Opening.{RebuildsAreDone}
 
 -- a passed slot holds a word
-kept_word : (t : Snapshot) (log : Log) (node i word : ℕ) → KeepsWord t log node i word → (w : ℕ) × SlotHolds t node i w
+kept_word : (t : Snapshot) (log : Log) (node i word : ℕ) → KeepsWord t log node i word
+    → (w : ℕ) × SlotHolds t node i w
 kept_word t log node i word (holds_it slot) = (word, slot)
 kept_word t log node i word (holds_change v) = (word_of (ChangeAt v.base), v.in_slot)
 
 -- a row with a status that isn't open isn't open
-shut_row : (t : Snapshot) (node : ℕ) (r : InnerRow) → t.pieces anchor ≡ None → t.pieces node ≡ Some (Inner r)
+shut_row : (t : Snapshot) (node : ℕ) (r : InnerRow) → t.pieces anchor ≡ None
+    → t.pieces node ≡ Some (Inner r)
     → r.status ≢ open_word → ¬ (IsOpen t node)
 shut_row t node r free e shut (anchor_is a) = no_row t.pieces node r free a e
 shut_row t node r free e shut (row_is s p o) = shut (ap (λ x. x.status) (same_inner (t.pieces node) r s e p) ∙ o)
 
 module _ (pairs : List Pair) (words : ℕ) (opens : CanOpen pairs words) where
   -- the row behind a passed word hangs in a row that isn't open
-  passed_closed : (log : Log) → EachEnabled (start pairs words) log → (node i child above j word : ℕ)
-      → Mentions (state_of pairs words log) node i (InnerAt child) → Happened (Passes above j word) log
+  passed_closed : (log : Log) → EachEnabled (start pairs words) log
+      → (node i child above j word : ℕ)
+      → Mentions (state_of pairs words log) node i (InnerAt child)
+      → Happened (Passes above j word) log
       → past_rebuild (state_of pairs words log).pieces (ref_of word) ≡ Some (InnerAt child)
       → ¬ (IsOpen (state_of pairs words log) node)
   passed_closed log h node i child above j word named p leads o =
@@ -55,10 +59,12 @@ module _ (pairs : List Pair) (words : ℕ) (opens : CanOpen pairs words) where
       shut_row t above c.row (anchor_free pairs words log h) c.published c.closed (subst (λ n. IsOpen t n) home.0 o)
 
   -- a linked row that isn't open hangs in one that isn't, where rebuilds are done
-  home_closed : (log : Log) → EachEnabled (start pairs words) log → RebuildsAreDone (state_of pairs words log)
+  home_closed : (log : Log) → EachEnabled (start pairs words) log
+      → RebuildsAreDone (state_of pairs words log)
       → (node i child : ℕ) (r : InnerRow) → Linked (state_of pairs words log) child
       → (state_of pairs words log).pieces child ≡ Some (Inner r) → r.status ≢ open_word
-      → Mentions (state_of pairs words log) node i (InnerAt child) → ¬ (IsOpen (state_of pairs words log) node)
+      → Mentions (state_of pairs words log) node i (InnerAt child)
+      → ¬ (IsOpen (state_of pairs words log) node)
   home_closed log h done node i child r l e shut named o = by_cause (closed_is_called pairs words log h child r e shut)
     where
       by_cause : IsCalled (state_of pairs words log) log child → ⊥
@@ -77,9 +83,11 @@ module _ (pairs : List Pair) (words : ℕ) (opens : CanOpen pairs words) where
           (ap (past_rebuild t.pieces) is ∙ ap rebuild_reads target.published ∙ ap (λ n. Some (InnerAt n)) target.target_is) o
 
   -- going up by base, no linked row is closed
-  none_closed : (log : Log) → EachEnabled (start pairs words) log → RebuildsAreDone (state_of pairs words log)
+  none_closed : (log : Log) → EachEnabled (start pairs words) log
+      → RebuildsAreDone (state_of pairs words log)
       → (fuel node : ℕ) → node < fuel → Linked (state_of pairs words log) node
-      → (r : InnerRow) → (state_of pairs words log).pieces node ≡ Some (Inner r) → r.status ≢ open_word → ⊥
+      → (r : InnerRow) → (state_of pairs words log).pieces node ≡ Some (Inner r)
+      → r.status ≢ open_word → ⊥
   none_closed log h done zero node low l r e shut = omega arith
   none_closed log h done (suc fuel) _ low at_anchor r e shut = not_the_anchor pairs words opens log h anchor r e refl
   none_closed log h done (suc fuel) _ low (below {node = node} {child = child} i l c) r e shut =
@@ -90,16 +98,19 @@ module _ (pairs : List Pair) (words : ℕ) (opens : CanOpen pairs words) where
       up node l (eqb_tells node anchor) closed_node (λ s there still. none_closed log h done fuel node (omega arith) l s there still)
     where
       up : (node : ℕ) → Linked (state_of pairs words log) node
-          → (((node == anchor) ≡ true) × (node ≡ anchor)) ⊎ (((node == anchor) ≡ false) × (node ≢ anchor))
+          → (((node == anchor) ≡ true) × (node ≡ anchor))
+          ⊎ (((node == anchor) ≡ false) × (node ≢ anchor))
           → ¬ (IsOpen (state_of pairs words log) node)
-          → ((s : InnerRow) → (state_of pairs words log).pieces node ≡ Some (Inner s) → s.status ≢ open_word → ⊥) → ⊥
+          → ((s : InnerRow) → (state_of pairs words log).pieces node ≡ Some (Inner s)
+          → s.status ≢ open_word → ⊥) → ⊥
       up node l (inl k) closed_node again = closed_node (anchor_is k.1)
       up node l (inr k) closed_node again =
           let row = was_linked_here pairs words opens log h node k.1 (linked_now (start pairs words) log node l) in
           again row.0 row.1 (λ is. closed_node (row_is row.0 row.1 is))
 
   -- each linked row is open
-  pub rest_is_open : (log : Log) → EachEnabled (start pairs words) log → RebuildsAreDone (state_of pairs words log)
+  pub rest_is_open : (log : Log) → EachEnabled (start pairs words) log
+      → RebuildsAreDone (state_of pairs words log)
       → (node : ℕ) (r : InnerRow) → Linked (state_of pairs words log) node
       → (state_of pairs words log).pieces node ≡ Some (Inner r) → r.status ≡ open_word
   rest_is_open log h done node r l e =

@@ -40,7 +40,8 @@ one_inner : (a b : ℕ) → Some (InnerAt a) ≡ Some (InnerAt b) → a ≡ b
 one_inner a b e = cc
 
 -- what a reference that isn't a rebuild reads as
-past_itself : (ps : Pieces) (ref : Ref) → ((base : ℕ) → ref ≢ RebuildAt base) → past_rebuild ps (Some ref) ≡ Some ref
+past_itself : (ps : Pieces) (ref : Ref) → ((base : ℕ) → ref ≢ RebuildAt base)
+    → past_rebuild ps (Some ref) ≡ Some ref
 past_itself ps (RebuildAt base) plain = absurd (plain base refl)
 past_itself ps Empty plain = refl
 past_itself ps Unset plain = refl
@@ -50,7 +51,8 @@ past_itself ps (ChangeAt base) plain = refl
 
 module _ (pairs : List Pair) (words : ℕ) (opens : CanOpen pairs words) where
   -- what a slot reads as leads where it leads behind the event
-  leads_back : (log : Log) (event : Event) → EachEnabled (start pairs words) (event ∷ log) → (node i child : ℕ) (ref : Ref)
+  leads_back : (log : Log) (event : Event) → EachEnabled (start pairs words) (event ∷ log)
+      → (node i child : ℕ) (ref : Ref)
       → ReadsAs (state_of pairs words log) node i ref
       → past_rebuild (state_of pairs words (event ∷ log)).pieces (Some ref) ≡ Some (InnerAt child)
       → past_rebuild (state_of pairs words log).pieces (Some ref) ≡ Some (InnerAt child)
@@ -84,9 +86,11 @@ module _ (pairs : List Pair) (words : ℕ) (opens : CanOpen pairs words) where
       at (ChangeAt base) is k side = absurd (cc)
 
   -- a row that was linked isn't brought back by a change that is decided yes
-  turned_back : (log : Log) (event : Event) → EachEnabled (start pairs words) (event ∷ log) → (node i child : ℕ) (was ref : Ref)
+  turned_back : (log : Log) (event : Event) → EachEnabled (start pairs words) (event ∷ log)
+      → (node i child : ℕ) (was ref : Ref)
       → WasLinked (start pairs words) log child → ReadsAs (state_of pairs words log) node i was
-      → Turns (start pairs words) log node i was event → ReadsAs (state_of pairs words (event ∷ log)) node i ref
+      → Turns (start pairs words) log node i was event
+      → ReadsAs (state_of pairs words (event ∷ log)) node i ref
       → past_rebuild (state_of pairs words (event ∷ log)).pieces (Some ref) ≡ Some (InnerAt child)
       → IsChild (state_of pairs words log) node i child
   turned_back log _ h node i child was ref linked old (turned_by {caller = caller} {base = base} can n j from) r leads =
@@ -104,7 +108,8 @@ module _ (pairs : List Pair) (words : ℕ) (opens : CanOpen pairs words) where
           → past_rebuild (state_of pairs words (Decide caller base true ∷ log)).pieces (Some to) ≡ Some (InnerAt child)
       leads_to to is = subst (λ x. past_rebuild (state_of pairs words (Decide caller base true ∷ log)).pieces (Some x) ≡ Some (InnerAt child)) (is_to to is) leads
 
-      by_form : IsFormed (state_of pairs words log) can.change → IsChild (state_of pairs words log) node i child
+      by_form : IsFormed (state_of pairs words log) can.change
+          → IsChild (state_of pairs words log) node i child
       by_form (of_leaf_put f) = absurd (clash (leads_to (LeafAt f.leaf) f.to))
         where
           clash : Some (LeafAt f.leaf) ≡ Some (InnerAt child) → ⊥
@@ -133,7 +138,8 @@ module _ (pairs : List Pair) (words : ℕ) (opens : CanOpen pairs words) where
           let unr = finish_unreplaced pairs words opens log h.0 base can.change can.pending.published can.pending.unset f.rebuild f.from in
           absurd (by_root (ref_of f.row.root) refl row.2 (λ named. root_never_linked pairs words opens log h.0 f.rebuild child f.row f.published named unr linked))
         where
-          by_root : (o : Option Ref) → ref_of f.row.root ≡ o → RootNames (state_of pairs words log).pieces f.row.target o
+          by_root : (o : Option Ref) → ref_of f.row.root ≡ o
+              → RootNames (state_of pairs words log).pieces f.row.target o
               → ¬ (ref_of f.row.root ≡ Some (InnerAt child)) → ⊥
           by_root (Some (InnerAt b)) is k never = never (is ∙ leads_to (InnerAt b) (ap ref_of f.to ∙ is))
           by_root (Some Empty) is k never = clash (leads_to Empty (ap ref_of f.to ∙ is))
@@ -153,10 +159,13 @@ module _ (pairs : List Pair) (words : ℕ) (opens : CanOpen pairs words) where
           by_root None is k never = k
 
   -- nor is it put into a root
-  filled_back : (log : Log) (event : Event) → EachEnabled (start pairs words) (event ∷ log) → (node i child : ℕ) (ref : Ref)
+  filled_back : (log : Log) (event : Event) → EachEnabled (start pairs words) (event ∷ log)
+      → (node i child : ℕ) (ref : Ref)
       → InnerHere (state_of pairs words log).pieces child
-      → Fills (start pairs words) log node i Unset event → ReadsAs (state_of pairs words (event ∷ log)) node i ref
-      → past_rebuild (state_of pairs words (event ∷ log)).pieces (Some ref) ≡ Some (InnerAt child) → ⊥
+      → Fills (start pairs words) log node i Unset event
+      → ReadsAs (state_of pairs words (event ∷ log)) node i ref
+      → past_rebuild (state_of pairs words (event ∷ log)).pieces (Some ref) ≡ Some (InnerAt child)
+      → ⊥
   filled_back log _ h node i child ref there (filled_by {caller = caller} {rebuild = rebuild} {j = j} {word = word} {rows = rows} can here at is) r leads =
       let t = state_of pairs words log in
       let u = state_of pairs words (Place caller rebuild j word rows ∷ log) in
@@ -174,7 +183,8 @@ module _ (pairs : List Pair) (words : ℕ) (opens : CanOpen pairs words) where
       one_ref a b q = cc
 
   -- going down by base: a row that was linked and is linked behind an event is linked before it
-  not_brought_back : (log : Log) (event : Event) → EachEnabled (start pairs words) (event ∷ log) → (fuel node : ℕ) → node < fuel
+  not_brought_back : (log : Log) (event : Event) → EachEnabled (start pairs words) (event ∷ log)
+      → (fuel node : ℕ) → node < fuel
       → WasLinked (start pairs words) log node → Linked (state_of pairs words (event ∷ log)) node
       → Linked (state_of pairs words log) node
   not_brought_back log event h zero node low was l = absurd (omega arith)
@@ -195,28 +205,34 @@ module _ (pairs : List Pair) (words : ℕ) (opens : CanOpen pairs words) where
       below i here (by_reading node i child was (was_linked_here pairs words opens log h.0 child ne was) (stood node node_was (eqb_tells node anchor)) (child_read u node i child c))
     where
       stood : (node : ℕ) → WasLinked (start pairs words) log node
-          → (((node == anchor) ≡ true) × (node ≡ anchor)) ⊎ (((node == anchor) ≡ false) × (node ≢ anchor)) → Stood pairs words opens log node
+          → (((node == anchor) ≡ true) × (node ≡ anchor))
+          ⊎ (((node == anchor) ≡ false) × (node ≢ anchor)) → Stood pairs words opens log node
       stood node was (inl k) = was_anchor k.1
       stood node was (inr k) = was_row (was_linked_here pairs words opens log h.0 node k.1 was)
 
-      by_reading : (node i child : ℕ) → WasLinked (start pairs words) log child → InnerHere (state_of pairs words log).pieces child
+      by_reading : (node i child : ℕ) → WasLinked (start pairs words) log child
+          → InnerHere (state_of pairs words log).pieces child
           → Stood pairs words opens log node
-          → IsReadBy (state_of pairs words (event ∷ log)) node i child → IsChild (state_of pairs words log) node i child
+          → IsReadBy (state_of pairs words (event ∷ log)) node i child
+          → IsChild (state_of pairs words log) node i child
       by_reading node i child was there s r = at (reads_back pairs words opens log event h node i r.ref s r.read)
         where
-          at : Turning pairs words opens log node i r.ref event → IsChild (state_of pairs words log) node i child
+          at : Turning pairs words opens log node i r.ref event
+              → IsChild (state_of pairs words log) node i child
           at (read_before before) = read_child (state_of pairs words log) node i child r.ref before (leads_back log event h node i child r.ref before r.leads)
           at (turned_now before old turn) = turned_back log event h node i child before r.ref was old turn r.read r.leads
           at (filled_now fills) = absurd (filled_back log event h node i child r.ref there fills r.read r.leads)
 
   -- a row that was linked and isn't any more isn't linked by an event
-  pub unlinked_step : (log : Log) (event : Event) → EachEnabled (start pairs words) (event ∷ log) → (node : ℕ)
+  pub unlinked_step : (log : Log) (event : Event) → EachEnabled (start pairs words) (event ∷ log)
+      → (node : ℕ)
       → WasLinked (start pairs words) log node → ¬ (Linked (state_of pairs words log) node)
       → ¬ (Linked (state_of pairs words (event ∷ log)) node)
   unlinked_step log event h node was unlinked l = unlinked (not_brought_back log event h (suc node) node (omega arith) was l)
 
   -- nor by more events
-  pub unlinked_stays : (earlier log : Log) → GoesOn earlier log → EachEnabled (start pairs words) log → (node : ℕ)
+  pub unlinked_stays : (earlier log : Log) → GoesOn earlier log
+      → EachEnabled (start pairs words) log → (node : ℕ)
       → WasLinked (start pairs words) earlier node → ¬ (Linked (state_of pairs words earlier) node)
       → ¬ (Linked (state_of pairs words log) node) × WasLinked (start pairs words) log node
   unlinked_stays earlier _ same_log h node was unlinked = (unlinked, was)

@@ -69,16 +69,20 @@ finish_of t x rebuild (of_finish f) e = record { form = f; same = one (sym f.fro
     one q = cc
 
 -- a rebuild that a change of a slot names is one for this slot
-pub side_rebuild : (t : Snapshot) → WordsName t → (base : ℕ) (x : ChangeRow) → t.pieces base ≡ Some (Change x)
-    → (rebuild : ℕ) → (ref_of x.from ≡ Some (RebuildAt rebuild)) ⊎ (ref_of x.to ≡ Some (RebuildAt rebuild))
+pub side_rebuild : (t : Snapshot) → WordsName t → (base : ℕ) (x : ChangeRow)
+    → t.pieces base ≡ Some (Change x)
+    → (rebuild : ℕ) → (ref_of x.from ≡ Some (RebuildAt rebuild))
+    ⊎ (ref_of x.to ≡ Some (RebuildAt rebuild))
     → IsRebuildFor t.pieces x.node x.index rebuild
 side_rebuild t o base x e rebuild (inl from) = subst (λ r. SideNames t.pieces x.node x.index r) from (o.rows base (Change x) e).0
 side_rebuild t o base x e rebuild (inr to) = subst (λ r. SideNames t.pieces x.node x.index r) to (o.rows base (Change x) e).1
 
 module _ (pairs : List Pair) (words : ℕ) (opens : CanOpen pairs words) where
   -- an undecided change reads as what it takes out
-  pub undecided_reads : (log : Log) → EachEnabled (start pairs words) log → (base : ℕ) (x : ChangeRow)
-      → (state_of pairs words log).pieces base ≡ Some (Change x) → x.decision ≡ undecided → (ref : Ref)
+  pub undecided_reads : (log : Log) → EachEnabled (start pairs words) log
+      → (base : ℕ) (x : ChangeRow)
+      → (state_of pairs words log).pieces base ≡ Some (Change x) → x.decision ≡ undecided
+      → (ref : Ref)
       → ref_of x.from ≡ Some ref → ReadsAs (state_of pairs words log) x.node x.index ref
   undecided_reads log h base x e none ref is =
       record {
@@ -90,15 +94,18 @@ module _ (pairs : List Pair) (words : ℕ) (opens : CanOpen pairs words) where
   -- ---- one start
 
   -- the rebuild of a start that is installed is new
-  start_new : (log : Log) (caller base : ℕ) (rows : List Row) → EachEnabled (start pairs words) (Install caller base rows ∷ log)
-      → (can : CanInstall (start pairs words) log caller base rows) → (rebuild : ℕ) → ref_of can.change.to ≡ Some (RebuildAt rebuild)
+  start_new : (log : Log) (caller base : ℕ) (rows : List Row)
+      → EachEnabled (start pairs words) (Install caller base rows ∷ log)
+      → (can : CanInstall (start pairs words) log caller base rows) → (rebuild : ℕ)
+      → ref_of can.change.to ≡ Some (RebuildAt rebuild)
       → (state_of pairs words log).pieces rebuild ≡ None
   start_new log caller base rows h can rebuild to = at can.fits
     where
       s : IsSound (state_of pairs words log)
       s = sound_behind pairs words log h.0
 
-      at : FitsKind (start pairs words) log can.change can.fresh → (state_of pairs words log).pieces rebuild ≡ None
+      at : FitsKind (start pairs words) log can.change can.fresh
+          → (state_of pairs words log).pieces rebuild ≡ None
       at (kinds.a_put f) = absurd (clash (sym f.to ∙ to))
         where
           clash : Some (LeafAt f.leaf) ≡ Some (RebuildAt rebuild) → ⊥
@@ -122,8 +129,10 @@ module _ (pairs : List Pair) (words : ℕ) (opens : CanOpen pairs words) where
           absurd (subst (λ o. RootNames (state_of pairs words log).pieces f.row.target o) (ap ref_of (sym f.to) ∙ to) row.2)
 
   -- while a start is undecided its rebuild isn't started
-  pub undecided_unstarted : (log : Log) → EachEnabled (start pairs words) log → (base : ℕ) (x : ChangeRow)
-      → (state_of pairs words log).pieces base ≡ Some (Change x) → x.decision ≡ undecided → (rebuild : ℕ)
+  pub undecided_unstarted : (log : Log) → EachEnabled (start pairs words) log
+      → (base : ℕ) (x : ChangeRow)
+      → (state_of pairs words log).pieces base ≡ Some (Change x) → x.decision ≡ undecided
+      → (rebuild : ℕ)
       → ref_of x.to ≡ Some (RebuildAt rebuild) → ¬ (IsStarted (state_of pairs words log) rebuild)
   undecided_unstarted =
       changes_by pairs words (λ log base x. x.decision ≡ undecided → (rebuild : ℕ) → ref_of x.to ≡ Some (RebuildAt rebuild) → ¬ (IsStarted (state_of pairs words log) rebuild))
@@ -134,9 +143,12 @@ module _ (pairs : List Pair) (words : ℕ) (opens : CanOpen pairs words) where
       (λ log caller base said h can before none. absurd (said_something said none))
     where
       -- a start that comes now isn't decided
-      fresh : (log : Log) (caller base : ℕ) (rows : List Row) → EachEnabled (start pairs words) (Install caller base rows ∷ log)
-          → (can : CanInstall (start pairs words) log caller base rows) → (rebuild : ℕ) → ref_of can.change.to ≡ Some (RebuildAt rebuild)
-          → (s : IsStarted (state_of pairs words (Install caller base rows ∷ log)) rebuild) → (event : Event)
+      fresh : (log : Log) (caller base : ℕ) (rows : List Row)
+          → EachEnabled (start pairs words) (Install caller base rows ∷ log)
+          → (can : CanInstall (start pairs words) log caller base rows) → (rebuild : ℕ)
+          → ref_of can.change.to ≡ Some (RebuildAt rebuild)
+          → (s : IsStarted (state_of pairs words (Install caller base rows ∷ log)) rebuild)
+          → (event : Event)
           → ChangeComes (start pairs words) log s.base s.change event → ⊥
       fresh log caller base rows h can rebuild to s event (change_was old) =
           let it = side_rebuild (state_of pairs words log) (names pairs words opens log h.0) s.base s.change old rebuild (inr s.to) in
@@ -148,10 +160,13 @@ module _ (pairs : List Pair) (words : ℕ) (opens : CanOpen pairs words) where
           no_piece ((state_of pairs words log).pieces rebuild) (Rebuild it.row) (start_new log caller base rows h can rebuild to) it.published
 
       -- two undecided starts of one rebuild are one
-      kept : (log : Log) (at : ℕ) (c : ChangeRow) (event : Event) → EachEnabled (start pairs words) (event ∷ log) → (base : ℕ) (x : ChangeRow)
+      kept : (log : Log) (at : ℕ) (c : ChangeRow) (event : Event)
+          → EachEnabled (start pairs words) (event ∷ log) → (base : ℕ) (x : ChangeRow)
           → (state_of pairs words log).pieces base ≡ Some (Change x)
-          → (state_of pairs words (event ∷ log)).pieces base ≡ Some (Change x) → x.decision ≡ undecided → (rebuild : ℕ)
-          → ref_of x.to ≡ Some (RebuildAt rebuild) → ¬ (IsStarted (state_of pairs words log) rebuild)
+          → (state_of pairs words (event ∷ log)).pieces base ≡ Some (Change x)
+          → x.decision ≡ undecided → (rebuild : ℕ)
+          → ref_of x.to ≡ Some (RebuildAt rebuild)
+          → ¬ (IsStarted (state_of pairs words log) rebuild)
           → c.kind ≡ start_kind → c.decision ≡ decided_yes → ref_of c.to ≡ Some (RebuildAt rebuild)
           → (state_of pairs words (event ∷ log)).pieces at ≡ Some (Change c)
           → ChangeComes (start pairs words) log at c event → ⊥

@@ -39,14 +39,16 @@ use Rattle.ist_rebuilds.proofs.NewTreeLemmas.{GoesDown, StandsIn, StandsWhole}
 use Rattle.ist_rebuilds.proofs.RebuiltLemmas.{started_reads, unreplaced_before}
 
 -- the top of an ideal subtree is one of its rows
-pub ideal_among : (ps : Pieces) (ref : Ref) (leaves : List PlacedLeaf) (above : ℕ) (rows : List ℕ) (base : ℕ)
+pub ideal_among : (ps : Pieces) (ref : Ref) (leaves : List PlacedLeaf) (above : ℕ) (rows : List ℕ)
+    (base : ℕ)
     → IsIdeal ps ref leaves above rows → ref ≡ InnerAt base → Among base rows
 ideal_among ps _ _ _ _ base of_none e = absurd (cc)
 ideal_among ps _ _ _ _ base (of_one same k) e = absurd (cc)
 ideal_among ps _ _ _ _ base (of_more {base = b} r top under) e = inl (let one : base ≡ b = cc in one)
 
 -- so is that of a root
-pub root_among : (ps : Pieces) (word k : ℕ) (leaves : List PlacedLeaf) (target : ℕ) (rows : List ℕ) (base : ℕ)
+pub root_among : (ps : Pieces) (word k : ℕ) (leaves : List PlacedLeaf) (target : ℕ) (rows : List ℕ)
+    (base : ℕ)
     → IsRoot ps word k leaves target rows → ref_of word ≡ Some (InnerAt base) → Among base rows
 root_among ps word k leaves target rows base (root_whole ref few is ideal) e = ideal_among ps ref leaves target rows base ideal (one (ref_of word) ref (InnerAt base) is e)
   where
@@ -60,7 +62,8 @@ root_among ps word k leaves target rows base (root_top b row many is top unset a
 
 module _ (pairs : List Pair) (words : ℕ) (opens : CanOpen pairs words) where
   -- a rebuild with a root was started
-  pub rooted_is_started : (log : Log) → EachEnabled (start pairs words) log → (base : ℕ) (r : RebuildRow)
+  pub rooted_is_started : (log : Log) → EachEnabled (start pairs words) log
+      → (base : ℕ) (r : RebuildRow)
       → (state_of pairs words log).pieces base ≡ Some (Rebuild r) → r.root ≢ unset_word
       → IsStarted (state_of pairs words log) base
   rooted_is_started =
@@ -71,13 +74,17 @@ module _ (pairs : List Pair) (words : ℕ) (opens : CanOpen pairs words) where
       (λ log caller base part h can before set. started_grows (state_of pairs words log) (state_of pairs words (Draw caller base part ∷ log)) (grow_behind pairs words log (Draw caller base part) h) base (before set))
 
   -- a root that is an inner row is named for the slot of its rebuild
-  pub root_named : (log : Log) (rebuild base : ℕ) (r : RebuildRow) → (state_of pairs words log).pieces rebuild ≡ Some (Rebuild r)
-      → ref_of r.root ≡ Some (InnerAt base) → Mentions (state_of pairs words log) r.parent r.index (InnerAt base)
+  pub root_named : (log : Log) (rebuild base : ℕ) (r : RebuildRow)
+      → (state_of pairs words log).pieces rebuild ≡ Some (Rebuild r)
+      → ref_of r.root ≡ Some (InnerAt base)
+      → Mentions (state_of pairs words log) r.parent r.index (InnerAt base)
   root_named log rebuild base r e is = inr (rebuild, Rebuild r, e, (refl, refl, inr is))
 
   -- it isn't the anchor
-  root_apart : (log : Log) → EachEnabled (start pairs words) log → (rebuild base : ℕ) (r : RebuildRow)
-      → (state_of pairs words log).pieces rebuild ≡ Some (Rebuild r) → ref_of r.root ≡ Some (InnerAt base) → base ≢ anchor
+  root_apart : (log : Log) → EachEnabled (start pairs words) log
+      → (rebuild base : ℕ) (r : RebuildRow)
+      → (state_of pairs words log).pieces rebuild ≡ Some (Rebuild r)
+      → ref_of r.root ≡ Some (InnerAt base) → base ≢ anchor
   root_apart log h rebuild base r e is =
       let it = mentioned_here (state_of pairs words log) r.parent r.index base (names pairs words opens log h) (root_named log rebuild base r e is) in
       not_the_anchor pairs words opens log h base it.0 it.1
@@ -90,9 +97,12 @@ module _ (pairs : List Pair) (words : ℕ) (opens : CanOpen pairs words) where
       clash q = cc
 
   -- the root of a rebuild that wasn't replaced isn't linked
-  root_unlinked : (log : Log) → EachEnabled (start pairs words) log → (rebuild base : ℕ) (r : RebuildRow)
-      → (state_of pairs words log).pieces rebuild ≡ Some (Rebuild r) → ref_of r.root ≡ Some (InnerAt base)
-      → ¬ (IsReplaced (state_of pairs words log) rebuild) → ¬ (Linked (state_of pairs words log) base)
+  root_unlinked : (log : Log) → EachEnabled (start pairs words) log
+      → (rebuild base : ℕ) (r : RebuildRow)
+      → (state_of pairs words log).pieces rebuild ≡ Some (Rebuild r)
+      → ref_of r.root ≡ Some (InnerAt base)
+      → ¬ (IsReplaced (state_of pairs words log) rebuild)
+      → ¬ (Linked (state_of pairs words log) base)
   root_unlinked log h rebuild _ r e is unr at_anchor = root_apart log h rebuild anchor r e is refl
   root_unlinked log h rebuild _ r e is unr (below {node = node} {child = base} i l c) =
       let t = state_of pairs words log in
@@ -110,18 +120,24 @@ module _ (pairs : List Pair) (words : ℕ) (opens : CanOpen pairs words) where
       one a b q = cc
 
   -- and never was
-  pub root_never_linked : (log : Log) → EachEnabled (start pairs words) log → (rebuild base : ℕ) (r : RebuildRow)
-      → (state_of pairs words log).pieces rebuild ≡ Some (Rebuild r) → ref_of r.root ≡ Some (InnerAt base)
-      → ¬ (IsReplaced (state_of pairs words log) rebuild) → ¬ (WasLinked (start pairs words) log base)
+  pub root_never_linked : (log : Log) → EachEnabled (start pairs words) log
+      → (rebuild base : ℕ) (r : RebuildRow)
+      → (state_of pairs words log).pieces rebuild ≡ Some (Rebuild r)
+      → ref_of r.root ≡ Some (InnerAt base)
+      → ¬ (IsReplaced (state_of pairs words log) rebuild)
+      → ¬ (WasLinked (start pairs words) log base)
   root_never_linked [] h rebuild base r e is unr was = start_quiet pairs words rebuild (Rebuild r) e
   root_never_linked (event ∷ log) h rebuild base r e is unr (inl now) = root_unlinked (event ∷ log) h rebuild base r e is unr now
   root_never_linked (event ∷ log) h rebuild base r e is unr (inr before) =
       at event h (root_apart (event ∷ log) h rebuild base r e is) (rebuild_comes pairs words log event h rebuild r e) (unreplaced_before pairs words opens log event h rebuild unr)
       (λ s old named k. root_never_linked log h.0 rebuild base s old named k before)
     where
-      at : (event : Event) → EachEnabled (start pairs words) (event ∷ log) → base ≢ anchor → RebuildComes (start pairs words) log rebuild r event
+      at : (event : Event) → EachEnabled (start pairs words) (event ∷ log) → base ≢ anchor
+          → RebuildComes (start pairs words) log rebuild r event
           → ¬ (IsReplaced (state_of pairs words log) rebuild)
-          → ((s : RebuildRow) → (state_of pairs words log).pieces rebuild ≡ Some (Rebuild s) → ref_of s.root ≡ Some (InnerAt base) → ¬ (IsReplaced (state_of pairs words log) rebuild) → ⊥)
+          → ((s : RebuildRow) → (state_of pairs words log).pieces rebuild ≡ Some (Rebuild s)
+          → ref_of s.root ≡ Some (InnerAt base)
+          → ¬ (IsReplaced (state_of pairs words log) rebuild) → ⊥)
           → ⊥
       at event all ne (rebuild_was old) k again = again r old is k
       at _ all ne (is_begun can s here same) k again = inner_set r.root base is (ap (λ x. x.root) same)
@@ -152,7 +168,8 @@ module _ (pairs : List Pair) (words : ℕ) (opens : CanOpen pairs words) where
   never_down log h node r never e j word child at is = child_never log h node j word child (in_row r e at) is never
 
   -- whole rows that were never linked stand behind an event
-  pub never_stand : (log : Log) (event : Event) → EachEnabled (start pairs words) (event ∷ log) → (rows : List ℕ)
+  pub never_stand : (log : Log) (event : Event) → EachEnabled (start pairs words) (event ∷ log)
+      → (rows : List ℕ)
       → Each (λ base. ¬ (WasLinked (start pairs words) log base)) rows
       → Each (StandsWhole (state_of pairs words log).pieces) rows
       → StandsIn (state_of pairs words log).pieces (state_of pairs words (event ∷ log)).pieces rows

@@ -42,7 +42,8 @@ use Rattle.ist_core.specs.Installing as kinds
 
 -- a root, as it comes, in the table of its condition
 root_partly : (ps : Pieces) (word k : ℕ) (leaves : List PlacedLeaf) (target : ℕ) (rows : List ℕ)
-    → IsRoot ps word k leaves target rows → (ref : Ref) × (ref_of word ≡ Some ref) × (built : List ℕ) × IsPartly ps ref leaves target built
+    → IsRoot ps word k leaves target rows → (ref : Ref) × (ref_of word ≡ Some ref)
+    × (built : List ℕ) × IsPartly ps ref leaves target built
 root_partly ps word k leaves target rows (root_whole ref few is ideal) = (ref, is, rows, whole ideal)
 root_partly ps word k leaves target rows (root_top base row many is top unset one) = (
   InnerAt base,
@@ -65,16 +66,20 @@ partly_moved ps qs _ leaves above rows (in_parts {base = base} r top under) leaf
 
 module _ (pairs : List Pair) (words : ℕ) (opens : CanOpen pairs words) where
   -- the leaves below the target of a rebuild with a root stay
-  pub target_leaves_kept : (log : Log) (event : Event) → EachEnabled (start pairs words) (event ∷ log)
-      → (at : ℕ) (r : RebuildRow) → (state_of pairs words log).pieces at ≡ Some (Rebuild r) → r.root ≢ unset_word
-      → (leaves : List PlacedLeaf) → HasLeaves (state_of pairs words log).pieces (Some (InnerAt r.target)) leaves
+  pub target_leaves_kept : (log : Log) (event : Event)
+      → EachEnabled (start pairs words) (event ∷ log)
+      → (at : ℕ) (r : RebuildRow) → (state_of pairs words log).pieces at ≡ Some (Rebuild r)
+      → r.root ≢ unset_word
+      → (leaves : List PlacedLeaf)
+      → HasLeaves (state_of pairs words log).pieces (Some (InnerAt r.target)) leaves
       → HasLeaves (state_of pairs words (event ∷ log)).pieces (Some (InnerAt r.target)) leaves
   target_leaves_kept log event h at r e set leaves reached =
       leaves_kept pairs words opens log event h r.target leaves (rooted_is_finished pairs words log h.0 at r e set) reached
 
   -- what is built over stays so over an event that leaves the rebuild's root
   built_step : (log : Log) (event : Event) → EachEnabled (start pairs words) (event ∷ log)
-      → (at : ℕ) (r : RebuildRow) → (state_of pairs words log).pieces at ≡ Some (Rebuild r) → r.root ≢ unset_word
+      → (at : ℕ) (r : RebuildRow) → (state_of pairs words log).pieces at ≡ Some (Rebuild r)
+      → r.root ≢ unset_word
       → ¬ (IsReplaced (state_of pairs words log) at) → IsBuiltOver (state_of pairs words log) r
       → IsBuiltOver (state_of pairs words (event ∷ log)) r
   built_step log event h at r e set unr b =
@@ -89,7 +94,8 @@ module _ (pairs : List Pair) (words : ℕ) (opens : CanOpen pairs words) where
       }
 
   -- what is built where a root comes
-  built_root : (log : Log) (caller at word : ℕ) (rows : List Row) → EachEnabled (start pairs words) (Root caller at word rows ∷ log)
+  built_root : (log : Log) (caller at word : ℕ) (rows : List Row)
+      → EachEnabled (start pairs words) (Root caller at word rows ∷ log)
       → (can : CanRoot (state_of pairs words log) caller at word rows)
       → IsBuiltOver (state_of pairs words (Root caller at word rows ∷ log)) (record (can.row) { root = word })
   built_root log caller at word rows h can =
@@ -115,9 +121,12 @@ module _ (pairs : List Pair) (words : ℕ) (opens : CanOpen pairs words) where
       by_origin event h (rebuild_comes pairs words log event h at r e) (unreplaced_before pairs words opens log event h at unr)
       (λ s old has k. built_over log h.0 at s old has k)
     where
-      by_origin : (event : Event) → EachEnabled (start pairs words) (event ∷ log) → RebuildComes (start pairs words) log at r event
+      by_origin : (event : Event) → EachEnabled (start pairs words) (event ∷ log)
+          → RebuildComes (start pairs words) log at r event
           → ¬ (IsReplaced (state_of pairs words log) at)
-          → ((s : RebuildRow) → (state_of pairs words log).pieces at ≡ Some (Rebuild s) → s.root ≢ unset_word → ¬ (IsReplaced (state_of pairs words log) at) → IsBuiltOver (state_of pairs words log) s)
+          → ((s : RebuildRow) → (state_of pairs words log).pieces at ≡ Some (Rebuild s)
+          → s.root ≢ unset_word → ¬ (IsReplaced (state_of pairs words log) at)
+          → IsBuiltOver (state_of pairs words log) s)
           → IsBuiltOver (state_of pairs words (event ∷ log)) r
       by_origin event all (rebuild_was old) k before = built_step log event all at r old set k (before r old set k)
       by_origin _ all (is_begun can s here same) k before = absurd (set (ap (λ x. x.root) same))
@@ -145,8 +154,10 @@ module _ (pairs : List Pair) (words : ℕ) (opens : CanOpen pairs words) where
     pub ideal : IsIdeal (state_of pairs words log).pieces ref leaves row.target rows
 
   -- that stays so
-  whole_on : (log : Log) (event : Event) → EachEnabled (start pairs words) (event ∷ log) → (x : ChangeRow) (rebuild : ℕ)
-      → ¬ (IsReplaced (state_of pairs words log) rebuild) → IsWhole log x rebuild → IsWhole (event ∷ log) x rebuild
+  whole_on : (log : Log) (event : Event) → EachEnabled (start pairs words) (event ∷ log)
+      → (x : ChangeRow) (rebuild : ℕ)
+      → ¬ (IsReplaced (state_of pairs words log) rebuild) → IsWhole log x rebuild
+      → IsWhole (event ∷ log) x rebuild
   whole_on log event h x rebuild unr w =
       let t = state_of pairs words log in
       let u = state_of pairs words (event ∷ log) in
@@ -167,7 +178,8 @@ module _ (pairs : List Pair) (words : ℕ) (opens : CanOpen pairs words) where
       }
 
   -- a root without an Unset slot is whole
-  partly_is_whole : (t : Snapshot) (ref : Ref) (leaves : List PlacedLeaf) (above : ℕ) (rows : List ℕ)
+  partly_is_whole : (t : Snapshot) (ref : Ref) (leaves : List PlacedLeaf) (above : ℕ)
+      (rows : List ℕ)
       → IsPartly t.pieces ref leaves above rows
       → ((base i word : ℕ) → ref ≡ InnerAt base → SlotHolds t base i word → word ≢ unset_word)
       → (all : List ℕ) × IsIdeal t.pieces ref leaves above all
@@ -176,12 +188,15 @@ module _ (pairs : List Pair) (words : ℕ) (opens : CanOpen pairs words) where
       (base ∷ rows, of_more r top (partly_all t.pieces r.slots (parts leaves) base rows under (λ i e. set base i unset_word refl (in_row r top.published e) refl)))
 
   -- a finish that is installed puts in a whole root
-  whole_install : (log : Log) (caller base : ℕ) (rows : List Row) → EachEnabled (start pairs words) (Install caller base rows ∷ log)
+  whole_install : (log : Log) (caller base : ℕ) (rows : List Row)
+      → EachEnabled (start pairs words) (Install caller base rows ∷ log)
       → (can : CanInstall (start pairs words) log caller base rows) → (rebuild : ℕ)
-      → ref_of can.change.from ≡ Some (RebuildAt rebuild) → IsWhole (Install caller base rows ∷ log) can.change rebuild
+      → ref_of can.change.from ≡ Some (RebuildAt rebuild)
+      → IsWhole (Install caller base rows ∷ log) can.change rebuild
   whole_install log caller base rows h can rebuild from = at can.fits
     where
-      at : FitsKind (start pairs words) log can.change can.fresh → IsWhole (Install caller base rows ∷ log) can.change rebuild
+      at : FitsKind (start pairs words) log can.change can.fresh
+          → IsWhole (Install caller base rows ∷ log) can.change rebuild
       at (kinds.a_put f) = absurd (room f.from)
         where
           room : HasRoomFor (state_of pairs words log) can.change.key can.change.from → ⊥
@@ -230,8 +245,10 @@ module _ (pairs : List Pair) (words : ℕ) (opens : CanOpen pairs words) where
           one a b q = cc
 
   -- an undecided finish puts in a whole root
-  pub finish_is_whole : (log : Log) → EachEnabled (start pairs words) log → (base : ℕ) (x : ChangeRow)
-      → (state_of pairs words log).pieces base ≡ Some (Change x) → x.decision ≡ undecided → (rebuild : ℕ)
+  pub finish_is_whole : (log : Log) → EachEnabled (start pairs words) log
+      → (base : ℕ) (x : ChangeRow)
+      → (state_of pairs words log).pieces base ≡ Some (Change x) → x.decision ≡ undecided
+      → (rebuild : ℕ)
       → ref_of x.from ≡ Some (RebuildAt rebuild) → IsWhole log x rebuild
   finish_is_whole =
       changes_by pairs words (λ log base x. x.decision ≡ undecided → (rebuild : ℕ) → ref_of x.from ≡ Some (RebuildAt rebuild) → IsWhole log x rebuild)
