@@ -43,12 +43,13 @@ said_yes true e = refl
 said_yes false e = let two : ◌≡◌ {A = ℕ} 2 1 = e in absurd (omega arith)
 
 -- the change that an event resolves is published and decided
-record IsDecidedAt (t : Snapshot) (base : ℕ) : Type 0 where
-  row : ChangeRow
-  published : t.pieces base ≡ Some (Change row)
-  decided : row.decision ≢ undecided
+pub record IsDecidedAt (t : Snapshot) (base : ℕ) : Type 0 where
+  pub row : ChangeRow
+  pub published : t.pieces base ≡ Some (Change row)
+  pub decided : row.decision ≢ undecided
 
-resolved_now : (first : Snapshot) (log : Log) (event : Event) (base : ℕ) → Enabled first log event
+pub resolved_now : (first : Snapshot) (log : Log) (event : Event) (base : ℕ)
+    → Enabled first log event
     → Resolves base event → IsDecidedAt (state first log) base
 resolved_now first log (Resolve caller change) base h is =
     record { row = h.change; published = subst (λ b. (state first log).pieces b ≡ Some (Change h.change)) is h.published; decided = h.decided }
@@ -67,7 +68,8 @@ resolved_now first log (Place caller rebuild i word rows) base h is = absurd is
 resolved_now first log (Lose caller bases) base h is = absurd is
 
 -- where no change is published none was resolved
-unresolved_before : (pairs : List Pair) (words : ℕ) (log : Log) → EachEnabled (start pairs words) log
+unresolved_before : (pairs : List Pair) (words : ℕ) (log : Log)
+    → EachEnabled (start pairs words) log
     → (base : ℕ) → (state_of pairs words log).pieces base ≡ None → ¬ (Happened (Resolves base) log)
 unresolved_before pairs words [] h base none happened = happened
 unresolved_before pairs words (event ∷ log) h base none (inl now) =
@@ -87,9 +89,11 @@ install_free first log caller base rows h s =
 
 module _ (pairs : List Pair) (words : ℕ) (opens : CanOpen pairs words) where
   -- a change that stands in a slot stands there until it is resolved
-  pub change_slot_stays : (log : Log) (event : Event) → EachEnabled (start pairs words) (event ∷ log)
+  pub change_slot_stays : (log : Log) (event : Event)
+      → EachEnabled (start pairs words) (event ∷ log)
       → (base : ℕ) (x : ChangeRow) → (state_of pairs words log).pieces base ≡ Some (Change x)
-      → ¬ (Resolves base event) → (n i : ℕ) → SlotHolds (state_of pairs words log) n i (word_of (ChangeAt base))
+      → ¬ (Resolves base event) → (n i : ℕ)
+      → SlotHolds (state_of pairs words log) n i (word_of (ChangeAt base))
       → SlotHolds (state_of pairs words (event ∷ log)) n i (word_of (ChangeAt base))
   change_slot_stays log (Install caller change rows) h base x e unresolved n i slot =
       let writes = install_writes (start pairs words) log caller change rows h.1 (sound_behind pairs words log h.0) (anchor_free pairs words log h.0) in
@@ -119,7 +123,8 @@ module _ (pairs : List Pair) (words : ℕ) (opens : CanOpen pairs words) where
   change_slot_stays log (Lose caller bases) h base x e unresolved n i slot = slot_stays (start pairs words) log (Lose caller bases) h.1 (sound_behind pairs words log h.0) tt n i (word_of (ChangeAt base)) slot
 
   -- a change that wasn't resolved stands in its slot
-  pub unresolved_stands : (log : Log) → EachEnabled (start pairs words) log → (base : ℕ) (x : ChangeRow)
+  pub unresolved_stands : (log : Log) → EachEnabled (start pairs words) log
+      → (base : ℕ) (x : ChangeRow)
       → (state_of pairs words log).pieces base ≡ Some (Change x) → ¬ (Happened (Resolves base) log)
       → SlotHolds (state_of pairs words log) x.node x.index (word_of (ChangeAt base))
   unresolved_stands =
@@ -132,7 +137,8 @@ module _ (pairs : List Pair) (words : ℕ) (opens : CanOpen pairs words) where
       change_slot_stays log (Decide caller base said) h base can.change can.pending.published (λ now. unresolved (inl now)) can.change.node can.change.index (stands (λ before. unresolved (inr before))))
 
   -- an undecided change wasn't resolved
-  pub undecided_unresolved : (log : Log) → EachEnabled (start pairs words) log → (base : ℕ) (x : ChangeRow)
+  pub undecided_unresolved : (log : Log) → EachEnabled (start pairs words) log
+      → (base : ℕ) (x : ChangeRow)
       → (state_of pairs words log).pieces base ≡ Some (Change x) → x.decision ≡ undecided
       → ¬ (Happened (Resolves base) log)
   undecided_unresolved =
@@ -152,14 +158,17 @@ module _ (pairs : List Pair) (words : ℕ) (opens : CanOpen pairs words) where
       (λ log caller base said h can before none happened. said_something said none)
 
   -- an undecided change stands in its slot
-  pub undecided_stands : (log : Log) → EachEnabled (start pairs words) log → (base : ℕ) (x : ChangeRow)
+  pub undecided_stands : (log : Log) → EachEnabled (start pairs words) log
+      → (base : ℕ) (x : ChangeRow)
       → (state_of pairs words log).pieces base ≡ Some (Change x) → x.decision ≡ undecided
       → SlotHolds (state_of pairs words log) x.node x.index (word_of (ChangeAt base))
   undecided_stands log h base x e none = unresolved_stands log h base x e (undecided_unresolved log h base x e none)
 
   -- the node of each change was linked
-  pub node_was_linked : (log : Log) → EachEnabled (start pairs words) log → (base : ℕ) (x : ChangeRow)
-      → (state_of pairs words log).pieces base ≡ Some (Change x) → WasLinked (start pairs words) log x.node
+  pub node_was_linked : (log : Log) → EachEnabled (start pairs words) log
+      → (base : ℕ) (x : ChangeRow)
+      → (state_of pairs words log).pieces base ≡ Some (Change x)
+      → WasLinked (start pairs words) log x.node
   node_was_linked =
       changes_by pairs words (λ log base x. Ever (start pairs words) (λ t. Linked t x.node) log)
       (λ log event h base x old there was. inr was)

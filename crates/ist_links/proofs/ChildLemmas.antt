@@ -20,7 +20,8 @@ use Rattle.ist_core.proofs.GrowingLemmas.{rebuild_there}
 use Rattle.ist_links.proofs.FormLemmas.{IsFormed, of_finish, of_leaf_put, of_pair_put, of_remove, of_start}
 use Rattle.ist_links.proofs.FormedLemmas.{changes_are_formed}
 use Rattle.ist_links.proofs.InductionLemmas.{grow_behind}
-use Rattle.ist_links.proofs.ReadLemmas.{ReadsAs, Turns, decide_reads, reads_step, turned_by}
+use Rattle.ist_links.proofs.ReadLemmas.{ReadsAs, Turns, decide_reads, turned_by}
+use Rattle.ist_links.proofs.ReadStepLemmas.{reads_step}
 
 -- what a slot reads as, and its child
 pub read_child : (t : Snapshot) (node i child : ℕ) (ref : Ref) → ReadsAs t node i ref
@@ -34,7 +35,8 @@ pub record IsReadBy (t : Snapshot) (node i child : ℕ) : Type 0 where
   pub set : ref ≢ Unset
   pub leads : past_rebuild t.pieces (Some ref) ≡ Some (InnerAt child)
 
-pub child_read : (t : Snapshot) (node i child : ℕ) → IsChild t node i child → IsReadBy t node i child
+pub child_read : (t : Snapshot) (node i child : ℕ) → IsChild t node i child
+    → IsReadBy t node i child
 child_read t node i child c = at (past_change t.pieces (ref_of c.word)) refl c.reads
   where
     at : (o : Option Ref) → past_change t.pieces (ref_of c.word) ≡ o
@@ -47,7 +49,8 @@ child_read t node i child c = at (past_change t.pieces (ref_of c.word)) refl c.r
 
 -- a reference leads where it led, once rows grow
 pub leads_grows : (t u : Snapshot) → AllGrow t.pieces u.pieces → (ref : Ref) (child : ℕ)
-    → past_rebuild t.pieces (Some ref) ≡ Some (InnerAt child) → past_rebuild u.pieces (Some ref) ≡ Some (InnerAt child)
+    → past_rebuild t.pieces (Some ref) ≡ Some (InnerAt child)
+    → past_rebuild u.pieces (Some ref) ≡ Some (InnerAt child)
 leads_grows t u g (RebuildAt base) child e = at (t.pieces base) refl e
   where
     at : (o : Option Piece) → t.pieces base ≡ o → rebuild_reads o ≡ Some (InnerAt child)
@@ -72,10 +75,12 @@ leads_rebuild ps base r e = ap rebuild_reads e
 
 -- what a change takes out that leads to an inner row: the change puts in what leads there too, or the row is finished
 pub data Takes (t : Snapshot) (x : ChangeRow) (child : ℕ) : Type 0 where
-  takes_none_away : (ref : Ref) → ref_of x.to ≡ Some ref → past_rebuild t.pieces (Some ref) ≡ Some (InnerAt child) → Takes t x child
+  takes_none_away : (ref : Ref) → ref_of x.to ≡ Some ref
+      → past_rebuild t.pieces (Some ref) ≡ Some (InnerAt child) → Takes t x child
   takes_finished : IsFinished t child → Takes t x child
 
-pub takes : (t : Snapshot) (x : ChangeRow) (ref : Ref) (child : ℕ) → IsFormed t x → ref_of x.from ≡ Some ref
+pub takes : (t : Snapshot) (x : ChangeRow) (ref : Ref) (child : ℕ) → IsFormed t x
+    → ref_of x.from ≡ Some ref
     → past_rebuild t.pieces (Some ref) ≡ Some (InnerAt child) → Takes t x child
 takes t x ref child (of_leaf_put h) e leads = absurd (room h.from)
   where

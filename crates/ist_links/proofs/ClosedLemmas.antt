@@ -36,7 +36,8 @@ use Rattle.ist_links.proofs.QuietLemmas.{start_quiet}
 use Rattle.ist_links.proofs.ReadLemmas.{change_past, past_plain, side_undecided}
 
 -- what is linked behind a log was linked
-pub linked_now : (first : Snapshot) (log : Log) (node : ℕ) → Linked (state first log) node → WasLinked first log node
+pub linked_now : (first : Snapshot) (log : Log) (node : ℕ) → Linked (state first log) node
+    → WasLinked first log node
 linked_now first [] node l = l
 linked_now first (event ∷ log) node l = inl l
 
@@ -48,16 +49,20 @@ pub record HasLinkedTarget (pairs : List Pair) (words : ℕ) (log : Log) (rebuil
 
 -- the row behind a word was linked
 pub record IsLinkedBehind (pairs : List Pair) (words : ℕ) (log : Log) (word : ℕ) : Type 0 where
-  pub inner : (child : ℕ) → ref_of word ≡ Some (InnerAt child) → WasLinked (start pairs words) log child
-  pub target : (rebuild : ℕ) → ref_of word ≡ Some (RebuildAt rebuild) → HasLinkedTarget pairs words log rebuild
+  pub inner : (child : ℕ) → ref_of word ≡ Some (InnerAt child)
+      → WasLinked (start pairs words) log child
+  pub target : (rebuild : ℕ) → ref_of word ≡ Some (RebuildAt rebuild)
+      → HasLinkedTarget pairs words log rebuild
 
 -- two rows of rebuilds are one
-pub same_rebuild : (o : Option Piece) (r s : RebuildRow) → o ≡ Some (Rebuild r) → o ≡ Some (Rebuild s) → r ≡ s
+pub same_rebuild : (o : Option Piece) (r s : RebuildRow) → o ≡ Some (Rebuild r)
+    → o ≡ Some (Rebuild s) → r ≡ s
 same_rebuild o r s e f = cc
 
 module _ (pairs : List Pair) (words : ℕ) (opens : CanOpen pairs words) where
   -- what a change that was decided yes took out of its slot was linked
-  pub yes_from_linked : (log : Log) → EachEnabled (start pairs words) log → (base : ℕ) (x : ChangeRow)
+  pub yes_from_linked : (log : Log) → EachEnabled (start pairs words) log
+      → (base : ℕ) (x : ChangeRow)
       → (state_of pairs words log).pieces base ≡ Some (Change x) → x.decision ≡ decided_yes
       → (child : ℕ) → ref_of x.from ≡ Some (InnerAt child) → WasLinked (start pairs words) log child
   yes_from_linked =
@@ -66,8 +71,10 @@ module _ (pairs : List Pair) (words : ℕ) (opens : CanOpen pairs words) where
       (λ log caller base rows h can said child from. let none = can.unset in absurd (omega arith))
       (λ log caller base said h can before is child from. inr (linked_now (start pairs words) log child (at log caller base said h can (said_yes said is) child from)))
     where
-      at : (log : Log) (caller base : ℕ) (said : Bool) → EachEnabled (start pairs words) (Decide caller base said ∷ log)
-          → (can : CanDecide (state_of pairs words log) log caller base said) → said ≡ true → (child : ℕ)
+      at : (log : Log) (caller base : ℕ) (said : Bool)
+          → EachEnabled (start pairs words) (Decide caller base said ∷ log)
+          → (can : CanDecide (state_of pairs words log) log caller base said) → said ≡ true
+          → (child : ℕ)
           → ref_of can.change.from ≡ Some (InnerAt child) → Linked (state_of pairs words log) child
       at log caller base said h can is child from =
           let t = state_of pairs words log in
@@ -81,8 +88,10 @@ module _ (pairs : List Pair) (words : ℕ) (opens : CanOpen pairs words) where
           }
 
   -- the target of a started rebuild was linked
-  pub started_target_linked : (log : Log) → EachEnabled (start pairs words) log → (rebuild : ℕ) (r : RebuildRow)
-      → (state_of pairs words log).pieces rebuild ≡ Some (Rebuild r) → IsStarted (state_of pairs words log) rebuild
+  pub started_target_linked : (log : Log) → EachEnabled (start pairs words) log
+      → (rebuild : ℕ) (r : RebuildRow)
+      → (state_of pairs words log).pieces rebuild ≡ Some (Rebuild r)
+      → IsStarted (state_of pairs words log) rebuild
       → WasLinked (start pairs words) log r.target
   started_target_linked log h rebuild r e s = at (changes_are_formed pairs words log h s.base s.change s.published)
     where
@@ -103,7 +112,8 @@ module _ (pairs : List Pair) (words : ℕ) (opens : CanOpen pairs words) where
           one_rebuild a b k = cc
 
   -- what is known of a word stays known
-  behind_later : (log : Log) (event : Event) → EachEnabled (start pairs words) (event ∷ log) → (word : ℕ)
+  behind_later : (log : Log) (event : Event) → EachEnabled (start pairs words) (event ∷ log)
+      → (word : ℕ)
       → IsLinkedBehind pairs words log word → IsLinkedBehind pairs words (event ∷ log) word
   behind_later log event h word k =
       record {
@@ -116,7 +126,8 @@ module _ (pairs : List Pair) (words : ℕ) (opens : CanOpen pairs words) where
 
   -- the word of a Pass, where its node was linked
   pass_behind : (log : Log) → EachEnabled (start pairs words) log → (caller node i word : ℕ)
-      → CanPass (state_of pairs words log) caller node i word → WasLinked (start pairs words) log node
+      → CanPass (state_of pairs words log) caller node i word
+      → WasLinked (start pairs words) log node
       → IsLinkedBehind pairs words log word
   pass_behind log h caller node i word can was =
       record {
@@ -140,14 +151,16 @@ module _ (pairs : List Pair) (words : ℕ) (opens : CanOpen pairs words) where
               let one : f.1.row.status ≡ 1 = ap (λ x. x.status) same ∙ can.marked in
               omega arith
 
-      child_was : (child : ℕ) → past_rebuild (state_of pairs words log).pieces (ref_of word) ≡ Some (InnerAt child)
+      child_was : (child : ℕ)
+          → past_rebuild (state_of pairs words log).pieces (ref_of word) ≡ Some (InnerAt child)
           → WasLinked (start pairs words) log child
       child_was child e =
           linked_now (start pairs words) log child
           (below i here record { word = word; holds = slot; reads = ap (past_rebuild (state_of pairs words log).pieces) (past_plain (state_of pairs words log).pieces (ref_of word) can.no_change) ∙ e })
 
       by_rebuild : (rebuild : ℕ) → ref_of word ≡ Some (RebuildAt rebuild)
-          → IsRebuildFor (state_of pairs words log).pieces node i rebuild → HasLinkedTarget pairs words log rebuild
+          → IsRebuildFor (state_of pairs words log).pieces node i rebuild
+          → HasLinkedTarget pairs words log rebuild
       by_rebuild rebuild is r =
           record {
             row = r.row;
@@ -171,7 +184,8 @@ module _ (pairs : List Pair) (words : ℕ) (opens : CanOpen pairs words) where
 
   mutual
     -- a row that isn't open was linked
-    pub closed_was_linked : (log : Log) → EachEnabled (start pairs words) log → (node : ℕ) (r : InnerRow)
+    pub closed_was_linked : (log : Log) → EachEnabled (start pairs words) log
+        → (node : ℕ) (r : InnerRow)
         → (state_of pairs words log).pieces node ≡ Some (Inner r) → r.status ≢ open_word
         → WasLinked (start pairs words) log node
     closed_was_linked [] h node r e closed = absurd (closed (start_quiet pairs words node (Inner r) e))
@@ -181,8 +195,10 @@ module _ (pairs : List Pair) (words : ℕ) (opens : CanOpen pairs words) where
       where
         closed_by : (event : Event) → EachEnabled (start pairs words) (event ∷ log)
             → StatusComes (start pairs words) log node r.status event
-            → ((s : InnerRow) → (state_of pairs words log).pieces node ≡ Some (Inner s) → s.status ≢ open_word → WasLinked (start pairs words) log node)
-            → ((at i word : ℕ) → Happened (Passes at i word) log → IsLinkedBehind pairs words log word)
+            → ((s : InnerRow) → (state_of pairs words log).pieces node ≡ Some (Inner s)
+            → s.status ≢ open_word → WasLinked (start pairs words) log node)
+            → ((at i word : ℕ) → Happened (Passes at i word) log
+            → IsLinkedBehind pairs words log word)
             → WasLinked (start pairs words) (event ∷ log) node
         closed_by event all (status_was s old same) before passed = inr (before s old (λ o. closed (same ∙ o)))
         closed_by event all (is_new none same) before passed = absurd (closed same)

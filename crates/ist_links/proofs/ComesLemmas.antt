@@ -66,11 +66,13 @@ module _ (pairs : List Pair) (words : ℕ) where
 
   -- each change behind an enabled event comes from somewhere
   pub change_comes : (log : Log) (event : Event) → EachEnabled (start pairs words) (event ∷ log)
-      → (base : ℕ) (x : ChangeRow) → (state_of pairs words (event ∷ log)).pieces base ≡ Some (Change x)
+      → (base : ℕ) (x : ChangeRow)
+      → (state_of pairs words (event ∷ log)).pieces base ≡ Some (Change x)
       → ChangeComes (start pairs words) log base x event
   change_comes log event h base x e = at (came pairs words log event h base (Change x) e)
     where
-      at : Came (start pairs words) log event base (Change x) → ChangeComes (start pairs words) log base x event
+      at : Came (start pairs words) log event base (Change x)
+          → ChangeComes (start pairs words) log base x event
       at (from_old p old turned) = turned_change log event base x p old turned
       at (from_new new none) = born_change log event base x new
 
@@ -127,16 +129,19 @@ module _ (pairs : List Pair) (words : ℕ) where
 
   -- each rebuild behind an enabled event comes from somewhere
   pub rebuild_comes : (log : Log) (event : Event) → EachEnabled (start pairs words) (event ∷ log)
-      → (base : ℕ) (x : RebuildRow) → (state_of pairs words (event ∷ log)).pieces base ≡ Some (Rebuild x)
+      → (base : ℕ) (x : RebuildRow)
+      → (state_of pairs words (event ∷ log)).pieces base ≡ Some (Rebuild x)
       → RebuildComes (start pairs words) log base x event
   rebuild_comes log event h base x e = at (came pairs words log event h base (Rebuild x) e)
     where
-      at : Came (start pairs words) log event base (Rebuild x) → RebuildComes (start pairs words) log base x event
+      at : Came (start pairs words) log event base (Rebuild x)
+          → RebuildComes (start pairs words) log base x event
       at (from_old p old turned) = turned_rebuild log event base x p old turned
       at (from_new new none) = born_rebuild log event base x new
 
   -- the status of a row that stood there, where its own event leaves statuses
-  same_status : (log : Log) (event : Event) (base : ℕ) (x : InnerRow) (p : Piece) (f : Piece → Piece)
+  same_status : (log : Log) (event : Event) (base : ℕ) (x : InnerRow) (p : Piece)
+      (f : Piece → Piece)
       → KeepsStatuses f → (state_of pairs words log).pieces base ≡ Some p → Inner x ≡ f p
       → StatusComes (start pairs words) log base x.status event
   same_status log event base x p f keeps old is =
@@ -161,10 +166,12 @@ module _ (pairs : List Pair) (words : ℕ) where
 
   -- where the status of each row behind an enabled event comes from
   pub status_comes : (log : Log) (event : Event) → EachEnabled (start pairs words) (event ∷ log)
-      → (base : ℕ) (x : InnerRow) → (state_of pairs words (event ∷ log)).pieces base ≡ Some (Inner x)
+      → (base : ℕ) (x : InnerRow)
+      → (state_of pairs words (event ∷ log)).pieces base ≡ Some (Inner x)
       → StatusComes (start pairs words) log base x.status event
   status_comes log event h base x e = at (came pairs words log event h base (Inner x) e)
     where
-      at : Came (start pairs words) log event base (Inner x) → StatusComes (start pairs words) log base x.status event
+      at : Came (start pairs words) log event base (Inner x)
+          → StatusComes (start pairs words) log base x.status event
       at (from_old p old turned) = turned_status log event base x p old turned
       at (from_new new none) = is_new none (born_open (start pairs words) log event base x h.1 new)

@@ -27,23 +27,28 @@ use Rattle.ist_links.proofs.InductionLemmas.{grow_behind}
 use Rattle.ist_links.proofs.OriginLemmas.{StatusComes, finished_now, is_new, marked_now, status_was}
 use Rattle.ist_links.proofs.QuietLemmas.{start_quiet}
 
+-- the target of a rebuild stays its target
+pub target_grows : (t u : Snapshot) → AllGrow t.pieces u.pieces → (rebuild target : ℕ)
+    → HasTarget t rebuild target → HasTarget u rebuild target
+target_grows t u g rebuild target h =
+    let it = rebuild_there t.pieces u.pieces g rebuild h.row h.published in
+    record { row = it.0; published = it.1; target_is = it.2.target ∙ h.target_is }
+
 -- what a word counts for it goes on counting for
-counts_grows : (t u : Snapshot) → AllGrow t.pieces u.pieces → (o : Option Ref) (k : ℕ) → CountsFor t o k
+counts_grows : (t u : Snapshot) → AllGrow t.pieces u.pieces → (o : Option Ref) (k : ℕ)
+    → CountsFor t o k
     → CountsFor u o k
 counts_grows t u g _ _ no_key = no_key
 counts_grows t u g _ _ one_key = one_key
 counts_grows t u g _ _ (of_child {child = child} {k = k} f) = of_child (finished_with_grows t u g child k f)
-counts_grows t u g _ _ (of_target {target = target} {k = k} h f) = of_target (target_grows h) (finished_with_grows t u g target k f)
-  where
-    target_grows : {rebuild target : ℕ} → HasTarget t rebuild target → HasTarget u rebuild target
-    target_grows {rebuild} {target} h =
-        let it = rebuild_there t.pieces u.pieces g rebuild h.row h.published in
-        record { row = it.0; published = it.1; target_is = it.2.target ∙ h.target_is }
+counts_grows t u g _ _ (of_target {rebuild = rebuild} {target = target} {k = k} h f) =
+    of_target (target_grows t u g rebuild target h) (finished_with_grows t u g target k f)
 
 -- what was passed stays passed; of the slots only their number counts
 passed_grows : (t u : Snapshot) → AllGrow t.pieces u.pieces → (log : Log) (event : Event)
     (node i k : ℕ) (old new : List ℕ)
-    → length new ≡ length old → ArePassed t log node i old k → ArePassed u (event ∷ log) node i new k
+    → length new ≡ length old → ArePassed t log node i old k
+    → ArePassed u (event ∷ log) node i new k
 passed_grows t u g log event node i _ _ [] same past_end = past_end
 passed_grows t u g log event node i _ _ (w ∷ ws) same past_end = absurd (omega arith)
 passed_grows t u g log event node i _ _ [] same (one_passed word p c more) = absurd (omega arith)
@@ -58,7 +63,8 @@ pub record IsPassed (t : Snapshot) (log : Log) (node i : ℕ) : Type 0 where
   pub counts : CountsFor t (ref_of word) k
 
 -- each of the slots was passed
-passed_at : (t : Snapshot) (log : Log) (node i k : ℕ) (slots : List ℕ) → ArePassed t log node i slots k
+passed_at : (t : Snapshot) (log : Log) (node i k : ℕ) (slots : List ℕ)
+    → ArePassed t log node i slots k
     → (j word : ℕ) → slice_get slots j ≡ Some word → IsPassed t log node (i + j)
 passed_at t log node i _ _ past_end j word e = absurd (cc)
 passed_at t log node i _ _ (one_passed {here = here} w p c more) zero word e =
@@ -83,7 +89,8 @@ passed_finished t _ _ child (of_target {target = target} {k = k} h f) e =
     one_inner a b e = cc
 
 -- a row keeps its number of slots
-same_length : (ps qs : Pieces) → AllGrow ps qs → (base : ℕ) (r s : InnerRow) → ps base ≡ Some (Inner r)
+pub same_length : (ps qs : Pieces) → AllGrow ps qs → (base : ℕ) (r s : InnerRow)
+    → ps base ≡ Some (Inner r)
     → qs base ≡ Some (Inner s) → length s.slots ≡ length r.slots
 same_length ps qs g base r s e f =
     let it = inner_there ps qs g base r e in
@@ -91,7 +98,8 @@ same_length ps qs g base r s e f =
 
 module _ (pairs : List Pair) (words : ℕ) where
   -- each slot of a row that is finished with k keys was passed, and the passed words count for k
-  pub finished_passed : (log : Log) → EachEnabled (start pairs words) log → (node k : ℕ) (r : InnerRow)
+  pub finished_passed : (log : Log) → EachEnabled (start pairs words) log
+      → (node k : ℕ) (r : InnerRow)
       → (state_of pairs words log).pieces node ≡ Some (Inner r) → r.status ≡ finished_word k
       → ArePassed (state_of pairs words log) log node 0 r.slots k
   finished_passed [] h node k r e is =
@@ -104,7 +112,9 @@ module _ (pairs : List Pair) (words : ℕ) where
       at : (event : Event) → EachEnabled (start pairs words) (event ∷ log)
           → (state_of pairs words (event ∷ log)).pieces node ≡ Some (Inner r)
           → StatusComes (start pairs words) log node r.status event
-          → ((s : InnerRow) → (state_of pairs words log).pieces node ≡ Some (Inner s) → s.status ≡ finished_word k → ArePassed (state_of pairs words log) log node 0 s.slots k)
+          → ((s : InnerRow) → (state_of pairs words log).pieces node ≡ Some (Inner s)
+          → s.status ≡ finished_word k
+          → ArePassed (state_of pairs words log) log node 0 s.slots k)
           → ArePassed (state_of pairs words (event ∷ log)) (event ∷ log) node 0 r.slots k
       at event all there (status_was s old same) before =
           let g = grow_behind pairs words log event all in
@@ -123,7 +133,8 @@ module _ (pairs : List Pair) (words : ℕ) where
 
   -- each slot of a finished row was passed
   pub finished_slot : (log : Log) → EachEnabled (start pairs words) log → (node i word : ℕ)
-      → IsFinished (state_of pairs words log) node → SlotHolds (state_of pairs words log) node i word
+      → IsFinished (state_of pairs words log) node
+      → SlotHolds (state_of pairs words log) node i word
       → IsPassed (state_of pairs words log) log node i
   finished_slot log h node i word f (in_anchor a b e) = absurd (no_row (state_of pairs words log).pieces node f.1.row (anchor_free pairs words log h) a f.1.published)
   finished_slot log h node i word f (in_row r e g) =
@@ -133,7 +144,8 @@ module _ (pairs : List Pair) (words : ℕ) where
       subst (λ j. IsPassed t log node j) first (passed_at t log node 0 f.0 r.slots (finished_passed log h node f.0 r e (ap (λ x. x.status) (sym same) ∙ f.1.status)) i word g)
 
   -- each logical child of a finished row is finished
-  pub finished_down : CanOpen pairs words → (log : Log) → EachEnabled (start pairs words) log → (node i child : ℕ)
+  pub finished_down : CanOpen pairs words → (log : Log) → EachEnabled (start pairs words) log
+      → (node i child : ℕ)
       → IsFinished (state_of pairs words log) node → IsChild (state_of pairs words log) node i child
       → IsFinished (state_of pairs words log) child
   finished_down opens log h node i child f c =

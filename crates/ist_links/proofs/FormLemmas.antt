@@ -32,16 +32,19 @@ pub finished_grows : (t u : Snapshot) → AllGrow t.pieces u.pieces → (node : 
     → IsFinished u node
 finished_grows t u g node h = (h.0, finished_with_grows t u g node h.0 h.1)
 
-pub leaf_of_grows : (t u : Snapshot) → AllGrow t.pieces u.pieces → (base key : ℕ) → IsLeafOf t base key
+pub leaf_of_grows : (t u : Snapshot) → AllGrow t.pieces u.pieces → (base key : ℕ)
+    → IsLeafOf t base key
     → IsLeafOf u base key
 leaf_of_grows t u g base key h = record { row = h.row; published = leaf_there t.pieces u.pieces g base h.row h.published; key_is = h.key_is }
 
-pub room_grows : (t u : Snapshot) → AllGrow t.pieces u.pieces → (key word : ℕ) → HasRoomFor t key word
+pub room_grows : (t u : Snapshot) → AllGrow t.pieces u.pieces → (key word : ℕ)
+    → HasRoomFor t key word
     → HasRoomFor u key word
 room_grows t u g key word (nothing e) = nothing e
 room_grows t u g key word (same_key leaf e h) = same_key leaf e (leaf_of_grows t u g leaf key h)
 
-pub started_grows : (t u : Snapshot) → AllGrow t.pieces u.pieces → (rebuild : ℕ) → IsStarted t rebuild
+pub started_grows : (t u : Snapshot) → AllGrow t.pieces u.pieces → (rebuild : ℕ)
+    → IsStarted t rebuild
     → IsStarted u rebuild
 started_grows t u g rebuild h =
     let it = change_there t.pieces u.pieces g h.base h.change h.published in
@@ -56,7 +59,8 @@ started_grows t u g rebuild h =
       to = ap (λ c. ref_of c.to) same ∙ h.to;
     }
 
-pub replaced_grows : (t u : Snapshot) → AllGrow t.pieces u.pieces → (rebuild : ℕ) → IsReplaced t rebuild
+pub replaced_grows : (t u : Snapshot) → AllGrow t.pieces u.pieces → (rebuild : ℕ)
+    → IsReplaced t rebuild
     → IsReplaced u rebuild
 replaced_grows t u g rebuild h =
     let it = change_there t.pieces u.pieces g h.base h.change h.published in

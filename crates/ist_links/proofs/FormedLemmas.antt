@@ -49,21 +49,26 @@ pub leaf_grown : (r : LeafRow) (q : Piece) → Grows (Leaf r) q → q ≡ Leaf r
 leaf_grown r _ leaf_stays = refl
 
 -- what becomes of an inner row is one
-inner_grown : (p q : Piece) (r : InnerRow) → p ≡ Inner r → Grows p q → (s : InnerRow) × (q ≡ Inner s)
+inner_grown : (p q : Piece) (r : InnerRow) → p ≡ Inner r → Grows p q
+    → (s : InnerRow) × (q ≡ Inner s)
 inner_grown _ _ r e leaf_stays = absurd (cc)
 inner_grown _ _ r e (inner_grows {new = s} g) = (s, refl)
 inner_grown _ _ r e (change_grows g) = absurd (cc)
 inner_grown _ _ r e (rebuild_grows g) = absurd (cc)
 
-rebuild_grown : (r : RebuildRow) (q : Piece) → Grows (Rebuild r) q → (s : RebuildRow) × (q ≡ Rebuild s) × RebuildGrows r s
+rebuild_grown : (r : RebuildRow) (q : Piece) → Grows (Rebuild r) q
+    → (s : RebuildRow) × (q ≡ Rebuild s) × RebuildGrows r s
 rebuild_grown r _ (rebuild_grows {new = s} g) = (s, refl, g)
 
 -- the form of a change that is installed, behind its Install. A finish has a finished target where rebuilds with roots have
 formed_installed : (first : Snapshot) (log : Log) (caller base : ℕ) (rows : List Row)
-    → ((rebuild : ℕ) (r : RebuildRow) → (state first log).pieces rebuild ≡ Some (Rebuild r) → r.root ≢ unset_word → IsFinished (state first log) r.target)
+    → ((rebuild : ℕ) (r : RebuildRow) → (state first log).pieces rebuild ≡ Some (Rebuild r)
+    → r.root ≢ unset_word → IsFinished (state first log) r.target)
     → AllGrow (state first log).pieces (state first (Install caller base rows ∷ log)).pieces
     → (change : ChangeRow) (fresh : List Row) (fits : FitsKind first log change fresh)
-    → ((at : ℕ) (p : Piece) → IsFresh first log change fresh fits at p → (q : Piece) × ((state first (Install caller base rows ∷ log)).pieces at ≡ Some q) × Grows p q)
+    → ((at : ℕ) (p : Piece) → IsFresh first log change fresh fits at p
+    → (q : Piece)
+    × ((state first (Install caller base rows ∷ log)).pieces at ≡ Some q) × Grows p q)
     → IsFormed (state first (Install caller base rows ∷ log)) change
 formed_installed first log caller base rows done g change fresh (kinds.a_put h) behind =
     let u = state first (Install caller base rows ∷ log) in
@@ -143,7 +148,8 @@ module _ (pairs : List Pair) (words : ℕ) where
   finished_step log event h node f = finished_grows (state_of pairs words log) (state_of pairs words (event ∷ log)) (grow_behind pairs words log event h) node f
 
   -- a rebuild with a root has a finished target
-  pub rooted_is_finished : (log : Log) → EachEnabled (start pairs words) log → (base : ℕ) (r : RebuildRow)
+  pub rooted_is_finished : (log : Log) → EachEnabled (start pairs words) log
+      → (base : ℕ) (r : RebuildRow)
       → (state_of pairs words log).pieces base ≡ Some (Rebuild r) → r.root ≢ unset_word
       → IsFinished (state_of pairs words log) r.target
   rooted_is_finished =
@@ -154,8 +160,10 @@ module _ (pairs : List Pair) (words : ℕ) where
       (λ log caller base part h can before set. finished_step log (Draw caller base part) h can.row.target (can.k, can.finished))
 
   -- each change has the form of its kind
-  pub changes_are_formed : (log : Log) → EachEnabled (start pairs words) log → (base : ℕ) (x : ChangeRow)
-      → (state_of pairs words log).pieces base ≡ Some (Change x) → IsFormed (state_of pairs words log) x
+  pub changes_are_formed : (log : Log) → EachEnabled (start pairs words) log
+      → (base : ℕ) (x : ChangeRow)
+      → (state_of pairs words log).pieces base ≡ Some (Change x)
+      → IsFormed (state_of pairs words log) x
   changes_are_formed =
       changes_by pairs words (λ log base x. IsFormed (state_of pairs words log) x)
       (λ log event h base x old there formed. formed_grows (state_of pairs words log) (state_of pairs words (event ∷ log)) (grow_behind pairs words log event h) x formed)

@@ -27,7 +27,8 @@ use Rattle.ist_links.proofs.QuietLemmas.{start_quiet}
 
 module _ (pairs : List Pair) (words : ℕ) where
   -- rows lie soundly behind a lawful log
-  pub sound_behind : (log : Log) → EachEnabled (start pairs words) log → IsSound (state_of pairs words log)
+  pub sound_behind : (log : Log) → EachEnabled (start pairs words) log
+      → IsSound (state_of pairs words log)
   sound_behind log h = sound (start pairs words) log (sound_start pairs words) h
 
   -- rows grow by each event
@@ -36,19 +37,30 @@ module _ (pairs : List Pair) (words : ℕ) where
   grow_behind log event h = grow_step (start pairs words) log event h.1 (sound_behind log h.0)
 
   -- no change stands at the start
-  no_change_first : (base : ℕ) (x : ChangeRow) → (start pairs words).pieces base ≡ Some (Change x) → ⊥
+  no_change_first : (base : ℕ) (x : ChangeRow) → (start pairs words).pieces base ≡ Some (Change x)
+      → ⊥
   no_change_first base x e = start_quiet pairs words base (Change x) e
 
   -- no rebuild stands at the start
-  no_rebuild_first : (base : ℕ) (x : RebuildRow) → (start pairs words).pieces base ≡ Some (Rebuild x) → ⊥
+  no_rebuild_first : (base : ℕ) (x : RebuildRow)
+      → (start pairs words).pieces base ≡ Some (Rebuild x) → ⊥
   no_rebuild_first base x e = start_quiet pairs words base (Rebuild x) e
 
   -- what holds of each published change: it holds where one is installed, each event that leaves the change keeps it, and so
   -- does its decision
   pub changes_by : (P : Log → ℕ → ChangeRow → Type 0)
-      → ((log : Log) (event : Event) → EachEnabled (start pairs words) (event ∷ log) → (base : ℕ) (x : ChangeRow) → (state_of pairs words log).pieces base ≡ Some (Change x) → (state_of pairs words (event ∷ log)).pieces base ≡ Some (Change x) → P log base x → P (event ∷ log) base x)
-      → ((log : Log) (caller base : ℕ) (rows : List Row) → EachEnabled (start pairs words) (Install caller base rows ∷ log) → (h : CanInstall (start pairs words) log caller base rows) → P (Install caller base rows ∷ log) base h.change)
-      → ((log : Log) (caller base : ℕ) (said : Bool) → EachEnabled (start pairs words) (Decide caller base said ∷ log) → (h : CanDecide (state_of pairs words log) log caller base said) → P log base h.change → P (Decide caller base said ∷ log) base (record (h.change) { decision = decision_word said }))
+      → ((log : Log) (event : Event) → EachEnabled (start pairs words) (event ∷ log)
+      → (base : ℕ) (x : ChangeRow) → (state_of pairs words log).pieces base ≡ Some (Change x)
+      → (state_of pairs words (event ∷ log)).pieces base ≡ Some (Change x) → P log base x
+      → P (event ∷ log) base x)
+      → ((log : Log) (caller base : ℕ) (rows : List Row)
+      → EachEnabled (start pairs words) (Install caller base rows ∷ log)
+      → (h : CanInstall (start pairs words) log caller base rows)
+      → P (Install caller base rows ∷ log) base h.change)
+      → ((log : Log) (caller base : ℕ) (said : Bool)
+      → EachEnabled (start pairs words) (Decide caller base said ∷ log)
+      → (h : CanDecide (state_of pairs words log) log caller base said) → P log base h.change
+      → P (Decide caller base said ∷ log) base (record (h.change) { decision = decision_word said }))
       → (log : Log) → EachEnabled (start pairs words) log → (base : ℕ) (x : ChangeRow)
       → (state_of pairs words log).pieces base ≡ Some (Change x) → P log base x
   changes_by P keep new decide [] h base x e = absurd (no_change_first base x e)
@@ -58,7 +70,8 @@ module _ (pairs : List Pair) (words : ℕ) where
       at : (event : Event) → EachEnabled (start pairs words) (event ∷ log)
           → (state_of pairs words (event ∷ log)).pieces base ≡ Some (Change x)
           → ChangeComes (start pairs words) log base x event
-          → ((b : ℕ) (y : ChangeRow) → (state_of pairs words log).pieces b ≡ Some (Change y) → P log b y)
+          → ((b : ℕ) (y : ChangeRow) → (state_of pairs words log).pieces b ≡ Some (Change y)
+          → P log b y)
           → P (event ∷ log) base x
       at event all there (change_was old) before = keep log event all base x old there (before base x old)
       at _ all there (is_installed {caller = caller} {rows = rows} k is) before = subst (λ y. P (Install caller base rows ∷ log) base y) (sym is) (new log caller base rows all k)
@@ -66,10 +79,23 @@ module _ (pairs : List Pair) (words : ℕ) where
 
   -- what holds of each published rebuild: it holds where one is begun, and a root, a Draw and each other event keep it
   pub rebuilds_by : (P : Log → ℕ → RebuildRow → Type 0)
-      → ((log : Log) (event : Event) → EachEnabled (start pairs words) (event ∷ log) → (base : ℕ) (x : RebuildRow) → (state_of pairs words log).pieces base ≡ Some (Rebuild x) → (state_of pairs words (event ∷ log)).pieces base ≡ Some (Rebuild x) → P log base x → P (event ∷ log) base x)
-      → ((log : Log) (caller change : ℕ) (rows : List Row) → EachEnabled (start pairs words) (Install caller change rows ∷ log) → (h : CanInstall (start pairs words) log caller change rows) → (s : Starts (state_of pairs words log) h.change h.fresh) → P (Install caller change rows ∷ log) s.rebuild (new_rebuild_row h.change s.target))
-      → ((log : Log) (caller base word : ℕ) (rows : List Row) → EachEnabled (start pairs words) (Root caller base word rows ∷ log) → (h : CanRoot (state_of pairs words log) caller base word rows) → P log base h.row → P (Root caller base word rows ∷ log) base (record (h.row) { root = word }))
-      → ((log : Log) (caller base part : ℕ) → EachEnabled (start pairs words) (Draw caller base part ∷ log) → (h : CanDraw (state_of pairs words log) log caller base part) → P log base h.row → P (Draw caller base part ∷ log) base (record (h.row) { draw = h.row.draw + 1 }))
+      → ((log : Log) (event : Event) → EachEnabled (start pairs words) (event ∷ log)
+      → (base : ℕ) (x : RebuildRow) → (state_of pairs words log).pieces base ≡ Some (Rebuild x)
+      → (state_of pairs words (event ∷ log)).pieces base ≡ Some (Rebuild x) → P log base x
+      → P (event ∷ log) base x)
+      → ((log : Log) (caller change : ℕ) (rows : List Row)
+      → EachEnabled (start pairs words) (Install caller change rows ∷ log)
+      → (h : CanInstall (start pairs words) log caller change rows)
+      → (s : Starts (state_of pairs words log) h.change h.fresh)
+      → P (Install caller change rows ∷ log) s.rebuild (new_rebuild_row h.change s.target))
+      → ((log : Log) (caller base word : ℕ) (rows : List Row)
+      → EachEnabled (start pairs words) (Root caller base word rows ∷ log)
+      → (h : CanRoot (state_of pairs words log) caller base word rows) → P log base h.row
+      → P (Root caller base word rows ∷ log) base (record (h.row) { root = word }))
+      → ((log : Log) (caller base part : ℕ)
+      → EachEnabled (start pairs words) (Draw caller base part ∷ log)
+      → (h : CanDraw (state_of pairs words log) log caller base part) → P log base h.row
+      → P (Draw caller base part ∷ log) base (record (h.row) { draw = h.row.draw + 1 }))
       → (log : Log) → EachEnabled (start pairs words) log → (base : ℕ) (x : RebuildRow)
       → (state_of pairs words log).pieces base ≡ Some (Rebuild x) → P log base x
   rebuilds_by P keep new root draw [] h base x e = absurd (no_rebuild_first base x e)
@@ -79,7 +105,8 @@ module _ (pairs : List Pair) (words : ℕ) where
       at : (event : Event) → EachEnabled (start pairs words) (event ∷ log)
           → (state_of pairs words (event ∷ log)).pieces base ≡ Some (Rebuild x)
           → RebuildComes (start pairs words) log base x event
-          → ((b : ℕ) (y : RebuildRow) → (state_of pairs words log).pieces b ≡ Some (Rebuild y) → P log b y)
+          → ((b : ℕ) (y : RebuildRow) → (state_of pairs words log).pieces b ≡ Some (Rebuild y)
+          → P log b y)
           → P (event ∷ log) base x
       at event all there (rebuild_was old) before = keep log event all base x old there (before base x old)
       at _ all there (is_begun {caller = caller} {change = change} {rows = rows} k s here is) before =

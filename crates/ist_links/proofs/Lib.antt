@@ -9,6 +9,7 @@ pub mod ChangeLemmas
 pub mod FormLemmas
 pub mod FormedLemmas
 pub mod ReadLemmas
+pub mod ReadStepLemmas
 pub mod PassLemmas
 pub mod FinishedLemmas
 pub mod ChildLemmas
@@ -16,12 +17,4 @@ pub mod LinkLemmas
 pub mod ClosedLemmas
 pub mod UntouchedLemmas
 pub mod PairLemmas
-pub mod StartingLemmas
-pub mod RebuiltLemmas
-pub mod NewTreeLemmas
-pub mod UnlinkedLemmas
-pub mod BuiltLemmas
-pub mod WholeLemmas
-pub mod IdealLeafLemmas
-pub mod KeepingContentLemmas
-pub mod ReplacingLemmas
+pub mod ResolvedLemmas

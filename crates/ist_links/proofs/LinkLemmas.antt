@@ -73,14 +73,16 @@ module _ (pairs : List Pair) (words : ℕ) (opens : CanOpen pairs words) where
   open_linked log h node was o = ⊎_elim (λ l. l) (λ f. absurd (open_unfinished log h node o f)) (linked_or_finished log h node was)
 
   -- a slot in which an unresolved change with an Okay stands wasn't passed
-  pub okayed_unpassed : (log : Log) → EachEnabled (start pairs words) log → (base : ℕ) (x : ChangeRow)
+  pub okayed_unpassed : (log : Log) → EachEnabled (start pairs words) log
+      → (base : ℕ) (x : ChangeRow)
       → (state_of pairs words log).pieces base ≡ Some (Change x) → ¬ (Happened (Resolves base) log)
       → Happened (Okays base) log → (word : ℕ) → ¬ (Happened (Passes x.node x.index word) log)
   okayed_unpassed log h base x e unresolved okay word passed =
       keeps (closed pairs words opens log h x.node x.index word passed).keeps
     where
       -- the word of the change is all that the slot holds
-      alone : (w : ℕ) → SlotHolds (state_of pairs words log) x.node x.index w → w ≡ word_of (ChangeAt base)
+      alone : (w : ℕ) → SlotHolds (state_of pairs words log) x.node x.index w
+          → w ≡ word_of (ChangeAt base)
       alone w slot = slot_once (state_of pairs words log) x.node x.index w (word_of (ChangeAt base)) (anchor_free pairs words log h) slot (unresolved_stands pairs words opens log h base x e unresolved)
 
       keeps : KeepsWord (state_of pairs words log) log x.node x.index word → ⊥
@@ -88,7 +90,8 @@ module _ (pairs : List Pair) (words : ℕ) (opens : CanOpen pairs words) where
       keeps (holds_change v) = v.unseen (subst (λ b. Happened (Okays b) log) (sym (same_change_word v.base base (alone (word_of (ChangeAt v.base)) v.in_slot))) okay)
 
   -- the node of an undecided change with an Okay isn't finished
-  pub okayed_unfinished : (log : Log) → EachEnabled (start pairs words) log → (base : ℕ) (x : ChangeRow)
+  pub okayed_unfinished : (log : Log) → EachEnabled (start pairs words) log
+      → (base : ℕ) (x : ChangeRow)
       → (state_of pairs words log).pieces base ≡ Some (Change x) → x.decision ≡ undecided
       → Happened (Okays base) log → ¬ (IsFinished (state_of pairs words log) x.node)
   okayed_unfinished log h base x e none okay f =
@@ -105,19 +108,23 @@ module _ (pairs : List Pair) (words : ℕ) (opens : CanOpen pairs words) where
   -- ---- a yes
 
   -- the change of a Decide is undecided before it
-  pub deciding : (log : Log) (caller base : ℕ) (said : Bool) → EachEnabled (start pairs words) (Decide caller base said ∷ log)
-      → (x : ChangeRow) → (state_of pairs words log).pieces base ≡ Some (Change x) → x.decision ≡ undecided
+  pub deciding : (log : Log) (caller base : ℕ) (said : Bool)
+      → EachEnabled (start pairs words) (Decide caller base said ∷ log)
+      → (x : ChangeRow) → (state_of pairs words log).pieces base ≡ Some (Change x)
+      → x.decision ≡ undecided
   deciding log caller base said h x e =
       ap (λ c. c.decision) (sym (same_change ((state_of pairs words log).pieces base) h.1.change x h.1.pending.published e)) ∙ h.1.pending.unset
 
   -- at a yes the node of the change is linked
-  pub yes_linked : (log : Log) (caller base : ℕ) → EachEnabled (start pairs words) (Decide caller base true ∷ log)
+  pub yes_linked : (log : Log) (caller base : ℕ)
+      → EachEnabled (start pairs words) (Decide caller base true ∷ log)
       → (x : ChangeRow) → (state_of pairs words log).pieces base ≡ Some (Change x)
       → Linked (state_of pairs words log) x.node
   yes_linked log caller base h x e = okayed_linked log h.0 base x e (deciding log caller base true h x e) h.1.outcome
 
   -- and it is linked behind it
-  pub yes_linked_behind : (log : Log) (caller base : ℕ) → EachEnabled (start pairs words) (Decide caller base true ∷ log)
+  pub yes_linked_behind : (log : Log) (caller base : ℕ)
+      → EachEnabled (start pairs words) (Decide caller base true ∷ log)
       → (x : ChangeRow) → (state_of pairs words log).pieces base ≡ Some (Change x)
       → Linked (state_of pairs words (Decide caller base true ∷ log)) x.node
   yes_linked_behind log caller base h x e =
@@ -127,7 +134,8 @@ module _ (pairs : List Pair) (words : ℕ) (opens : CanOpen pairs words) where
       (linked_step log (Decide caller base true) h x.node (yes_linked log caller base h x e))
 
   -- a change whose node is finished isn't decided yes any more
-  refused_on : (earlier log : Log) → GoesOn earlier log → EachEnabled (start pairs words) log → (base : ℕ) (x : ChangeRow)
+  refused_on : (earlier log : Log) → GoesOn earlier log → EachEnabled (start pairs words) log
+      → (base : ℕ) (x : ChangeRow)
       → (state_of pairs words earlier).pieces base ≡ Some (Change x) → x.decision ≡ undecided
       → IsFinished (state_of pairs words earlier) x.node
       → (y : ChangeRow) → (state_of pairs words log).pieces base ≡ Some (Change y)
@@ -137,8 +145,10 @@ module _ (pairs : List Pair) (words : ℕ) (opens : CanOpen pairs words) where
       (λ said. let zero_word : y.decision ≡ 0 = ap (λ c. c.decision) (sym same) ∙ none in absurd (omega arith), subst (λ c. IsFinished (state_of pairs words earlier) c.node) same f)
   refused_on earlier _ (one_event {log = log} event on) h base x e none f y there = at event h (change_comes pairs words log event h base y there) (refused_on earlier log on h.0 base x e none f)
     where
-      at : (event : Event) → EachEnabled (start pairs words) (event ∷ log) → ChangeComes (start pairs words) log base y event
-          → ((z : ChangeRow) → (state_of pairs words log).pieces base ≡ Some (Change z) → (z.decision ≢ decided_yes) × IsFinished (state_of pairs words log) z.node)
+      at : (event : Event) → EachEnabled (start pairs words) (event ∷ log)
+          → ChangeComes (start pairs words) log base y event
+          → ((z : ChangeRow) → (state_of pairs words log).pieces base ≡ Some (Change z)
+          → (z.decision ≢ decided_yes) × IsFinished (state_of pairs words log) z.node)
           → (y.decision ≢ decided_yes) × IsFinished (state_of pairs words (event ∷ log)) y.node
       at event all (change_was old) before = let it = before y old in (it.0, finished_step pairs words log event all y.node it.1)
       at _ all (is_installed {caller = caller} {rows = rows} can same) before =
@@ -152,10 +162,12 @@ module _ (pairs : List Pair) (words : ℕ) (opens : CanOpen pairs words) where
           )
 
   -- a change that is pending while its node isn't linked is never decided yes
-  pub unlinked_refused : (earlier log : Log) → GoesOn earlier log → EachEnabled (start pairs words) log → (base : ℕ) (x : ChangeRow)
+  pub unlinked_refused : (earlier log : Log) → GoesOn earlier log
+      → EachEnabled (start pairs words) log → (base : ℕ) (x : ChangeRow)
       → (state_of pairs words earlier).pieces base ≡ Some (Change x) → x.decision ≡ undecided
       → ¬ (Linked (state_of pairs words earlier) x.node)
-      → (y : ChangeRow) → (state_of pairs words log).pieces base ≡ Some (Change y) → y.decision ≢ decided_yes
+      → (y : ChangeRow) → (state_of pairs words log).pieces base ≡ Some (Change y)
+      → y.decision ≢ decided_yes
   unlinked_refused earlier log on h base x e none unlinked y there =
       let before = enabled_before (start pairs words) earlier log on h in
       let f : IsFinished (state_of pairs words earlier) x.node = ⊎_elim (λ l. absurd (unlinked l)) (λ k. k) (linked_or_finished earlier before x.node (node_was_linked pairs words opens earlier before base x e)) in

@@ -39,7 +39,8 @@ pub data RebuildComes (first : Snapshot) (log : Log) (base : ℕ) (x : RebuildRo
       → RebuildComes first log base x (Install caller change rows)
   is_rooted : {caller word : ℕ} {rows : List Row}
       (h : CanRoot (state first log) caller base word rows)
-      → x ≡ record (h.row) { root = word } → RebuildComes first log base x (Root caller base word rows)
+      → x ≡ record (h.row) { root = word }
+      → RebuildComes first log base x (Root caller base word rows)
   is_drawn : {caller part : ℕ} (h : CanDraw (state first log) log caller base part)
       → x ≡ record (h.row) { draw = h.row.draw + 1 }
       → RebuildComes first log base x (Draw caller base part)
@@ -141,7 +142,8 @@ status-counted (Change r) x e = absurd (cc)
 status-counted (Rebuild r) x e = absurd (cc)
 
 -- a status that is set
-pub status-with_status : (status : ℕ) (p : Piece) (x : InnerRow) → with_status status p ≡ Inner x → x.status ≡ status
+pub status-with_status : (status : ℕ) (p : Piece) (x : InnerRow) → with_status status p ≡ Inner x
+    → x.status ≡ status
 status-with_status status (Inner r) x e = ap (λ y. y.status) (inner_is _ x e)
 status-with_status status (Leaf r) x e = absurd (cc)
 status-with_status status (Change r) x e = absurd (cc)

@@ -46,7 +46,8 @@ use Rattle.ist_core.specs.Installing as kinds
 module _ (pairs : List Pair) (words : ℕ) (opens : CanOpen pairs words) where
   -- an inner row that an undecided change would put in isn't linked, where what the change takes out doesn't lead to it
   pub to_unlinked : (log : Log) → EachEnabled (start pairs words) log → (base : ℕ) (x : ChangeRow)
-      → (state_of pairs words log).pieces base ≡ Some (Change x) → x.decision ≡ undecided → (child : ℕ)
+      → (state_of pairs words log).pieces base ≡ Some (Change x) → x.decision ≡ undecided
+      → (child : ℕ)
       → ref_of x.to ≡ Some (InnerAt child)
       → past_rebuild (state_of pairs words log).pieces (ref_of x.from) ≢ Some (InnerAt child)
       → child ≢ anchor → ¬ (Linked (state_of pairs words log) child)
@@ -80,18 +81,21 @@ leaf_set : (base : ℕ) → word_of (LeafAt base) ≢ unset_word
 leaf_set base e = let seven : base * 8 + 1 ≡ 7 = e in omega arith
 
 -- no slot of a pair row is left to be set
-over_set : (key left right i : ℕ) (r : InnerRow) → pair_over key left right ≡ Inner r → slice_get r.slots i ≢ Some unset_word
+over_set : (key left right i : ℕ) (r : InnerRow) → pair_over key left right ≡ Inner r
+    → slice_get r.slots i ≢ Some unset_word
 over_set key left right i r e k = at i (subst (λ x. slice_get x.slots i ≡ Some unset_word) (sym (inner_row _ r e)) k)
   where
     word : (a b : ℕ) → Some a ≡ Some b → a ≡ b
     word a b q = cc
 
-    at : (i : ℕ) → slice_get (word_of (LeafAt left) ∷ word_of (LeafAt right) ∷ []) i ≡ Some unset_word → ⊥
+    at : (i : ℕ)
+        → slice_get (word_of (LeafAt left) ∷ word_of (LeafAt right) ∷ []) i ≡ Some unset_word → ⊥
     at zero q = leaf_set left (word (word_of (LeafAt left)) unset_word q)
     at (suc zero) q = leaf_set right (word (word_of (LeafAt right)) unset_word q)
     at (suc (suc i)) q = absurd (cc)
 
-pair_set : (key base other_key other i : ℕ) (r : InnerRow) → pair_row key base other_key other ≡ Inner r
+pair_set : (key base other_key other i : ℕ) (r : InnerRow)
+    → pair_row key base other_key other ≡ Inner r
     → slice_get r.slots i ≢ Some unset_word
 pair_set key base other_key other i r =
     elim (nat_lt other_key key) as (λ v. (if v then pair_over key other base else pair_over other_key base other) ≡ Inner r → slice_get r.slots i ≢ Some unset_word) [
@@ -101,9 +105,12 @@ pair_set key base other_key other i r =
 
 module _ (pairs : List Pair) (words : ℕ) (opens : CanOpen pairs words) where
   -- a filled pair row isn't linked by an event behind which its change is undecided, and stays filled
-  filled_step : (log : Log) (event : Event) → EachEnabled (start pairs words) (event ∷ log) → (base : ℕ) (x : ChangeRow)
-      → (state_of pairs words (event ∷ log)).pieces base ≡ Some (Change x) → x.decision ≡ undecided → (pair : ℕ)
-      → ref_of x.to ≡ Some (InnerAt pair) → IsFilledPair pairs words log x pair → IsFilledPair pairs words (event ∷ log) x pair
+  filled_step : (log : Log) (event : Event) → EachEnabled (start pairs words) (event ∷ log)
+      → (base : ℕ) (x : ChangeRow)
+      → (state_of pairs words (event ∷ log)).pieces base ≡ Some (Change x) → x.decision ≡ undecided
+      → (pair : ℕ)
+      → ref_of x.to ≡ Some (InnerAt pair) → IsFilledPair pairs words log x pair
+      → IsFilledPair pairs words (event ∷ log) x pair
   filled_step log event h base x there none pair to f =
       let t = state_of pairs words log in
       let u = state_of pairs words (event ∷ log) in
@@ -136,9 +143,12 @@ module _ (pairs : List Pair) (words : ℕ) (opens : CanOpen pairs words) where
           clash q = cc
 
   -- a pair row is filled at its Install
-  filled_install : (log : Log) (caller base : ℕ) (rows : List Row) → EachEnabled (start pairs words) (Install caller base rows ∷ log)
-      → (can : CanInstall (start pairs words) log caller base rows) → can.change.kind ≡ put_kind → (pair : ℕ)
-      → ref_of can.change.to ≡ Some (InnerAt pair) → IsFilledPair pairs words (Install caller base rows ∷ log) can.change pair
+  filled_install : (log : Log) (caller base : ℕ) (rows : List Row)
+      → EachEnabled (start pairs words) (Install caller base rows ∷ log)
+      → (can : CanInstall (start pairs words) log caller base rows) → can.change.kind ≡ put_kind
+      → (pair : ℕ)
+      → ref_of can.change.to ≡ Some (InnerAt pair)
+      → IsFilledPair pairs words (Install caller base rows ∷ log) can.change pair
   filled_install log caller base rows h can kind pair to = at can.fits (fresh_behind (start pairs words) log caller base rows can s) (fresh_stands (start pairs words) log caller base can.change can.fresh s (state_of pairs words log).pieces can.fits holds)
     where
       s : IsSound (state_of pairs words log)
@@ -148,8 +158,11 @@ module _ (pairs : List Pair) (words : ℕ) (opens : CanOpen pairs words) where
       holds = holds_installed (start pairs words) log caller base rows can
 
       at : (fits : FitsKind (start pairs words) log can.change can.fresh)
-          → ((b : ℕ) (p : Piece) → IsFresh (start pairs words) log can.change can.fresh fits b p → (q : Piece) × ((state_of pairs words (Install caller base rows ∷ log)).pieces b ≡ Some q) × Grows p q)
-          → ((b : ℕ) (p : Piece) → IsFresh (start pairs words) log can.change can.fresh fits b p → with_installed (state_of pairs words log).pieces base can.change can.fresh b ≡ Some p)
+          → ((b : ℕ) (p : Piece) → IsFresh (start pairs words) log can.change can.fresh fits b p
+          → (q : Piece)
+          × ((state_of pairs words (Install caller base rows ∷ log)).pieces b ≡ Some q) × Grows p q)
+          → ((b : ℕ) (p : Piece) → IsFresh (start pairs words) log can.change can.fresh fits b p
+          → with_installed (state_of pairs words log).pieces base can.change can.fresh b ≡ Some p)
           → IsFilledPair pairs words (Install caller base rows ∷ log) can.change pair
       at (kinds.a_put f) behind stands = absurd (clash (sym f.to ∙ to))
         where
@@ -168,7 +181,8 @@ module _ (pairs : List Pair) (words : ℕ) (opens : CanOpen pairs words) where
               let held = subst (λ xs. HoldsRows (state_of pairs words log) caller (row_at base (Change can.change) ∷ xs)) f.fresh_are holds in
               s.unpublished record { caller = caller; base = f.pair; size = length (words_of (pair_row can.change.key f.leaf f.other_key f.other)) } held.1.0
 
-          grown : (q : Piece) × ((state_of pairs words (Install caller base rows ∷ log)).pieces f.pair ≡ Some q) × Grows (pair_row can.change.key f.leaf f.other_key f.other) q
+          grown : (q : Piece)
+              × ((state_of pairs words (Install caller base rows ∷ log)).pieces f.pair ≡ Some q) × Grows (pair_row can.change.key f.leaf f.other_key f.other) q
           grown = behind f.pair (pair_row can.change.key f.leaf f.other_key f.other) (inl (refl, refl))
 
           apart : f.pair ≢ can.change.node
@@ -211,8 +225,10 @@ module _ (pairs : List Pair) (words : ℕ) (opens : CanOpen pairs words) where
               }
 
   -- while a put of a pair row is undecided, the pair row is as it was filled, and was never linked
-  pub pair_is_filled : (log : Log) → EachEnabled (start pairs words) log → (base : ℕ) (x : ChangeRow)
-      → (state_of pairs words log).pieces base ≡ Some (Change x) → x.decision ≡ undecided → x.kind ≡ put_kind
+  pub pair_is_filled : (log : Log) → EachEnabled (start pairs words) log
+      → (base : ℕ) (x : ChangeRow)
+      → (state_of pairs words log).pieces base ≡ Some (Change x) → x.decision ≡ undecided
+      → x.kind ≡ put_kind
       → (pair : ℕ) → ref_of x.to ≡ Some (InnerAt pair) → IsFilledPair pairs words log x pair
   pair_is_filled =
       changes_by pairs words (λ log base x. x.decision ≡ undecided → x.kind ≡ put_kind → (pair : ℕ) → ref_of x.to ≡ Some (InnerAt pair) → IsFilledPair pairs words log x pair)

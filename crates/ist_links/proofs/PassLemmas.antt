@@ -10,7 +10,8 @@ use Rattle.ist_core.specs.References.{ChangeAt, ref_of}
 use Rattle.ist_core.specs.Snapshots.{Snapshot}
 
 -- an event that passes a slot is a Pass
-pub passing : (first : Snapshot) (log : Log) (event : Event) (node i word : ℕ) → Enabled first log event
+pub passing : (first : Snapshot) (log : Log) (event : Event) (node i word : ℕ)
+    → Enabled first log event
     → Passes node i word event → (caller : ℕ) × CanPass (state first log) caller node i word
 passing first log (Pass caller n j w) node i word h is =
     (caller, subst (λ x. CanPass (state first log) caller node i x) is.2 (subst (λ x. CanPass (state first log) caller node x w) is.1 (subst (λ x. CanPass (state first log) caller x j w) is.0 h)))

@@ -24,7 +24,8 @@ use Rattle.ist_links.proofs.OriginLemmas.{inner_is}
 use Rattle.ist_links.proofs.TopLemmas.{StandsAsTop, ideal_tops, root_tops}
 
 -- words are read as an inner row alone
-pub inner_only : (words : List ℕ) (p : Piece) → inner_of words ≡ Some p → (r : InnerRow) × (p ≡ Inner r)
+pub inner_only : (words : List ℕ) (p : Piece) → inner_of words ≡ Some p
+    → (r : InnerRow) × (p ≡ Inner r)
 inner_only [] p e = absurd (cc)
 inner_only (a ∷ []) p e = absurd (cc)
 inner_only (a ∷ b ∷ []) p e = absurd (cc)
@@ -48,14 +49,16 @@ pair_open key base other_key other x =
     ]
 
 -- a pair row is no change and no rebuild
-pair_no_change : (key base other_key other : ℕ) (x : ChangeRow) → Change x ≡ pair_row key base other_key other → ⊥
+pair_no_change : (key base other_key other : ℕ) (x : ChangeRow)
+    → Change x ≡ pair_row key base other_key other → ⊥
 pair_no_change key base other_key other x =
     elim (nat_lt other_key key) as (λ v. Change x ≡ (if v then pair_over key other base else pair_over other_key base other) → ⊥) [
       | true ↦ λ e. absurd (cc)
       | false ↦ λ e. absurd (cc)
     ]
 
-pair_no_rebuild : (key base other_key other : ℕ) (x : RebuildRow) → Rebuild x ≡ pair_row key base other_key other → ⊥
+pair_no_rebuild : (key base other_key other : ℕ) (x : RebuildRow)
+    → Rebuild x ≡ pair_row key base other_key other → ⊥
 pair_no_rebuild key base other_key other x =
     elim (nat_lt other_key key) as (λ v. Rebuild x ≡ (if v then pair_over key other base else pair_over other_key base other) → ⊥) [
       | true ↦ λ e. absurd (cc)
@@ -63,7 +66,8 @@ pair_no_rebuild key base other_key other x =
     ]
 
 -- a change that an Install publishes is its own
-pub installed_change : (first : Snapshot) (log : Log) (at : ℕ) (change : ChangeRow) (fresh : List Row)
+pub installed_change : (first : Snapshot) (log : Log) (at : ℕ) (change : ChangeRow)
+    (fresh : List Row)
     (fits : FitsKind first log change fresh) (base : ℕ) (x : ChangeRow)
     → IsInstalled first log at change fresh fits base (Change x) → (base ≡ at) × (x ≡ change)
 installed_change first log at change fresh fits base x (inl (here, is)) = (here, (cc))
@@ -80,9 +84,11 @@ pub record IsStartOf (first : Snapshot) (log : Log) (change : ChangeRow) (fresh 
   pub here : base ≡ starts.rebuild
   pub is : Rebuild x ≡ new_rebuild change starts.target
 
-pub installed_rebuild : (first : Snapshot) (log : Log) (at : ℕ) (change : ChangeRow) (fresh : List Row)
+pub installed_rebuild : (first : Snapshot) (log : Log) (at : ℕ) (change : ChangeRow)
+    (fresh : List Row)
     (fits : FitsKind first log change fresh) (base : ℕ) (x : RebuildRow)
-    → IsInstalled first log at change fresh fits base (Rebuild x) → IsStartOf first log change fresh base x
+    → IsInstalled first log at change fresh fits base (Rebuild x)
+    → IsStartOf first log change fresh base x
 installed_rebuild first log at change fresh fits base x (inl (here, is)) = absurd (cc)
 installed_rebuild first log at change fresh (a_put f) base x (inr (here, is)) = absurd (cc)
 installed_rebuild first log at change fresh (a_pair f) base x (inr (inl (here, is))) = absurd (pair_no_rebuild change.key f.leaf f.other_key f.other x is)

@@ -17,7 +17,8 @@ IsQuiet (Inner r) = r.status ≡ open_word
 IsQuiet (Change r) = ⊥
 IsQuiet (Rebuild r) = ⊥
 
-rows_quiet : (fuel base : ℕ) (pairs : List Pair) → Each (λ row. IsQuiet row.1) (rows_within fuel base pairs)
+rows_quiet : (fuel base : ℕ) (pairs : List Pair)
+    → Each (λ row. IsQuiet row.1) (rows_within fuel base pairs)
 unfolding rows_within
 rows_quiet fuel base [] = tt
 rows_quiet fuel base (pair ∷ []) = (tt, tt)

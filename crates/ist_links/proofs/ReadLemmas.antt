@@ -3,16 +3,18 @@
 use Rattle.std.proofs.Common.{Bool, List, None, Option, Some, ap, arith, false, inl, inr, option_map, refl, subst, sym, true, ℕ, ⊎_elim, ◌∙◌, ◌∷◌, ◌≡◌, ◌≢◌, ◌⊎◌}
 use Rattle.std.proofs.lemmas.Bool.Decides.{eqb_tells, nat_tests}
 use Rattle.ist_core.specs.declared.events.Event.{Event}
-use Rattle.ist_core.specs.declared.events.Event.TheVariants.{Count, Decide, Draw, Enter, Finish, Install, Lose, Mark, Okay, Pass, Place, Reserve, Resolve, Root}
+use Rattle.ist_core.specs.declared.events.Event.TheVariants.{Decide, Install, Place, Resolve}
 use Rattle.ist_core.specs.declared.lists.Row.{Row}
 use Rattle.ist_core.specs.declared.pairs.Pair.{Pair}
 use Rattle.ist_core.specs.declared.states.ChangeRow.{ChangeRow}
 use Rattle.ist_core.specs.After.{decision_word, side_of}
+use Rattle.ist_core.specs.Building.{CanPlace}
 use Rattle.ist_core.specs.Deciding.{CanDecide}
 use Rattle.ist_core.specs.Lawful.{CanOpen, EachEnabled, state_of}
 use Rattle.ist_core.specs.Logs.{Log, state}
 use Rattle.ist_core.specs.Pieces.{Change, Inner, Leaf, Piece, Pieces, Rebuild, changed_at, with_decision}
 use Rattle.ist_core.specs.References.{ChangeAt, Empty, InnerAt, LeafAt, RebuildAt, Ref, Unset, ref_of, word_of}
+use Rattle.ist_core.specs.RowLayout.{anchor}
 use Rattle.ist_core.specs.Slots.{SlotHolds, change_reads, past_change}
 use Rattle.ist_core.specs.Snapshots.{Snapshot}
 use Rattle.ist_core.specs.StartLayout.{start}
@@ -25,6 +27,7 @@ use Rattle.ist_core.proofs.OrderLemmas.{names}
 use Rattle.ist_core.proofs.PlaceLemmas.{anchor_free}
 use Rattle.ist_core.proofs.ReferenceLemmas.{ref_of-unset}
 use Rattle.ist_core.proofs.RowLemmas.{changed_at-other, changed_at-same}
+use Rattle.ist_core.proofs.SlotLemmas.{slot_once}
 use Rattle.ist_core.proofs.SlotStepLemmas.{IsNoDecide, WritesNoSlot, change_stays, install_stands, install_writes, place_writes, resolve_writes, slot_stays}
 use Rattle.ist_links.proofs.ChangeLemmas.{undecided_stands}
 use Rattle.ist_links.proofs.InductionLemmas.{sound_behind}
@@ -41,6 +44,13 @@ pub data Turns (first : Snapshot) (log : Log) (node i : ℕ) (ref : Ref) : Event
       → h.change.node ≡ node → h.change.index ≡ i → ref_of h.change.from ≡ Some ref
       → Turns first log node i ref (Decide caller base true)
 
+-- the event puts a part into slot i of the node, which wasn't set
+pub data Fills (first : Snapshot) (log : Log) (node i : ℕ) (ref : Ref) : Event → Type 0 where
+  filled_by : {caller rebuild j word : ℕ} {rows : List Row}
+      (h : CanPlace (state first log) caller rebuild j word rows)
+      → node ≡ h.root → i ≡ j → ref ≡ Unset
+      → Fills first log node i ref (Place caller rebuild j word rows)
+
 -- ---- references
 
 -- a reference that is no change reads as itself
@@ -55,7 +65,8 @@ past_plain ps (Some (RebuildAt base)) plain = refl
 past_plain ps None plain = refl
 
 -- what reads as a change stood at its base
-change_there_by : (o : Option Piece) (ref : Ref) → change_reads o ≡ Some ref → (x : ChangeRow) × (o ≡ Some (Change x))
+change_there_by : (o : Option Piece) (ref : Ref) → change_reads o ≡ Some ref
+    → (x : ChangeRow) × (o ≡ Some (Change x))
 change_there_by (Some (Change x)) ref e = (x, refl)
 change_there_by (Some (Leaf x)) ref e = absurd (cc)
 change_there_by (Some (Inner x)) ref e = absurd (cc)
@@ -64,7 +75,8 @@ change_there_by None ref e = absurd (cc)
 
 -- a reference reads as before where the change that it names, if any, reads as before
 past_same : (ps qs : Pieces) (o : Option Ref) (ref : Ref)
-    → ((base : ℕ) (x : ChangeRow) → o ≡ Some (ChangeAt base) → ps base ≡ Some (Change x) → (y : ChangeRow) × (qs base ≡ Some (Change y)) × (side_of y ≡ side_of x))
+    → ((base : ℕ) (x : ChangeRow) → o ≡ Some (ChangeAt base) → ps base ≡ Some (Change x)
+    → (y : ChangeRow) × (qs base ≡ Some (Change y)) × (side_of y ≡ side_of x))
     → past_change ps o ≡ Some ref → past_change qs o ≡ Some ref
 past_same ps qs (Some (ChangeAt base)) ref same e =
     let x = change_there_by (ps base) ref e in
@@ -76,6 +88,15 @@ past_same ps qs (Some (LeafAt base)) ref same e = e
 past_same ps qs (Some (InnerAt base)) ref same e = e
 past_same ps qs (Some (RebuildAt base)) ref same e = e
 past_same ps qs None ref same e = e
+
+-- a slot reads as one thing
+pub reads_once : (t : Snapshot) (node i : ℕ) (a b : Ref) → t.pieces anchor ≡ None
+    → ReadsAs t node i a → ReadsAs t node i b → a ≡ b
+reads_once t node i a b free r s =
+    one (past_change t.pieces (ref_of r.word)) r.reads (ap (λ w. past_change t.pieces (ref_of w)) (slot_once t node i r.word s.word free r.holds s.holds) ∙ s.reads)
+  where
+    one : (o : Option Ref) → o ≡ Some a → o ≡ Some b → a ≡ b
+    one o x y = cc
 
 -- ---- sides
 
@@ -90,7 +111,7 @@ pub side_yes : (x : ChangeRow) → x.decision ≡ decided_yes → side_of x ≡ 
 side_yes x e = grind (arith, nat_tests)
 
 -- a side of a change is no change
-side_plain : (ps : Pieces) (node i : ℕ) (o : Option Ref) → SideNames ps node i o → (base : ℕ)
+pub side_plain : (ps : Pieces) (node i : ℕ) (o : Option Ref) → SideNames ps node i o → (base : ℕ)
     → o ≢ Some (ChangeAt base)
 side_plain ps node i (Some (ChangeAt at)) h base e = h
 side_plain ps node i (Some Empty) h base e = absurd (cc)
@@ -103,7 +124,7 @@ side_plain ps node i None h base e = absurd (cc)
 -- ---- events
 
 -- what a slot reads as behind an event
-abbrev Reading : List Pair → ℕ → Log → ℕ → ℕ → Ref → Event → Type 0
+abbrev pub Reading : List Pair → ℕ → Log → ℕ → ℕ → Ref → Event → Type 0
 Reading pairs words log node i ref event =
     ReadsAs (state_of pairs words (event ∷ log)) node i ref ⊎ Turns (start pairs words) log node i ref event
 
@@ -116,7 +137,7 @@ module _ (pairs : List Pair) (words : ℕ) (opens : CanOpen pairs words) where
       ap (past_change (state_of pairs words log).pieces) (change_read pairs words opens log h base x e) ∙ ap change_reads e
 
   -- an event that writes no slot and decides nothing
-  reads_quiet : (log : Log) (event : Event) → EachEnabled (start pairs words) (event ∷ log)
+  pub reads_quiet : (log : Log) (event : Event) → EachEnabled (start pairs words) (event ∷ log)
       → WritesNoSlot event → IsNoDecide event → (node i : ℕ) (ref : Ref)
       → ReadsAs (state_of pairs words log) node i ref → Reading pairs words log node i ref event
   reads_quiet log event h none still node i ref r =
@@ -130,7 +151,8 @@ module _ (pairs : List Pair) (words : ℕ) (opens : CanOpen pairs words) where
 
   -- a slot that an event leaves
   reads_left : (log : Log) (event : Event) → EachEnabled (start pairs words) (event ∷ log)
-      → IsNoDecide event → (node i : ℕ) (ref : Ref) (r : ReadsAs (state_of pairs words log) node i ref)
+      → IsNoDecide event → (node i : ℕ) (ref : Ref)
+      (r : ReadsAs (state_of pairs words log) node i ref)
       → SlotHolds (state_of pairs words (event ∷ log)) node i r.word
       → ReadsAs (state_of pairs words (event ∷ log)) node i ref
   reads_left log event h still node i ref r slot =
@@ -142,8 +164,9 @@ module _ (pairs : List Pair) (words : ℕ) (opens : CanOpen pairs words) where
       }
 
   -- a change that is installed reads as what it takes out
-  reads_install : (log : Log) (caller base : ℕ) (rows : List Row)
-      → (h : EachEnabled (start pairs words) (Install caller base rows ∷ log)) → (node i : ℕ) (ref : Ref)
+  pub reads_install : (log : Log) (caller base : ℕ) (rows : List Row)
+      → (h : EachEnabled (start pairs words) (Install caller base rows ∷ log))
+      → (node i : ℕ) (ref : Ref)
       → ReadsAs (state_of pairs words log) node i ref
       → Reading pairs words log node i ref (Install caller base rows)
   reads_install log caller base rows h node i ref r =
@@ -165,7 +188,7 @@ module _ (pairs : List Pair) (words : ℕ) (opens : CanOpen pairs words) where
       (writes.others node i r.word r.holds)
 
   -- what a change leaves behind reads as the change did
-  reads_resolve : (log : Log) (caller base : ℕ)
+  pub reads_resolve : (log : Log) (caller base : ℕ)
       → (h : EachEnabled (start pairs words) (Resolve caller base ∷ log)) → (node i : ℕ) (ref : Ref)
       → ReadsAs (state_of pairs words log) node i ref
       → Reading pairs words log node i ref (Resolve caller base)
@@ -189,30 +212,31 @@ module _ (pairs : List Pair) (words : ℕ) (opens : CanOpen pairs words) where
       (writes.others node i r.word r.holds)
 
   -- a Place writes a slot that wasn't set
-  reads_place : (log : Log) (caller rebuild j word : ℕ) (rows : List Row)
-      → EachEnabled (start pairs words) (Place caller rebuild j word rows ∷ log) → (node i : ℕ) (ref : Ref)
-      → ref ≢ Unset → ReadsAs (state_of pairs words log) node i ref
-      → Reading pairs words log node i ref (Place caller rebuild j word rows)
-  reads_place log caller rebuild j word rows h node i ref set r =
+  pub reads_place : (log : Log) (caller rebuild j word : ℕ) (rows : List Row)
+      → (h : EachEnabled (start pairs words) (Place caller rebuild j word rows ∷ log))
+      → (node i : ℕ) (ref : Ref) → ReadsAs (state_of pairs words log) node i ref
+      → Reading pairs words log node i ref (Place caller rebuild j word rows) ⊎ Fills (start pairs words) log node i ref (Place caller rebuild j word rows)
+  reads_place log caller rebuild j word rows h node i ref r =
       let t = state_of pairs words log in
       let writes = place_writes t caller rebuild j word rows h.1 (sound_behind pairs words log h.0) (anchor_free pairs words log h.0) in
       ⊎_elim
-      (λ w. absurd (set (one_ref (past_change t.pieces (ref_of r.word)) ref Unset r.reads (ap (λ v. past_change t.pieces (ref_of v)) w.0 ∙ ap (past_change t.pieces) ref_of-unset))))
-      (λ stays. inl (reads_left log (Place caller rebuild j word rows) h tt node i ref r stays))
+      (λ w. inr (filled_by h.1 w.1 w.2 (one_ref (past_change t.pieces (ref_of r.word)) ref Unset r.reads (ap (λ v. past_change t.pieces (ref_of v)) w.0 ∙ ap (past_change t.pieces) ref_of-unset))))
+      (λ stays. inl (inl (reads_left log (Place caller rebuild j word rows) h tt node i ref r stays)))
       (writes.others node i r.word r.holds)
     where
       one_ref : (o : Option Ref) (a b : Ref) → o ≡ Some a → o ≡ Some b → a ≡ b
       one_ref o a b x y = cc
 
   -- a Decide turns the slot of its change, or leaves what it reads as
-  reads_decide : (log : Log) (caller base : ℕ) (said : Bool)
+  pub reads_decide : (log : Log) (caller base : ℕ) (said : Bool)
       → EachEnabled (start pairs words) (Decide caller base said ∷ log) → (node i : ℕ) (ref : Ref)
       → ReadsAs (state_of pairs words log) node i ref
       → Reading pairs words log node i ref (Decide caller base said)
   reads_decide log caller base said h node i ref r = at said h (is_change_at (ref_of r.word) base)
     where
       -- the reference is the change's, or another
-      is_change_at : (o : Option Ref) (base : ℕ) → (o ≡ Some (ChangeAt base)) ⊎ (o ≢ Some (ChangeAt base))
+      is_change_at : (o : Option Ref) (base : ℕ)
+          → (o ≡ Some (ChangeAt base)) ⊎ (o ≢ Some (ChangeAt base))
       is_change_at (Some (ChangeAt b)) base = ⊎_elim (λ k. inl (ap (λ n. Some (ChangeAt n)) k.1)) (λ k. inr (λ e. k.1 (let same : b ≡ base = cc in same))) (eqb_tells b base)
       is_change_at (Some Empty) base = inr (λ e. cc)
       is_change_at (Some Unset) base = inr (λ e. cc)
@@ -265,8 +289,10 @@ module _ (pairs : List Pair) (words : ℕ) (opens : CanOpen pairs words) where
           (ap ref_of (sym (side_undecided h.1.change h.1.pending.unset)) ∙ sym (ap change_reads h.1.pending.published) ∙ ap (past_change t.pieces) (sym is) ∙ r.reads))
 
   -- the slot of a change that is decided yes reads as what it puts there
-  pub decide_reads : (log : Log) (caller base : ℕ) → EachEnabled (start pairs words) (Decide caller base true ∷ log)
-      → (x : ChangeRow) → (state_of pairs words log).pieces base ≡ Some (Change x) → (ref : Ref) → ref_of x.to ≡ Some ref
+  pub decide_reads : (log : Log) (caller base : ℕ)
+      → EachEnabled (start pairs words) (Decide caller base true ∷ log)
+      → (x : ChangeRow) → (state_of pairs words log).pieces base ≡ Some (Change x) → (ref : Ref)
+      → ref_of x.to ≡ Some ref
       → ReadsAs (state_of pairs words (Decide caller base true ∷ log)) x.node x.index ref
   decide_reads log caller base h x e ref is =
       let t = state_of pairs words log in
@@ -279,22 +305,3 @@ module _ (pairs : List Pair) (words : ℕ) (opens : CanOpen pairs words) where
             (undecided_stands pairs words opens log h.0 base x e none);
         reads = change_past (Decide caller base true ∷ log) h base (record x { decision = decided_yes }) (changed_at-same t.pieces base f ∙ ap (option_map f) e) ∙ is;
       }
-
-  -- what a slot reads as it reads as behind each event, or the event decides yes a change of it
-  pub reads_step : (log : Log) (event : Event) → EachEnabled (start pairs words) (event ∷ log)
-      → (node i : ℕ) (ref : Ref) → ref ≢ Unset → ReadsAs (state_of pairs words log) node i ref
-      → Reading pairs words log node i ref event
-  reads_step log (Install caller base rows) h node i ref set r = reads_install log caller base rows h node i ref r
-  reads_step log (Resolve caller base) h node i ref set r = reads_resolve log caller base h node i ref r
-  reads_step log (Place caller rebuild j word rows) h node i ref set r = reads_place log caller rebuild j word rows h node i ref set r
-  reads_step log (Decide caller base said) h node i ref set r = reads_decide log caller base said h node i ref r
-  reads_step log (Enter caller) h node i ref set r = reads_quiet log (Enter caller) h tt tt node i ref r
-  reads_step log (Reserve caller b size) h node i ref set r = reads_quiet log (Reserve caller b size) h tt tt node i ref r
-  reads_step log (Okay caller change) h node i ref set r = reads_quiet log (Okay caller change) h tt tt node i ref r
-  reads_step log (Count caller n) h node i ref set r = reads_quiet log (Count caller n) h tt tt node i ref r
-  reads_step log (Mark caller n) h node i ref set r = reads_quiet log (Mark caller n) h tt tt node i ref r
-  reads_step log (Pass caller n j word) h node i ref set r = reads_quiet log (Pass caller n j word) h tt tt node i ref r
-  reads_step log (Finish caller n keys) h node i ref set r = reads_quiet log (Finish caller n keys) h tt tt node i ref r
-  reads_step log (Root caller rebuild word rows) h node i ref set r = reads_quiet log (Root caller rebuild word rows) h tt tt node i ref r
-  reads_step log (Draw caller rebuild part) h node i ref set r = reads_quiet log (Draw caller rebuild part) h tt tt node i ref r
-  reads_step log (Lose caller bases) h node i ref set r = reads_quiet log (Lose caller bases) h tt tt node i ref r

@@ -44,7 +44,8 @@ pub data Turned (first : Snapshot) (log : Log) (base : ℕ) (p q : Piece) : Even
       → base ≡ h.root → q ≡ with_slot i word p
       → Turned first log base p q (Place caller rebuild i word rows)
   by_decide : {caller : ℕ} {said : Bool} → CanDecide (state first log) log caller base said
-      → q ≡ with_decision (decision_word said) p → Turned first log base p q (Decide caller base said)
+      → q ≡ with_decision (decision_word said) p
+      → Turned first log base p q (Decide caller base said)
   by_count : {caller : ℕ} → CanCount first log caller base → q ≡ counted p
       → Turned first log base p q (Count caller base)
   by_mark : {caller : ℕ} → CanMark (state first log) log caller base → q ≡ with_status marked_word p
@@ -60,7 +61,8 @@ pub data Turned (first : Snapshot) (log : Log) (base : ℕ) (p q : Piece) : Even
 pub data Came (first : Snapshot) (log : Log) (event : Event) (base : ℕ) (q : Piece) : Type 0 where
   from_old : (p : Piece) → (state first log).pieces base ≡ Some p → Turned first log base p q event
       → Came first log event base q
-  from_new : Born first log base q event → (state first log).pieces base ≡ None → Came first log event base q
+  from_new : Born first log base q event → (state first log).pieces base ≡ None
+      → Came first log event base q
 
 -- ---- rows that are added, of which one is changed
 
@@ -133,7 +135,8 @@ turned_added first log event qs New at f adds pieces turned publishes base q e s
 module _ (pairs : List Pair) (words : ℕ) where
   -- a node in whose slot something stands is no row, or a row that stood there
   pub slot_stood : (log : Log) (event : Event) → EachEnabled (start pairs words) (event ∷ log)
-      → (node i word : ℕ) → SlotHolds (state_of pairs words log) node i word → (base : ℕ) (q : Piece)
+      → (node i word : ℕ) → SlotHolds (state_of pairs words log) node i word
+      → (base : ℕ) (q : Piece)
       → (state_of pairs words (event ∷ log)).pieces base ≡ Some q → base ≡ node
       → (state_of pairs words log).pieces base ≡ None → ⊥
   slot_stood log event h node i word (in_anchor a b c) base q e same none =

@@ -37,7 +37,8 @@ chain_linked t _ _ chains.no_row = at_anchor
 chain_linked t _ _ (one_row {node = node} {rows = rows} i chain is) = below i (chain_linked t node rows chain) is
 
 -- so is each row of the chain
-on_chain_linked : (t : Snapshot) (node : ℕ) (rows : List ℕ) → Chain t node rows → (row : ℕ) → Among row rows → Linked t row
+on_chain_linked : (t : Snapshot) (node : ℕ) (rows : List ℕ) → Chain t node rows → (row : ℕ)
+    → Among row rows → Linked t row
 on_chain_linked t _ _ chains.no_row row k = absurd k
 on_chain_linked t _ _ (one_row {node = node} {child = child} {rows = rows} i chain is) row k =
     ⊎_elim
@@ -46,7 +47,8 @@ on_chain_linked t _ _ (one_row {node = node} {child = child} {rows = rows} i cha
     (among-append row rows (child ∷ []) k)
 
 -- a row that was on a chain was linked
-pub on_chain_was_linked : (first : Snapshot) (log : Log) (node row : ℕ) → WasOnChain first log node row → WasLinked first log row
+pub on_chain_was_linked : (first : Snapshot) (log : Log) (node row : ℕ)
+    → WasOnChain first log node row → WasLinked first log row
 on_chain_was_linked first [] node row was = on_chain_linked first node was.0 was.1 row was.2
 on_chain_was_linked first (event ∷ log) node row (inl now) = inl (on_chain_linked (state first (event ∷ log)) node now.0 now.1 row now.2)
 on_chain_was_linked first (event ∷ log) node row (inr before) = inr (on_chain_was_linked first log node row before)
@@ -57,16 +59,19 @@ on_chain_was_linked first (event ∷ log) node row (inr before) = inr (on_chain_
 pub data Stays (first : Snapshot) (log : Log) (node : ℕ) (r : InnerRow) : InnerRow → Event → Type 0 where
   stays_so : {event : Event} → Stays first log node r r event
   is_filled : {caller rebuild i word : ℕ} {rows : List Row} (h : CanPlace (state first log) caller rebuild i word rows)
-      → node ≡ h.root → Stays first log node r (record r { slots = slice_set r.slots i word }) (Place caller rebuild i word rows)
+      → node ≡ h.root
+      → Stays first log node r (record r { slots = slice_set r.slots i word }) (Place caller rebuild i word rows)
 
 pub inner_row : (r s : InnerRow) → Inner r ≡ Inner s → r ≡ s
 inner_row r s e = cc
 
 module _ (pairs : List Pair) (words : ℕ) (opens : CanOpen pairs words) where
   -- the row behind an event
-  untouched_turned : (log : Log) (event : Event) → EachEnabled (start pairs words) (event ∷ log) → (node : ℕ) (r s : InnerRow)
+  untouched_turned : (log : Log) (event : Event) → EachEnabled (start pairs words) (event ∷ log)
+      → (node : ℕ) (r s : InnerRow)
       → ¬ (WasLinked (start pairs words) log node)
-      → Turned (start pairs words) log node (Inner r) (Inner s) event → Stays (start pairs words) log node r s event
+      → Turned (start pairs words) log node (Inner r) (Inner s) event
+      → Stays (start pairs words) log node r s event
   untouched_turned log event h node r s never (as_it_was is) = subst (λ x. Stays (start pairs words) log node r x event) (inner_row r s (sym is)) stays_so
   untouched_turned log _ h node r s never (by_install can here is) = absurd (never (subst (λ n. WasLinked (start pairs words) log n) (sym here) can.linked))
   untouched_turned log _ h node r s never (by_resolve {change = change} can here is) =
@@ -83,14 +88,18 @@ module _ (pairs : List Pair) (words : ℕ) (opens : CanOpen pairs words) where
   untouched_turned log _ h node r s never (by_draw {caller = caller} {part = part} can is) = subst (λ x. Stays (start pairs words) log node r x (Draw caller node part)) (inner_row r s (sym is)) stays_so
 
   -- a row that was never linked stays so, but for what a Place puts in
-  pub untouched : (log : Log) (event : Event) → EachEnabled (start pairs words) (event ∷ log) → (node : ℕ) (r : InnerRow)
-      → (state_of pairs words log).pieces node ≡ Some (Inner r) → ¬ (WasLinked (start pairs words) log node)
-      → (s : InnerRow) × ((state_of pairs words (event ∷ log)).pieces node ≡ Some (Inner s)) × Stays (start pairs words) log node r s event
+  pub untouched : (log : Log) (event : Event) → EachEnabled (start pairs words) (event ∷ log)
+      → (node : ℕ) (r : InnerRow)
+      → (state_of pairs words log).pieces node ≡ Some (Inner r)
+      → ¬ (WasLinked (start pairs words) log node)
+      → (s : InnerRow)
+      × ((state_of pairs words (event ∷ log)).pieces node ≡ Some (Inner s)) × Stays (start pairs words) log node r s event
   untouched log event h node r e never =
       let it = inner_there (state_of pairs words log).pieces (state_of pairs words (event ∷ log)).pieces (grow_behind pairs words log event h) node r e in
       (it.0, it.1, at it.0 (came pairs words log event h node (Inner it.0) it.1))
     where
-      at : (s : InnerRow) → Came (start pairs words) log event node (Inner s) → Stays (start pairs words) log node r s event
+      at : (s : InnerRow) → Came (start pairs words) log event node (Inner s)
+          → Stays (start pairs words) log node r s event
       at s (from_old p old turned) =
           let same = one_piece ((state_of pairs words log).pieces node) p (Inner r) old e in
           untouched_turned log event h node r s never (subst (λ x. Turned (start pairs words) log node x (Inner s) event) same turned)
@@ -98,7 +107,8 @@ module _ (pairs : List Pair) (words : ℕ) (opens : CanOpen pairs words) where
 
 -- a row without an Unset slot stays as it is
 pub stays_whole : (first : Snapshot) (log : Log) (event : Event) (node : ℕ) (r s : InnerRow)
-    → (state first log).pieces node ≡ Some (Inner r) → ((i : ℕ) → slice_get r.slots i ≢ Some unset_word)
+    → (state first log).pieces node ≡ Some (Inner r)
+    → ((i : ℕ) → slice_get r.slots i ≢ Some unset_word)
     → Stays first log node r s event → s ≡ r
 stays_whole first log event node r _ e set stays_so = refl
 stays_whole first log _ node r _ e set (is_filled {i = i} can here) =
@@ -126,7 +136,8 @@ module _ (pairs : List Pair) (words : ℕ) (opens : CanOpen pairs words) where
         named = child_mentioned (state_of pairs words log) node i child (names pairs words opens log h) c;
       }
 
-  pub was_linked_parent : (log : Log) → EachEnabled (start pairs words) log → (child : ℕ) → child ≢ anchor
+  pub was_linked_parent : (log : Log) → EachEnabled (start pairs words) log → (child : ℕ)
+      → child ≢ anchor
       → WasLinked (start pairs words) log child → HasLinkedParent log child
   was_linked_parent [] h child ne was = linked_parent [] h child ne was
   was_linked_parent (event ∷ log) h child ne (inl now) = linked_parent (event ∷ log) h child ne now
@@ -140,7 +151,8 @@ module _ (pairs : List Pair) (words : ℕ) (opens : CanOpen pairs words) where
       }
 
   -- a row that was linked is published
-  pub was_linked_here : (log : Log) → EachEnabled (start pairs words) log → (child : ℕ) → child ≢ anchor
+  pub was_linked_here : (log : Log) → EachEnabled (start pairs words) log → (child : ℕ)
+      → child ≢ anchor
       → WasLinked (start pairs words) log child → InnerHere (state_of pairs words log).pieces child
   was_linked_here log h child ne was =
       let it = was_linked_parent log h child ne was in

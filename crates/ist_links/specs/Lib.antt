@@ -1,3 +1,3 @@
 -- what the public contracts rest on, in the order to read them
+
 pub mod Linking
-pub mod Replacing

@@ -3,17 +3,18 @@ use Rattle.std.specs.Prelude.{List, Some, true, ℕ, ◌∷◌, ◌≡◌, ◌�
 use Rattle.ist_core.specs.declared.events.Event.TheVariants.{Decide}
 use Rattle.ist_core.specs.declared.pairs.Pair.{Pair}
 use Rattle.ist_core.specs.declared.states.ChangeRow.{ChangeRow}
+use Rattle.ist_core.specs.declared.states.InnerRow.{InnerRow}
 use Rattle.ist_core.specs.Lawful.{Lawful, state_of}
 use Rattle.ist_core.specs.Links.{IsChild, Linked, WasLinked}
 use Rattle.ist_core.specs.Logs.{GoesOn, Happened, Log, Okays, Resolves}
 use Rattle.ist_core.specs.Marking.{IsFrozen}
-use Rattle.ist_core.specs.Pieces.{Change}
+use Rattle.ist_core.specs.Pieces.{Change, Inner}
 use Rattle.ist_core.specs.Rebuilding.{IsFinishedWith}
 use Rattle.ist_core.specs.References.{ChangeAt, word_of}
 use Rattle.ist_core.specs.Slots.{IsOpen, SlotHolds}
 use Rattle.ist_core.specs.Snapshots.{Snapshot}
 use Rattle.ist_core.specs.StartLayout.{start}
-use Rattle.ist_core.specs.Statuses.{decided_yes, undecided}
+use Rattle.ist_core.specs.Statuses.{decided_yes, open_word, undecided}
 
 -- the node is finished, with some number of keys
 abbrev pub IsFinished : Snapshot → ℕ → Type 0
@@ -34,6 +35,13 @@ OpenRowsAreLinked =
     (pairs : List Pair) (words : ℕ) (log : Log) → Lawful pairs words log → (node : ℕ)
     → WasLinked (start pairs words) log node → IsOpen (state_of pairs words log) node
     → Linked (state_of pairs words log) node
+
+-- a row that isn't open was linked
+abbrev pub ClosedRowsWereLinked : Type 0
+ClosedRowsWereLinked =
+    (pairs : List Pair) (words : ℕ) (log : Log) → Lawful pairs words log → (node : ℕ) (row : InnerRow)
+    → (state_of pairs words log).pieces node ≡ Some (Inner row) → row.status ≢ open_word
+    → WasLinked (start pairs words) log node
 
 -- each logical child of a finished row is finished
 abbrev pub ChildrenOfFinishedRows : Type 0
@@ -64,6 +72,13 @@ UndecidedChangesAreUnresolved =
     (pairs : List Pair) (words : ℕ) (log : Log) → Lawful pairs words log → (base : ℕ) (change : ChangeRow)
     → (state_of pairs words log).pieces base ≡ Some (Change change) → change.decision ≡ undecided
     → ¬ (Happened (Resolves base) log)
+
+-- a change that was resolved stands in no slot
+abbrev pub ResolvedChangesAreGone : Type 0
+ResolvedChangesAreGone =
+    (pairs : List Pair) (words : ℕ) (log : Log) → Lawful pairs words log → (base : ℕ)
+    → Happened (Resolves base) log → (node i : ℕ)
+    → ¬ (SlotHolds (state_of pairs words log) node i (word_of (ChangeAt base)))
 
 -- a change that has an Okay and wasn't resolved stands in a slot that wasn't passed
 abbrev pub OkayedSlotsAreUnpassed : Type 0

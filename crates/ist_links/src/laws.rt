@@ -1,21 +1,22 @@
 //! Laws over lawful logs. The functions take no steps and answer nothing: contracts are laws.
-ghost use Rattle.ist_links.specs.Linking.{RowsStayLinked, OpenRowsAreLinked, ChildrenOfFinishedRows};
-ghost use Rattle.ist_links.specs.Linking.{NodesWereLinked, UnresolvedChangesStand, UndecidedChangesAreUnresolved};
+ghost use Rattle.ist_links.specs.Linking.{RowsStayLinked, OpenRowsAreLinked, ClosedRowsWereLinked, ChildrenOfFinishedRows};
+ghost use Rattle.ist_links.specs.Linking.{NodesWereLinked, UnresolvedChangesStand, ResolvedChangesAreGone, UndecidedChangesAreUnresolved};
 ghost use Rattle.ist_links.specs.Linking.{OkayedSlotsAreUnpassed, YesIsLinked, UnlinkedChangesAreRefused};
-ghost use Rattle.ist_links.specs.Replacing.{RootsAreIdeal, UpdatesAloneChange};
 
 /// A row that was linked is linked or finished, so that one that is open still is linked. What hangs
-/// below a finished row is finished.
+/// below a finished row is finished. Only a row that was linked is ever closed.
 pub fn linked_rows_stay()
     ensures linked { RowsStayLinked }
     ensures still_open { OpenRowsAreLinked }
+    ensures closed { ClosedRowsWereLinked }
     ensures below { ChildrenOfFinishedRows }
 {}
 
-/// A change stands in its slot until it is resolved, which takes a decision, and its node was linked
-/// when it was installed.
+/// A change stands in its slot until it is resolved, which takes a decision, and in none from then on.
+/// Its node was linked when it was installed.
 pub fn changes_stand()
     ensures stand { UnresolvedChangesStand }
+    ensures gone { ResolvedChangesAreGone }
     ensures undecided { UndecidedChangesAreUnresolved }
     ensures linked { NodesWereLinked }
 {}
@@ -27,16 +28,4 @@ pub fn yes_is_linked()
     ensures linked { YesIsLinked }
     ensures unpassed { OkayedSlotsAreUnpassed }
     ensures refused { UnlinkedChangesAreRefused }
-{}
-
-/// Where a finish is decided yes, the root that it puts into its slot is the ideal subtree over
-/// exactly the leaves below the target, whose inner rows lie above the target.
-pub fn roots_are_ideal()
-    ensures ideal { RootsAreIdeal }
-{}
-
-/// Only a Decide with yes of a put or remove changes the contents: behind any other event, a rebuild's
-/// among them, the same pairs are reached from the anchor.
-pub fn updates_alone_change()
-    ensures kept { UpdatesAloneChange }
 {}

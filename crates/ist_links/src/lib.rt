@@ -1,4 +1,4 @@
-//! Laws over lawful logs on linked rows, on replacement, and on a table at rest. Nothing here runs.
+//! Laws over lawful logs on rows that were linked and on changes in their slots. Nothing here runs.
 //!
 //! `specs/Lib.antt` gives the statements in reading order. Stands on `ist_core`.
 #![tactic(auto)]
