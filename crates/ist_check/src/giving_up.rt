@@ -167,7 +167,7 @@ fn seen_of(past: &Past, caller: u64) -> u64
 }
 
 /// Does no base stand in the list twice?
-fn are_distinct(bases: &[u64]) -> bool
+pub fn are_distinct(bases: &[u64]) -> bool
     ensures exact { IsTrue result ↔ Distinct bases.now }
 {
     match bases {

@@ -93,7 +93,7 @@ finished_on k status (is_marked e f) = absurd (omega arith)
 finished_on k status (is_finished n e f) = absurd (omega arith)
 finished_on k status (is_closed n e f) = absurd (omega arith)
 
-finished_grows : (t u : Snapshot) (node k : ℕ) → AllGrow t.pieces u.pieces → IsFinishedWith t node k
+pub finished_grows : (t u : Snapshot) (node k : ℕ) → AllGrow t.pieces u.pieces → IsFinishedWith t node k
     → IsFinishedWith u node k
 finished_grows t u node k g h =
     let it = inner_there t.pieces u.pieces g node h.row h.published in
@@ -107,7 +107,7 @@ finished_once t node j k h l =
     let words : finished_word j ≡ finished_word k = sym h.status ∙ ap (λ r. r.status) same ∙ l.status in
     omega arith
 
-same_rebuild : (o : Option Piece) (r s : RebuildRow) → o ≡ Some (Rebuild r) → o ≡ Some (Rebuild s)
+pub same_rebuild : (o : Option Piece) (r s : RebuildRow) → o ≡ Some (Rebuild r) → o ≡ Some (Rebuild s)
     → r ≡ s
 same_rebuild o r s e f = cc
 

@@ -65,115 +65,115 @@ mentioned_here t node i child o (inr h) = at h.1 (o.rows h.0 h.1 h.2) h.3
 -- ---- what an event names
 
 -- what is named was named before the event, or is new
-abbrev pub Came : Snapshot → (ℕ → ℕ → ℕ → Type 0) → ℕ → ℕ → ℕ → Type 0
-Came t New node i child = Mentions t node i (InnerAt child) ⊎ New node i child
+abbrev pub Came : (ℕ → Ref) → Snapshot → (ℕ → ℕ → ℕ → Type 0) → ℕ → ℕ → ℕ → Type 0
+Came of t New node i child = Mentions t node i (of child) ⊎ New node i child
 
 -- whatever the row names came so
-unfoldable pub SaysCame : Snapshot → (ℕ → ℕ → ℕ → Type 0) → ℕ → Piece → Type 0
-SaysCame t New base p = (node i child : ℕ) → Says base p node i (InnerAt child) → Came t New node i child
+unfoldable pub SaysCame : (ℕ → Ref) → Snapshot → (ℕ → ℕ → ℕ → Type 0) → ℕ → Piece → Type 0
+SaysCame of t New base p = (node i child : ℕ) → Says base p node i (of child) → Came of t New node i child
 
 -- whatever the word names came so
-unfoldable pub WordCame : Snapshot → (ℕ → ℕ → ℕ → Type 0) → ℕ → ℕ → Option Ref → Type 0
-WordCame t New node i ref = (child : ℕ) → ref ≡ Some (InnerAt child) → Came t New node i child
+unfoldable pub WordCame : (ℕ → Ref) → Snapshot → (ℕ → ℕ → ℕ → Type 0) → ℕ → ℕ → Option Ref → Type 0
+WordCame of t New node i ref = (child : ℕ) → ref ≡ Some (of child) → Came of t New node i child
 
 -- whatever these rows name came so
-unfoldable pub AllCame : Snapshot → (ℕ → ℕ → ℕ → Type 0) → Pieces → Type 0
-AllCame t New ps = (base : ℕ) (p : Piece) → ps base ≡ Some p → SaysCame t New base p
+unfoldable pub AllCame : (ℕ → Ref) → Snapshot → (ℕ → ℕ → ℕ → Type 0) → Pieces → Type 0
+AllCame of t New ps = (base : ℕ) (p : Piece) → ps base ≡ Some p → SaysCame of t New base p
 
 -- new rows are published now, and named for one slot
 pub record AreNew (t : Snapshot) (New : ℕ → ℕ → ℕ → Type 0) : Type 0 where
   pub unpublished : (node i child : ℕ) → New node i child → t.pieces child ≡ None
   pub one : (n i k j child : ℕ) → New n i child → New k j child → (n ≡ k) × (i ≡ j)
 
-pub came_old : (t : Snapshot) (New : ℕ → ℕ → ℕ → Type 0) → AllCame t New t.pieces
+pub came_old : (of : ℕ → Ref) (t : Snapshot) (New : ℕ → ℕ → ℕ → Type 0) → AllCame of t New t.pieces
 unfolding AllCame SaysCame
-came_old t New base p e node i child says = inl (inr (base, p, e, says))
+came_old of t New base p e node i child says = inl (inr (base, p, e, says))
 
-pub came_added : (t : Snapshot) (New : ℕ → ℕ → ℕ → Type 0) (ps qs : Pieces)
+pub came_added : (of : ℕ → Ref) (t : Snapshot) (New : ℕ → ℕ → ℕ → Type 0) (ps qs : Pieces)
     (Born : ℕ → Piece → Type 0)
-    → Adds ps qs Born → AllCame t New ps
-    → ((base : ℕ) (p : Piece) → Born base p → qs base ≡ Some p → SaysCame t New base p)
-    → AllCame t New qs
+    → Adds ps qs Born → AllCame of t New ps
+    → ((base : ℕ) (p : Piece) → Born base p → qs base ≡ Some p → SaysCame of t New base p)
+    → AllCame of t New qs
 unfolding AllCame
-came_added t New ps qs Born adds all born base p e = ⊎_elim (λ old. all base p old) (λ new. born base p new e) (adds.from base p e)
+came_added of t New ps qs Born adds all born base p e = ⊎_elim (λ old. all base p old) (λ new. born base p new e) (adds.from base p e)
 
-pub came-changed_at : (t : Snapshot) (New : ℕ → ℕ → ℕ → Type 0) (ps : Pieces) (at : ℕ)
+pub came-changed_at : (of : ℕ → Ref) (t : Snapshot) (New : ℕ → ℕ → ℕ → Type 0) (ps : Pieces) (at : ℕ)
     (f : Piece → Piece)
-    → AllCame t New ps
-    → ((p : Piece) → ps at ≡ Some p → SaysCame t New at p → SaysCame t New at (f p))
-    → AllCame t New (changed_at ps at f)
+    → AllCame of t New ps
+    → ((p : Piece) → ps at ≡ Some p → SaysCame of t New at p → SaysCame of t New at (f p))
+    → AllCame of t New (changed_at ps at f)
 unfolding AllCame
-came-changed_at t New ps at f all keeps base q e =
+came-changed_at of t New ps at f all keeps base q e =
     let it = changed_at-some ps at base f q e in
     let old = all base it.0 it.1 in
     ⊎_elim
-    (λ same. subst (λ x. SaysCame t New base x) (sym same) old)
-    (λ new. subst (λ x. SaysCame t New base x) (sym new.1)
-    (subst (λ b. SaysCame t New b (f it.0)) (sym new.0) (keeps it.0 (subst (λ b. ps b ≡ Some it.0) new.0 it.1) (subst (λ b. SaysCame t New b it.0) new.0 old))))
+    (λ same. subst (λ x. SaysCame of t New base x) (sym same) old)
+    (λ new. subst (λ x. SaysCame of t New base x) (sym new.1)
+    (subst (λ b. SaysCame of t New b (f it.0)) (sym new.0) (keeps it.0 (subst (λ b. ps b ≡ Some it.0) new.0 it.1) (subst (λ b. SaysCame of t New b it.0) new.0 old))))
     it.2
 
 -- ---- writes
 
-pub came-with_slot : (t : Snapshot) (New : ℕ → ℕ → ℕ → Type 0) (node i word : ℕ) (p : Piece)
-    → WordCame t New node i (ref_of word) → SaysCame t New node p
-    → SaysCame t New node (with_slot i word p)
+pub came-with_slot : (of : ℕ → Ref) (t : Snapshot) (New : ℕ → ℕ → ℕ → Type 0) (node i word : ℕ) (p : Piece)
+    → WordCame of t New node i (ref_of word) → SaysCame of t New node p
+    → SaysCame of t New node (with_slot i word p)
 unfolding SaysCame WordCame
-came-with_slot t New node i word (Inner r) came old n j child says =
+came-with_slot of t New node i word (Inner r) came old n j child says =
     ⊎_elim
-    (λ w. subst (λ x. Came t New x j child) (sym says.0) (subst (λ x. Came t New node x child) (sym w.0) (came child (ap ref_of (sym w.1) ∙ says.3))))
+    (λ w. subst (λ x. Came of t New x j child) (sym says.0) (subst (λ x. Came of t New node x child) (sym w.0) (came child (ap ref_of (sym w.1) ∙ says.3))))
     (λ w. old n j child (says.0, says.1, w, says.3))
     (get-set_some r.slots i j word says.1 says.2)
-came-with_slot t New node i word (Leaf r) came old n j child says = old n j child says
-came-with_slot t New node i word (Change r) came old n j child says = old n j child says
-came-with_slot t New node i word (Rebuild r) came old n j child says = old n j child says
+came-with_slot of t New node i word (Leaf r) came old n j child says = old n j child says
+came-with_slot of t New node i word (Change r) came old n j child says = old n j child says
+came-with_slot of t New node i word (Rebuild r) came old n j child says = old n j child says
 
-pub came-with_root : (t : Snapshot) (New : ℕ → ℕ → ℕ → Type 0) (base word : ℕ) (r : RebuildRow)
-    → WordCame t New r.parent r.index (ref_of word) → SaysCame t New base (Rebuild r)
-    → SaysCame t New base (Rebuild record r { root = word })
+pub came-with_root : (of : ℕ → Ref) (t : Snapshot) (New : ℕ → ℕ → ℕ → Type 0) (base word : ℕ) (r : RebuildRow)
+    → WordCame of t New r.parent r.index (ref_of word) → SaysCame of t New base (Rebuild r)
+    → SaysCame of t New base (Rebuild record r { root = word })
 unfolding SaysCame WordCame
-came-with_root t New base word r came old node i child says =
+came-with_root of t New base word r came old node i child says =
     ⊎_elim
     (λ e. old node i child (says.0, says.1, inl e))
-    (λ e. subst (λ n. Came t New n i child) (sym says.0) (subst (λ j. Came t New r.parent j child) (sym says.1) (came child e)))
+    (λ e. subst (λ n. Came of t New n i child) (sym says.0) (subst (λ j. Came of t New r.parent j child) (sym says.1) (came child e)))
     says.2
 
-pub came-with_status : (t : Snapshot) (New : ℕ → ℕ → ℕ → Type 0) (base status : ℕ) (p : Piece)
-    → SaysCame t New base p → SaysCame t New base (with_status status p)
+pub came-with_status : (of : ℕ → Ref) (t : Snapshot) (New : ℕ → ℕ → ℕ → Type 0) (base status : ℕ) (p : Piece)
+    → SaysCame of t New base p → SaysCame of t New base (with_status status p)
 unfolding SaysCame
-came-with_status t New base status (Inner r) h = h
-came-with_status t New base status (Leaf r) h = h
-came-with_status t New base status (Change r) h = h
-came-with_status t New base status (Rebuild r) h = h
+came-with_status of t New base status (Inner r) h = h
+came-with_status of t New base status (Leaf r) h = h
+came-with_status of t New base status (Change r) h = h
+came-with_status of t New base status (Rebuild r) h = h
 
-pub came-counted : (t : Snapshot) (New : ℕ → ℕ → ℕ → Type 0) (base : ℕ) (p : Piece)
-    → SaysCame t New base p → SaysCame t New base (counted p)
+pub came-counted : (of : ℕ → Ref) (t : Snapshot) (New : ℕ → ℕ → ℕ → Type 0) (base : ℕ) (p : Piece)
+    → SaysCame of t New base p → SaysCame of t New base (counted p)
 unfolding SaysCame
-came-counted t New base (Inner r) h = h
-came-counted t New base (Leaf r) h = h
-came-counted t New base (Change r) h = h
-came-counted t New base (Rebuild r) h = h
+came-counted of t New base (Inner r) h = h
+came-counted of t New base (Leaf r) h = h
+came-counted of t New base (Change r) h = h
+came-counted of t New base (Rebuild r) h = h
 
-pub came-drawn : (t : Snapshot) (New : ℕ → ℕ → ℕ → Type 0) (base : ℕ) (p : Piece)
-    → SaysCame t New base p → SaysCame t New base (drawn p)
+pub came-drawn : (of : ℕ → Ref) (t : Snapshot) (New : ℕ → ℕ → ℕ → Type 0) (base : ℕ) (p : Piece)
+    → SaysCame of t New base p → SaysCame of t New base (drawn p)
 unfolding SaysCame
-came-drawn t New base (Inner r) h = h
-came-drawn t New base (Leaf r) h = h
-came-drawn t New base (Change r) h = h
-came-drawn t New base (Rebuild r) h = h
+came-drawn of t New base (Inner r) h = h
+came-drawn of t New base (Leaf r) h = h
+came-drawn of t New base (Change r) h = h
+came-drawn of t New base (Rebuild r) h = h
 
-pub came-with_decision : (t : Snapshot) (New : ℕ → ℕ → ℕ → Type 0) (base decision : ℕ) (p : Piece)
-    → SaysCame t New base p → SaysCame t New base (with_decision decision p)
+pub came-with_decision : (of : ℕ → Ref) (t : Snapshot) (New : ℕ → ℕ → ℕ → Type 0) (base decision : ℕ) (p : Piece)
+    → SaysCame of t New base p → SaysCame of t New base (with_decision decision p)
 unfolding SaysCame
-came-with_decision t New base decision (Inner r) h = h
-came-with_decision t New base decision (Leaf r) h = h
-came-with_decision t New base decision (Change r) h = h
-came-with_decision t New base decision (Rebuild r) h = h
+came-with_decision of t New base decision (Inner r) h = h
+came-with_decision of t New base decision (Leaf r) h = h
+came-with_decision of t New base decision (Change r) h = h
+came-with_decision of t New base decision (Rebuild r) h = h
 
 -- ---- homes behind an event
 
 -- where all that is named came so, each inner row has one home still
 pub one_home_from : (t u : Snapshot) (New : ℕ → ℕ → ℕ → Type 0) → HasOneHome t → WordsName t
-    → AreNew t New → AllCame t New u.pieces → WordCame t New anchor 0 (ref_of u.anchor)
+    → AreNew t New → AllCame InnerAt t New u.pieces → WordCame InnerAt t New anchor 0 (ref_of u.anchor)
     → HasOneHome u
 unfolding AllCame SaysCame WordCame
 one_home_from t u New home names new all word =
@@ -181,11 +181,11 @@ one_home_from t u New home names new all word =
       one = λ n i k j child x y. both n i k j child (came n i child x) (came k j child y);
     }
   where
-    came : (node i child : ℕ) → Mentions u node i (InnerAt child) → Came t New node i child
-    came node i child (inl h) = subst (λ n. Came t New n i child) (sym h.0) (subst (λ j. Came t New anchor j child) (sym h.1) (word child h.2))
+    came : (node i child : ℕ) → Mentions u node i (InnerAt child) → Came InnerAt t New node i child
+    came node i child (inl h) = subst (λ n. Came InnerAt t New n i child) (sym h.0) (subst (λ j. Came InnerAt t New anchor j child) (sym h.1) (word child h.2))
     came node i child (inr h) = all h.0 h.1 h.2 node i child h.3
 
-    both : (n i k j child : ℕ) → Came t New n i child → Came t New k j child → (n ≡ k) × (i ≡ j)
+    both : (n i k j child : ℕ) → Came InnerAt t New n i child → Came InnerAt t New k j child → (n ≡ k) × (i ≡ j)
     both n i k j child (inl x) (inl y) = home.one n i k j child x y
     both n i k j child (inl x) (inr y) = let p = mentioned_here t n i child names x in absurd (no_piece (t.pieces child) (Inner p.0) (new.unpublished k j child y) p.1)
     both n i k j child (inr x) (inl y) = let p = mentioned_here t k j child names y in absurd (no_piece (t.pieces child) (Inner p.0) (new.unpublished n i child x) p.1)
@@ -202,25 +202,25 @@ one_home_same t u home word pieces = record { one = λ n i k j child x y. home.o
     back node i child (inr h) = inr (h.0, h.1, subst (λ ps. ps h.0 ≡ Some h.1) pieces h.2, h.3)
 
 -- the anchor's word, where a slot is written
-pub anchor_came : (t u : Snapshot) (New : ℕ → ℕ → ℕ → Type 0) (node i word : ℕ)
+pub anchor_came : (of : ℕ → Ref) (t u : Snapshot) (New : ℕ → ℕ → ℕ → Type 0) (node i word : ℕ)
     → u.anchor ≡ (if node == anchor then word else t.anchor) → (node ≡ anchor → i ≡ 0)
-    → WordCame t New node i (ref_of word)
-    → WordCame t New anchor 0 (ref_of u.anchor)
+    → WordCame of t New node i (ref_of word)
+    → WordCame of t New anchor 0 (ref_of u.anchor)
 unfolding WordCame
-anchor_came t u New node i word is zero_there came child e = at (node == anchor) (eqb_tells node anchor) (ap ref_of (sym is) ∙ e)
+anchor_came of t u New node i word is zero_there came child e = at (node == anchor) (eqb_tells node anchor) (ap ref_of (sym is) ∙ e)
   where
     at : (v : Bool)
         → (((node == anchor) ≡ true) × (node ≡ anchor)) ⊎
         (((node == anchor) ≡ false) × (node ≢ anchor))
-        → ref_of (if node == anchor then word else t.anchor) ≡ Some (InnerAt child)
-        → Came t New anchor 0 child
+        → ref_of (if node == anchor then word else t.anchor) ≡ Some (of child)
+        → Came of t New anchor 0 child
     at v (inl k) f =
-        subst (λ j. Came t New anchor j child) (zero_there k.1)
-        (subst (λ n. Came t New n i child) k.1 (came child (subst (λ b. ref_of (if b then word else t.anchor) ≡ Some (InnerAt child)) k.0 f)))
-    at v (inr k) f = inl (inl (refl, refl, subst (λ b. ref_of (if b then word else t.anchor) ≡ Some (InnerAt child)) k.0 f))
+        subst (λ j. Came of t New anchor j child) (zero_there k.1)
+        (subst (λ n. Came of t New n i child) k.1 (came child (subst (λ b. ref_of (if b then word else t.anchor) ≡ Some (of child)) k.0 f)))
+    at v (inr k) f = inl (inl (refl, refl, subst (λ b. ref_of (if b then word else t.anchor) ≡ Some (of child)) k.0 f))
 
 -- where it isn't written
-pub anchor_old : (t u : Snapshot) (New : ℕ → ℕ → ℕ → Type 0) → u.anchor ≡ t.anchor
-    → WordCame t New anchor 0 (ref_of u.anchor)
+pub anchor_old : (of : ℕ → Ref) (t u : Snapshot) (New : ℕ → ℕ → ℕ → Type 0) → u.anchor ≡ t.anchor
+    → WordCame of t New anchor 0 (ref_of u.anchor)
 unfolding WordCame
-anchor_old t u New word child e = inl (inl (refl, refl, ap ref_of (sym word) ∙ e))
+anchor_old of t u New word child e = inl (inl (refl, refl, ap ref_of (sym word) ∙ e))

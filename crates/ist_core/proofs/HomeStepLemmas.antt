@@ -34,39 +34,39 @@ NoneNew node i child = ⊥
 none_new : (t : Snapshot) → AreNew t NoneNew
 none_new t = record { unpublished = λ node i child h. absurd h; one = λ n i k j child h l. absurd h }
 
--- a word that names no inner row
-pub word_of_other : (t : Snapshot) (New : ℕ → ℕ → ℕ → Type 0) (node i : ℕ) (word : Option Ref)
+-- a word that names no row of the kind
+pub word_of_other : (of : ℕ → Ref) (t : Snapshot) (New : ℕ → ℕ → ℕ → Type 0) (node i : ℕ) (word : Option Ref)
     (ref : Ref)
-    → word ≡ Some ref → ((child : ℕ) → ref ≢ InnerAt child) → WordCame t New node i word
+    → word ≡ Some ref → ((child : ℕ) → ref ≢ of child) → WordCame of t New node i word
 unfolding WordCame
-word_of_other t New node i word ref e other child f = absurd (other child (same word ref (InnerAt child) e f))
+word_of_other of t New node i word ref e other child f = absurd (other child (same word ref (of child) e f))
   where
     same : (o : Option Ref) (a b : Ref) → o ≡ Some a → o ≡ Some b → a ≡ b
     same o a b h k = cc
 
 -- a word that is named already
-word_mentioned : (t : Snapshot) (New : ℕ → ℕ → ℕ → Type 0) (node i : ℕ) (word : Option Ref)
-    → ((child : ℕ) → word ≡ Some (InnerAt child) → Mentions t node i (InnerAt child))
-    → WordCame t New node i word
+pub word_mentioned : (of : ℕ → Ref) (t : Snapshot) (New : ℕ → ℕ → ℕ → Type 0) (node i : ℕ) (word : Option Ref)
+    → ((child : ℕ) → word ≡ Some (of child) → Mentions t node i (of child))
+    → WordCame of t New node i word
 unfolding WordCame
-word_mentioned t New node i word h child e = inl (h child e)
+word_mentioned of t New node i word h child e = inl (h child e)
 
 -- a word that is new
-word_new : (t : Snapshot) (New : ℕ → ℕ → ℕ → Type 0) (node i : ℕ) (word : Option Ref)
-    → ((child : ℕ) → word ≡ Some (InnerAt child) → New node i child) → WordCame t New node i word
+pub word_new : (of : ℕ → Ref) (t : Snapshot) (New : ℕ → ℕ → ℕ → Type 0) (node i : ℕ) (word : Option Ref)
+    → ((child : ℕ) → word ≡ Some (of child) → New node i child) → WordCame of t New node i word
 unfolding WordCame
-word_new t New node i word h child e = inr (h child e)
+word_new of t New node i word h child e = inr (h child e)
 
 -- ---- one row changed
 
 pub one_home_changed : (t u : Snapshot) (at : ℕ) (f : Piece → Piece) → u.anchor ≡ t.anchor
     → u.pieces ≡ changed_at t.pieces at f
-    → ((New : ℕ → ℕ → ℕ → Type 0) (p : Piece) → SaysCame t New at p → SaysCame t New at (f p))
+    → ((New : ℕ → ℕ → ℕ → Type 0) (p : Piece) → SaysCame InnerAt t New at p → SaysCame InnerAt t New at (f p))
     → WordsName t → HasOneHome t → HasOneHome u
 one_home_changed t u at f word pieces keeps names home =
     one_home_from t u NoneNew home names (none_new t)
-    (subst (λ ps. AllCame t NoneNew ps) (sym pieces) (came-changed_at t NoneNew t.pieces at f (came_old t NoneNew) (λ p _ old. keeps NoneNew p old)))
-    (anchor_old t u NoneNew word)
+    (subst (λ ps. AllCame InnerAt t NoneNew ps) (sym pieces) (came-changed_at InnerAt t NoneNew t.pieces at f (came_old InnerAt t NoneNew) (λ p _ old. keeps NoneNew p old)))
+    (anchor_old InnerAt t u NoneNew word)
 
 -- ---- Resolve
 
@@ -75,12 +75,12 @@ pub one_home_resolve : (t : Snapshot) (caller base : ℕ) → (h : CanResolve t 
     → HasOneHome (after t (Resolve caller base))
 one_home_resolve t caller base h free names home =
     let change = h.change in
-    let side = word_mentioned t NoneNew change.node change.index (ref_of (side_of change)) (λ child e. inr (base, Change change, h.published, (refl, refl, either child e))) in
+    let side = word_mentioned InnerAt t NoneNew change.node change.index (ref_of (side_of change)) (λ child e. inr (base, Change change, h.published, (refl, refl, either child e))) in
     let u = resolved t (Some change) in
     subst HasOneHome (sym (rows_resolved t caller base h))
     (one_home_from t u NoneNew home names (none_new t)
-    (came-changed_at t NoneNew t.pieces change.node (with_slot change.index (side_of change)) (came_old t NoneNew) (λ p _ old. came-with_slot t NoneNew change.node change.index (side_of change) p side old))
-    (anchor_came t u NoneNew change.node change.index (side_of change) refl (anchor_slot t change.node change.index (word_of (ChangeAt base)) free h.in_slot) side))
+    (came-changed_at InnerAt t NoneNew t.pieces change.node (with_slot change.index (side_of change)) (came_old InnerAt t NoneNew) (λ p _ old. came-with_slot InnerAt t NoneNew change.node change.index (side_of change) p side old))
+    (anchor_came InnerAt t u NoneNew change.node change.index (side_of change) refl (anchor_slot t change.node change.index (word_of (ChangeAt base)) free h.in_slot) side))
   where
     either : (child : ℕ) → ref_of (side_of h.change) ≡ Some (InnerAt child)
         → (ref_of h.change.from ≡ Some (InnerAt child)) ⊎
@@ -96,11 +96,11 @@ one_home_resolve t caller base h free names home =
 -- what a row of the tree names hangs in the tree
 tree_says : (t : Snapshot) (ps : Pieces) (parent at : ℕ) (ref : Ref) (rows : List ℕ)
     → Each (IsTreeRow ps) rows → (base : ℕ) (p : Piece) → Among base rows → ps base ≡ Some p
-    → SaysCame t (HangsIn ps parent at ref rows) base p
+    → SaysCame InnerAt t (HangsIn ps parent at ref rows) base p
 unfolding SaysCame
 tree_says t ps parent at ref rows all base p i e =
     let it = each-among (IsTreeRow ps) base rows all i in
-    known (λ x. (node j child : ℕ) → Says base x node j (InnerAt child) → Came t (HangsIn ps parent at ref rows) node j child) (ps base) p (Inner it.row) e it.published
+    known (λ x. (node j child : ℕ) → Says base x node j (InnerAt child) → Came InnerAt t (HangsIn ps parent at ref rows) node j child) (ps base) p (Inner it.row) e it.published
     (λ node j child says.
     inr (inr record {
       among = subst (λ b. Among b rows) (sym says.0) i;
@@ -121,18 +121,18 @@ one_home_root t caller rebuild word rows h sound names home =
     let adds = adds-with_inners t caller rows h.held sound in
     let tree = root_tree qs word h.k h.leaves h.row.target bases h.root in
     let New = HangsIn qs h.row.parent h.row.index tree.0 bases in
-    let all = came_added t New t.pieces qs (λ base p. Among base bases) adds (came_old t New)
+    let all = came_added InnerAt t New t.pieces qs (λ base p. Among base bases) adds (came_old InnerAt t New)
     (λ base p i e. tree_says t qs h.row.parent h.row.index tree.0 bases (tree_rows qs tree.0 h.row.target bases tree.2) base p i e) in
     let stands = adds.keeps rebuild (Rebuild h.row) h.published in
-    let root = word_new t New h.row.parent h.row.index (ref_of word) (λ child e. inl (refl, refl, same_ref (ref_of word) tree.0 (InnerAt child) tree.1 e)) in
+    let root = word_new InnerAt t New h.row.parent h.row.index (ref_of word) (λ child e. inl (refl, refl, same_ref (ref_of word) tree.0 (InnerAt child) tree.1 e)) in
     one_home_from t u New home names
     record {
       unpublished = λ node i child x. held_free t caller rows h.held sound child (hangs_among qs h.row.parent h.row.index tree.0 h.row.target bases node i child tree.2 x);
       one = λ n i k j child x y. hangs_once qs h.row.parent h.row.index tree.0 h.row.target bases n i k j child tree.2 h.once x y;
     }
-    (came-changed_at t New qs rebuild (with_root word) all
-    (λ p e old. known (λ x. SaysCame t New rebuild x → SaysCame t New rebuild (with_root word x)) (qs rebuild) p (Rebuild h.row) e stands (λ k. came-with_root t New rebuild word h.row root k) old))
-    (anchor_old t u New refl)
+    (came-changed_at InnerAt t New qs rebuild (with_root word) all
+    (λ p e old. known (λ x. SaysCame InnerAt t New rebuild x → SaysCame InnerAt t New rebuild (with_root word x)) (qs rebuild) p (Rebuild h.row) e stands (λ k. came-with_root InnerAt t New rebuild word h.row root k) old))
+    (anchor_old InnerAt t u New refl)
   where
     same_ref : (o : Option Ref) (a b : Ref) → o ≡ Some a → o ≡ Some b → a ≡ b
     same_ref o a b e f = cc
@@ -147,17 +147,17 @@ one_home_place t caller rebuild i word rows h sound names home =
     let adds = adds-with_inners t caller rows h.held sound in
     let tree = tree_of_ideal qs h.ref h.part h.root bases h.ideal in
     let New = HangsIn qs h.root i h.ref bases in
-    let all = came_added t New t.pieces qs (λ base p. Among base bases) adds (came_old t New)
+    let all = came_added InnerAt t New t.pieces qs (λ base p. Among base bases) adds (came_old InnerAt t New)
     (λ base p k e. tree_says t qs h.root i h.ref bases (tree_rows qs h.ref h.root bases tree) base p k e) in
-    let slot = word_new t New h.root i (ref_of word) (λ child e. inl (refl, refl, same_ref (ref_of word) h.ref (InnerAt child) h.ref_is e)) in
+    let slot = word_new InnerAt t New h.root i (ref_of word) (λ child e. inl (refl, refl, same_ref (ref_of word) h.ref (InnerAt child) h.ref_is e)) in
     one_home_from t u New home names
     record {
       unpublished = λ node j child x. held_free t caller rows h.held sound child (hangs_among qs h.root i h.ref h.root bases node j child tree x);
       one = λ n l k j child x y. hangs_once qs h.root i h.ref h.root bases n l k j child tree h.once x y;
     }
-    (subst (λ ps. AllCame t New ps) (sym (rows_placed t caller rebuild i word rows h))
-    (came-changed_at t New qs h.root (with_slot i word) all (λ p _ old. came-with_slot t New h.root i word p slot old)))
-    (anchor_old t u New refl)
+    (subst (λ ps. AllCame InnerAt t New ps) (sym (rows_placed t caller rebuild i word rows h))
+    (came-changed_at InnerAt t New qs h.root (with_slot i word) all (λ p _ old. came-with_slot InnerAt t New h.root i word p slot old)))
+    (anchor_old InnerAt t u New refl)
   where
     same_ref : (o : Option Ref) (a b : Ref) → o ≡ Some a → o ≡ Some b → a ≡ b
     same_ref o a b e f = cc
@@ -190,28 +190,28 @@ module _ (first : Snapshot) (log : Log) (caller at : ℕ) (change : ChangeRow) (
 
   -- what a change takes out is named already
   from_came : (New : ℕ → ℕ → ℕ → Type 0)
-      → WordCame (state first log) New change.node change.index (ref_of change.from)
-  from_came New = word_mentioned (state first log) New change.node change.index (ref_of change.from) (λ child e. slot_mentions (state first log) change.node change.index change.from (InnerAt child) in_slot e)
+      → WordCame InnerAt (state first log) New change.node change.index (ref_of change.from)
+  from_came New = word_mentioned InnerAt (state first log) New change.node change.index (ref_of change.from) (λ child e. slot_mentions (state first log) change.node change.index change.from (InnerAt child) in_slot e)
 
   -- what it puts in is a new pair row, or the root of its rebuild, or no inner row
   to_came : (fits : FitsKind first log change fresh)
-      → WordCame (state first log) (NewPair first log change fresh fits) change.node change.index
+      → WordCame InnerAt (state first log) (NewPair first log change fresh fits) change.node change.index
       (ref_of change.to)
-  to_came (a_put h) = word_of_other (state first log) NoneNew change.node change.index (ref_of change.to) (LeafAt h.leaf) h.to (λ child e. cc)
+  to_came (a_put h) = word_of_other InnerAt (state first log) NoneNew change.node change.index (ref_of change.to) (LeafAt h.leaf) h.to (λ child e. cc)
   to_came (a_pair h) =
-      word_new (state first log) (NewPair first log change fresh (a_pair h)) change.node change.index (ref_of change.to) (λ child e. (refl, refl, same (ref_of change.to) child h.pair e h.to))
+      word_new InnerAt (state first log) (NewPair first log change fresh (a_pair h)) change.node change.index (ref_of change.to) (λ child e. (refl, refl, same (ref_of change.to) child h.pair e h.to))
     where
       same : (o : Option Ref) (a b : ℕ) → o ≡ Some (InnerAt a) → o ≡ Some (InnerAt b) → a ≡ b
       same o a b e f = cc
-  to_came (a_remove h) = word_of_other (state first log) NoneNew change.node change.index (ref_of change.to) Empty h.to (λ child e. cc)
-  to_came (a_start h) = word_of_other (state first log) NoneNew change.node change.index (ref_of change.to) (RebuildAt h.rebuild) h.to (λ child e. cc)
+  to_came (a_remove h) = word_of_other InnerAt (state first log) NoneNew change.node change.index (ref_of change.to) Empty h.to (λ child e. cc)
+  to_came (a_start h) = word_of_other InnerAt (state first log) NoneNew change.node change.index (ref_of change.to) (RebuildAt h.rebuild) h.to (λ child e. cc)
   to_came (a_finish h) =
-      word_mentioned (state first log) NoneNew change.node change.index (ref_of change.to)
+      word_mentioned InnerAt (state first log) NoneNew change.node change.index (ref_of change.to)
       (λ child e. inr (h.rebuild, Rebuild h.row, h.published, (sym h.parent, sym h.index, inr (ap ref_of (sym h.to) ∙ e))))
 
   -- the slots of a pair row name leaves
   over_says : (New : ℕ → ℕ → ℕ → Type 0) (base key left right : ℕ) → IsGoodBase left
-      → IsGoodBase right → SaysCame (state first log) New base (pair_over key left right)
+      → IsGoodBase right → SaysCame InnerAt (state first log) New base (pair_over key left right)
   unfolding SaysCame
   over_says New base key left right gl gr node zero child says =
       absurd (clash left child (sym (ref_of-word_of (LeafAt left) gl) ∙ ap ref_of (word_is (word_of (LeafAt left)) says.1 says.2) ∙ says.3))
@@ -232,9 +232,9 @@ module _ (first : Snapshot) (log : Log) (caller at : ℕ) (change : ChangeRow) (
   over_says New base key left right gl gr node (suc (suc i)) child says = absurd (let e = says.2 in cc)
 
   pair_says : (New : ℕ → ℕ → ℕ → Type 0) (base key leaf other_key other : ℕ) → IsGoodBase leaf
-      → IsGoodBase other → SaysCame (state first log) New base (pair_row key leaf other_key other)
+      → IsGoodBase other → SaysCame InnerAt (state first log) New base (pair_row key leaf other_key other)
   pair_says New base key leaf other_key other gl go =
-      elim (nat_lt other_key key) as (λ v. SaysCame (state first log) New base (if v then pair_over key other leaf else pair_over other_key leaf other)) [
+      elim (nat_lt other_key key) as (λ v. SaysCame InnerAt (state first log) New base (if v then pair_over key other leaf else pair_over other_key leaf other)) [
         | true ↦ over_says New base key other leaf go gl
         | false ↦ over_says New base other_key leaf other gl go
       ]
@@ -245,28 +245,28 @@ module _ (first : Snapshot) (log : Log) (caller at : ℕ) (change : ChangeRow) (
       → (other_good : (base : ℕ) → (r : Piece) → (state first log).pieces base ≡ Some r → IsGoodBase base)
       → (base : ℕ) (p : Piece)
       → IsInstalled first log at change fresh fits base p
-      → SaysCame (state first log) (NewPair first log change fresh fits) base p
+      → SaysCame InnerAt (state first log) (NewPair first log change fresh fits) base p
   unfolding SaysCame WordCame
   installed_says fits leaf_good other_good base p (inl (here, new)) =
-      subst (λ x. SaysCame (state first log) (NewPair first log change fresh fits) base x) (sym new)
+      subst (λ x. SaysCame InnerAt (state first log) (NewPair first log change fresh fits) base x) (sym new)
       (λ node i child says.
-      subst (λ n. Came (state first log) (NewPair first log change fresh fits) n i child) (sym says.0)
-      (subst (λ j. Came (state first log) (NewPair first log change fresh fits) change.node j child) (sym says.1)
+      subst (λ n. Came InnerAt (state first log) (NewPair first log change fresh fits) n i child) (sym says.0)
+      (subst (λ j. Came InnerAt (state first log) (NewPair first log change fresh fits) change.node j child) (sym says.1)
       (⊎_elim (λ e. from_came (NewPair first log change fresh fits) child e) (λ e. to_came fits child e) says.2)))
-  installed_says (a_put h) leaf_good other_good base p (inr (here, new)) = subst (λ x. SaysCame (state first log) NoneNew base x) (sym new) (λ node i child says. absurd says)
+  installed_says (a_put h) leaf_good other_good base p (inr (here, new)) = subst (λ x. SaysCame InnerAt (state first log) NoneNew base x) (sym new) (λ node i child says. absurd says)
   installed_says (a_pair h) leaf_good other_good base p (inr (inl (here, new))) =
-      subst (λ x. SaysCame (state first log) (NewPair first log change fresh (a_pair h)) base x) (sym new)
+      subst (λ x. SaysCame InnerAt (state first log) (NewPair first log change fresh (a_pair h)) base x) (sym new)
       (pair_says (NewPair first log change fresh (a_pair h)) base change.key h.leaf h.other_key h.other (leaf_good h.leaf (inr (refl, refl))) (other_good h.other (Leaf h.stands.row) h.stands.published))
   installed_says (a_pair h) leaf_good other_good base p (inr (inr (here, new))) =
-      subst (λ x. SaysCame (state first log) (NewPair first log change fresh (a_pair h)) base x) (sym new) (λ node i child says. absurd says)
+      subst (λ x. SaysCame InnerAt (state first log) (NewPair first log change fresh (a_pair h)) base x) (sym new) (λ node i child says. absurd says)
   installed_says (a_remove h) leaf_good other_good base p (inr f) = absurd f
   installed_says (a_start h) leaf_good other_good base p (inr (here, new)) =
-      subst (λ x. SaysCame (state first log) NoneNew base x) (sym new)
+      subst (λ x. SaysCame InnerAt (state first log) NoneNew base x) (sym new)
       (λ node i child says.
       ⊎_elim
       (λ e.
-      subst (λ n. Came (state first log) NoneNew n i child) (sym says.0)
-      (subst (λ j. Came (state first log) NoneNew change.node j child) (sym says.1) (from_came NoneNew child (h.from ∙ ap (λ x. Some x) e))))
+      subst (λ n. Came InnerAt (state first log) NoneNew n i child) (sym says.0)
+      (subst (λ j. Came InnerAt (state first log) NoneNew change.node j child) (sym says.1) (from_came NoneNew child (h.from ∙ ap (λ x. Some x) e))))
       (λ e. absurd (clash child (sym ref_of-unset ∙ e)))
       says.2)
     where

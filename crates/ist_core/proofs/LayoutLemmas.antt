@@ -74,7 +74,7 @@ fills_apart from to (x ∷ xs) base other p q h (inr i) (inr j) differ = fills_a
 -- ---- the size of a top row
 
 -- the numbers fit: none of them is 0, and together they are at most as many as the list is long
-abbrev AllSome : List ℕ → Type 0
+abbrev pub AllSome : List ℕ → Type 0
 AllSome ns = Each (λ n. 0 < n) ns
 
 length-cut : {A : Type 0} (ns : List ℕ) (xs : List A) → length (cut ns xs) ≡ length ns
@@ -118,7 +118,8 @@ mapped_some : (n : ℕ) (js : List ℕ) → 2 ≤ n → AllSome (map (part_len n
 mapped_some n [] h = tt
 mapped_some n (j ∷ js) h = let one = part_len-pos n j h in (omega arith, mapped_some n js h)
 
-part_lens_some : (n : ℕ) → 2 ≤ n → AllSome (part_lens n)
+-- no part of two elements or more is empty
+pub part_lens_some : (n : ℕ) → 2 ≤ n → AllSome (part_lens n)
 unfolding part_lens
 part_lens_some n h = mapped_some n (range_with_len 0 (degree n)) h
 

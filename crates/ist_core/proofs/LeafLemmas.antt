@@ -10,25 +10,25 @@ use Rattle.ist_core.specs.Slots.{logical}
 use Rattle.ist_core.specs.Leaves.{PlacedLeaf, pair_of, HasLeaves, SlotsHaveLeaves, none_here, leaf_here, row_here, no_slot, one_slot, HasContents}
 
 -- what it takes to have these leaves, by the reference
-abbrev Reached : Pieces → Option Ref → List PlacedLeaf → Type 0
+abbrev pub Reached : Pieces → Option Ref → List PlacedLeaf → Type 0
 Reached ps (Some Empty) leaves = leaves ≡ []
 Reached ps (Some (LeafAt base)) leaves = (r : LeafRow) × (ps base ≡ Some (Leaf r)) × (leaves ≡ record { base = base; row = r } ∷ [])
 Reached ps (Some (InnerAt base)) leaves = (r : InnerRow) × (ps base ≡ Some (Inner r)) × SlotsHaveLeaves ps r.slots leaves
 Reached ps _ leaves = ⊥
 
-reached : (ps : Pieces) (ref : Option Ref) (leaves : List PlacedLeaf) → HasLeaves ps ref leaves
+pub reached : (ps : Pieces) (ref : Option Ref) (leaves : List PlacedLeaf) → HasLeaves ps ref leaves
     → Reached ps ref leaves
 reached ps _ _ none_here = refl
 reached ps _ _ (leaf_here r e) = (r, e, refl)
 reached ps _ _ (row_here r e below) = (r, e, below)
 
 -- what it takes for slots to have these leaves, by the slots
-abbrev SlotsReached : Pieces → List ℕ → List PlacedLeaf → Type 0
+abbrev pub SlotsReached : Pieces → List ℕ → List PlacedLeaf → Type 0
 SlotsReached ps [] leaves = leaves ≡ []
 SlotsReached ps (word ∷ words) leaves =
     (here : List PlacedLeaf) × (rest : List PlacedLeaf) × HasLeaves ps (logical ps word) here × SlotsHaveLeaves ps words rest × (leaves ≡ here ++ rest)
 
-slots_reached : (ps : Pieces) (words : List ℕ) (leaves : List PlacedLeaf)
+pub slots_reached : (ps : Pieces) (words : List ℕ) (leaves : List PlacedLeaf)
     → SlotsHaveLeaves ps words leaves → SlotsReached ps words leaves
 slots_reached ps _ _ no_slot = refl
 slots_reached ps _ _ (one_slot {here = here} {rest = rest} h s) = (here, rest, h, s, refl)
@@ -40,7 +40,7 @@ same_inner : (x : Option Piece) (r s : InnerRow) → x ≡ Some (Inner r) → x 
 same_inner x r s e f = cc
 
 mutual
-  same_leaves : (ps : Pieces) (ref : Option Ref) (xs ys : List PlacedLeaf) → HasLeaves ps ref xs
+  pub same_leaves : (ps : Pieces) (ref : Option Ref) (xs ys : List PlacedLeaf) → HasLeaves ps ref xs
       → HasLeaves ps ref ys → xs ≡ ys
   same_leaves ps _ _ ys none_here other = sym (reached ps (Some Empty) ys other)
   same_leaves ps _ _ ys (leaf_here {base = base} r e) other =

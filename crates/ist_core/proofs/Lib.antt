@@ -21,6 +21,8 @@ pub mod SoundLemmas
 pub mod StartLemmas
 pub mod SpendingLemmas
 pub mod LayoutLemmas
+pub mod RisingLemmas
+pub mod SplitLemmas
 pub mod PlaceLemmas
 pub mod GrowingLemmas
 pub mod FreshLemmas
@@ -43,8 +45,12 @@ pub mod HomeLemmas
 pub mod HomeStepLemmas
 pub mod ParentLemmas
 pub mod MentionLemmas
+pub mod LeadingLemmas
+pub mod UnderLemmas
+pub mod LyingLemmas
 pub mod BornLemmas
 pub mod ShapedLemmas
+pub mod FieldLemmas
 pub mod ImageLemmas
 pub mod ChainLemmas
 pub mod TouchLemmas
@@ -55,6 +61,14 @@ pub mod TallyLemmas
 pub mod YesLemmas
 pub mod DrawnLemmas
 pub mod DrawLemmas
+pub mod FinishedLemmas
+pub mod KeepingLemmas
+pub mod RootKeyLemmas
+pub mod LeafStepLemmas
+pub mod LeafBuildLemmas
+pub mod LeafInstallLemmas
+pub mod LeafOrderLemmas
+pub mod KeyLemmas
 pub mod RefusalLemmas
 pub mod PutExampleLemmas
 pub mod StartExampleLemmas

@@ -152,7 +152,7 @@ side_mentioned t base r ref e is = inr (base, Change r, e, (refl, refl, either i
         ]
 
 -- what a slot reads as once changes are read away is named for it
-past_change_mentioned : (t : Snapshot) (node i word : ℕ) (ref : Ref) → WordsName t
+pub past_change_mentioned : (t : Snapshot) (node i word : ℕ) (ref : Ref) → WordsName t
     → SlotHolds t node i word → past_change t.pieces (ref_of word) ≡ Some ref
     → Mentions t node i ref
 past_change_mentioned t node i word ref o slot e = at (ref_of word) refl (slot_names t node i word o slot) e

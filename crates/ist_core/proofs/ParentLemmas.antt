@@ -50,17 +50,17 @@ module _ (pairs : List Pair) (words : ℕ) (opens : CanOpen pairs words) where
       let qs = with_installed t.pieces base h.change h.fresh in
       let word = word_of (ChangeAt base) in
       let New = NewPair first log h.change h.fresh h.fits in
-      let slot = word_of_other t New h.change.node h.change.index (ref_of word) (ChangeAt base) (ref_of-change base good.0) (λ child k. cc) in
+      let slot = word_of_other InnerAt t New h.change.node h.change.index (ref_of word) (ChangeAt base) (ref_of-change base good.0) (λ child k. cc) in
       let u = after t (Install caller base (row_at base (Change h.change) ∷ h.fresh)) in
       subst (λ xs. HasOneHome (after t (Install caller base xs))) (sym h.rows_are)
       (one_home_from t u New home (names pairs words opens log e) (pair_new first log caller base h.change h.fresh s holds h.in_slot h.fits)
-      (came-changed_at t New qs h.change.node (with_slot h.change.index word)
-      (came_added t New t.pieces qs (IsInstalled first log base h.change h.fresh h.fits) (adds_install first log caller base h.change h.fresh h.fits holds s) (came_old t New)
+      (came-changed_at InnerAt t New qs h.change.node (with_slot h.change.index word)
+      (came_added InnerAt t New t.pieces qs (IsInstalled first log base h.change h.fresh h.fits) (adds_install first log caller base h.change h.fresh h.fits holds s) (came_old InnerAt t New)
       (λ at p born _. installed_says first log caller base h.change h.fresh s holds h.in_slot h.fits
       (λ leaf f. good.1 leaf (new_leaf h.change) (fresh_stands first log caller base h.change h.fresh s t.pieces h.fits holds leaf (new_leaf h.change) f))
       (λ other r there. published_good pairs words opens log other r e there) at p born))
-      (λ p _ old. came-with_slot t New h.change.node h.change.index word p slot old))
-      (anchor_came t u New h.change.node h.change.index word refl (anchor_slot t h.change.node h.change.index h.change.from (anchor_free pairs words log e) h.in_slot) slot))
+      (λ p _ old. came-with_slot InnerAt t New h.change.node h.change.index word p slot old))
+      (anchor_came InnerAt t u New h.change.node h.change.index word refl (anchor_slot t h.change.node h.change.index h.change.from (anchor_free pairs words log e) h.in_slot) slot))
 
   one_home_step : (log : Log) (event : Event) → EachEnabled (start pairs words) (event ∷ log)
       → HasOneHome (state_of pairs words log) → HasOneHome (state_of pairs words (event ∷ log))
@@ -71,13 +71,13 @@ module _ (pairs : List Pair) (words : ℕ) (opens : CanOpen pairs words) where
   one_home_step log (Place caller rebuild i word rows) h home =
       one_home_place (state_of pairs words log) caller rebuild i word rows h.1 (sound (start pairs words) log (sound_start pairs words) h.0) (names pairs words opens log h.0) home
   one_home_step log (Decide caller base said) h home =
-      one_home_changed _ _ base (with_decision (decision_word said)) refl refl (λ New p k. came-with_decision (state_of pairs words log) New base (decision_word said) p k) (names pairs words opens log h.0) home
-  one_home_step log (Count caller node) h home = one_home_changed _ _ node counted refl refl (λ New p k. came-counted (state_of pairs words log) New node p k) (names pairs words opens log h.0) home
+      one_home_changed _ _ base (with_decision (decision_word said)) refl refl (λ New p k. came-with_decision InnerAt (state_of pairs words log) New base (decision_word said) p k) (names pairs words opens log h.0) home
+  one_home_step log (Count caller node) h home = one_home_changed _ _ node counted refl refl (λ New p k. came-counted InnerAt (state_of pairs words log) New node p k) (names pairs words opens log h.0) home
   one_home_step log (Mark caller node) h home =
-      one_home_changed _ _ node (with_status marked_word) refl refl (λ New p k. came-with_status (state_of pairs words log) New node marked_word p k) (names pairs words opens log h.0) home
+      one_home_changed _ _ node (with_status marked_word) refl refl (λ New p k. came-with_status InnerAt (state_of pairs words log) New node marked_word p k) (names pairs words opens log h.0) home
   one_home_step log (Finish caller node keys) h home =
-      one_home_changed _ _ node (with_status (finished_word keys)) refl refl (λ New p k. came-with_status (state_of pairs words log) New node (finished_word keys) p k) (names pairs words opens log h.0) home
-  one_home_step log (Draw caller rebuild part) h home = one_home_changed _ _ rebuild drawn refl refl (λ New p k. came-drawn (state_of pairs words log) New rebuild p k) (names pairs words opens log h.0) home
+      one_home_changed _ _ node (with_status (finished_word keys)) refl refl (λ New p k. came-with_status InnerAt (state_of pairs words log) New node (finished_word keys) p k) (names pairs words opens log h.0) home
+  one_home_step log (Draw caller rebuild part) h home = one_home_changed _ _ rebuild drawn refl refl (λ New p k. came-drawn InnerAt (state_of pairs words log) New rebuild p k) (names pairs words opens log h.0) home
   one_home_step log (Enter caller) h home = one_home_same _ _ home refl refl
   one_home_step log (Reserve caller base size) h home = one_home_same _ _ home refl refl
   one_home_step log (Okay caller change) h home = home
@@ -111,7 +111,7 @@ module _ (pairs : List Pair) (words : ℕ) (opens : CanOpen pairs words) where
       ps : Pieces
       ps = (start pairs words).pieces
 
-      hang : HangsAs (start pairs words).pieces (tree_at first_row pairs) anchor (rows_from first_row pairs) first_row (first_row + ideal_words (length pairs))
+      hang : HangsAs (start pairs words).pieces (tree_at first_row pairs) pairs anchor (rows_from first_row pairs) first_row (first_row + ideal_words (length pairs))
       hang = start_hangs pairs words opens anchor (omega arith)
 
       once : Distinct hang.rows

@@ -9,6 +9,7 @@ use Rattle.ist_core.specs.declared.events.Event.{Event}
 use Rattle.ist_core.specs.Arithmetic.{degree}
 use Rattle.ist_core.specs.RowLayout.{first_row}
 use Rattle.ist_core.specs.References.{Ref, unset_word}
+use Rattle.ist_core.specs.Statuses.{open_word}
 use Rattle.ist_core.specs.Elements.{Among, Each}
 use Rattle.ist_core.specs.Naming.{HasDegree}
 use Rattle.ist_core.specs.Parts.{parts}
@@ -65,11 +66,12 @@ installed_shaped first log at change fresh (a_remove f) base p (inr h) = absurd 
 installed_shaped first log at change fresh (a_start f) base p (inr h) = subst IsShaped (sym h.1) tt
 installed_shaped first log at change fresh (a_finish f) base p (inr h) = absurd h
 
--- an inner row of this shape stands at the base
-record StandsShaped (ps : Pieces) (base : ℕ) : Type 0 where
-  row : InnerRow
-  published : ps base ≡ Some (Inner row)
-  shaped : HasDegree row
+-- an open inner row of this shape stands at the base
+pub record StandsShaped (ps : Pieces) (base : ℕ) : Type 0 where
+  pub row : InnerRow
+  pub published : ps base ≡ Some (Inner row)
+  pub shaped : HasDegree row
+  pub untouched : row.status ≡ open_word
 
 -- slots over parts are as many as these
 slots_of_parts : (ps : Pieces) (words : List ℕ) (behind : List (List PlacedLeaf)) (above : ℕ)
@@ -88,12 +90,12 @@ top_shaped ps base r leaves above top slots =
     }
 
 mutual
-  ideal_shaped : (ps : Pieces) (ref : Ref) (leaves : List PlacedLeaf) (above : ℕ) (rows : List ℕ)
+  pub ideal_shaped : (ps : Pieces) (ref : Ref) (leaves : List PlacedLeaf) (above : ℕ) (rows : List ℕ)
       → IsIdeal ps ref leaves above rows → Each (StandsShaped ps) rows
   ideal_shaped ps _ _ _ _ of_none = tt
   ideal_shaped ps _ _ _ _ (of_one same e) = tt
   ideal_shaped ps _ _ above _ (of_more {base = base} {leaves = leaves} {rows = rows} r top below) = (
-    record { row = r; published = top.published; shaped = top_shaped ps base r leaves above top (slots_of_parts ps r.slots (parts leaves) base rows below ∙ length-parts leaves) },
+    record { row = r; published = top.published; shaped = top_shaped ps base r leaves above top (slots_of_parts ps r.slots (parts leaves) base rows below ∙ length-parts leaves); untouched = top.status },
     parts_shaped ps r.slots (parts leaves) base rows below,
   )
 
@@ -108,12 +110,13 @@ length_unset : (n : ℕ) → length (replicate n unset_word) ≡ n
 length_unset zero = refl
 length_unset (suc n) = let rest = length_unset n in omega arith
 
-root_shaped : (ps : Pieces) (word k : ℕ) (leaves : List PlacedLeaf) (target : ℕ) (rows : List ℕ)
+-- so is each inner row of a root
+pub root_shaped : (ps : Pieces) (word k : ℕ) (leaves : List PlacedLeaf) (target : ℕ) (rows : List ℕ)
     → IsRoot ps word k leaves target rows → Each (StandsShaped ps) rows
 root_shaped ps word k leaves target rows (root_whole ref few e ideal) = ideal_shaped ps ref leaves target rows ideal
 root_shaped ps word k leaves target rows (root_top base row many e top unset one) =
     subst (λ bs. Each (StandsShaped ps) bs) (sym one)
-    (record { row = row; published = top.published; shaped = top_shaped ps base row leaves target top (ap length unset ∙ length_unset (degree (length leaves))) }, tt)
+    (record { row = row; published = top.published; shaped = top_shaped ps base row leaves target top (ap length unset ∙ length_unset (degree (length leaves))); untouched = top.status }, tt)
 
 tree_shaped : (ps : Pieces) (rows : List ℕ) (base : ℕ) (p : Piece) → Each (StandsShaped ps) rows
     → Among base rows → ps base ≡ Some p → IsShaped p

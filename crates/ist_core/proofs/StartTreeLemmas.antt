@@ -10,7 +10,7 @@ use Rattle.ist_core.specs.RowLayout.{first_row, place_limit, inner_words, anchor
 use Rattle.ist_core.specs.Shapes.{ideal_words}
 use Rattle.ist_core.specs.References.{Ref, InnerAt, IsGoodRef, ref_of, word_of}
 use Rattle.ist_core.specs.Elements.{Among, Distinct}
-use Rattle.ist_core.specs.Parts.{cut}
+use Rattle.ist_core.specs.Parts.{cut, parts}
 use Rattle.ist_core.specs.Pieces.{Pieces, Piece, Leaf, Inner, size_of, with_row}
 use Rattle.ist_core.specs.StartLayout.{start, tree_at, bases_from, placed_parts, top_row, rows_within, rows_from, pieces_of}
 use Rattle.ist_core.specs.Lawful.{CanOpen}
@@ -24,6 +24,7 @@ use Rattle.ist_core.proofs.PieceLemmas.{among-pieces_of}
 use Rattle.ist_core.proofs.StepLemmas.{known}
 use Rattle.ist_core.proofs.PlaceLemmas.{size_positive}
 use Rattle.ist_core.proofs.LayoutLemmas.{Fills, fills_within, fills_rows, among_part_lens}
+use Rattle.ist_core.proofs.SplitLemmas.{Splits, split_none, split_leaf, split_row, SplitAll, no_split, one_split}
 use Rattle.ist_core.proofs.NamingLemmas.{RowNames, SlotNames, WordsName}
 use Rattle.ist_core.proofs.TreeLemmas.{IsTree, AreTrees, tree_none, tree_leaf, tree_row, no_tree, one_tree, IsTreeRow, tree_rows, tree_slot}
 
@@ -77,18 +78,20 @@ between_once from to [] h = tt
 between_once from to (base ∷ bases) h = ((λ i. let low = between_above (base + 1) to base bases h.1 i in omega arith), between_once (base + 1) to bases h.1)
 
 -- a tree of these rows, which lie between the two places, hangs at the reference
-pub record HangsAs (ps : Pieces) (ref : Ref) (above : ℕ) (listed : List (ℕ × Piece)) (from to : ℕ) : Type 0 where
+pub record HangsAs (ps : Pieces) (ref : Ref) (pairs : List Pair) (above : ℕ) (listed : List (ℕ × Piece)) (from to : ℕ) : Type 0 where
   pub rows : List ℕ
   pub tree : IsTree ps ref above rows
   pub between : Between from rows to
   pub each : (base : ℕ) (p : Piece) → Among (base, p) listed → IsLeafRow p ⊎ Among base rows
+  pub splits : Splits (λ pair. pair.key) ps ref pairs rows
 
 -- trees of these rows hang at the words
-record HangAs (ps : Pieces) (words : List ℕ) (above : ℕ) (listed : List (ℕ × Piece)) (from to : ℕ) : Type 0 where
+record HangAs (ps : Pieces) (words : List ℕ) (behind : List (List Pair)) (above : ℕ) (listed : List (ℕ × Piece)) (from to : ℕ) : Type 0 where
   rows : List ℕ
   trees : AreTrees ps words above rows
   between : Between from rows to
   each : (base : ℕ) (p : Piece) → Among (base, p) listed → IsLeafRow p ⊎ Among base rows
+  splits : SplitAll (λ pair. pair.key) ps words behind rows
 
 -- a tree lies at a good base where it has a word
 tree_good : (base : ℕ) (pairs : List Pair) → GoodFrom base (ideal_words (length pairs))
@@ -110,11 +113,11 @@ module _ (ps : Pieces) where
   parts_hang : (fuel from above : ℕ) (ns : List ℕ) (xs : List Pair) → sum ns ≤ length xs
       → above < from → GoodFrom from (sum_by ideal_words ns)
       → Stand (flat_map (λ part. rows_within fuel part.0 part.1) (zip (bases_from from ns) (cut ns xs)))
-      → ((n base : ℕ) (part : List Pair) → Among n ns → length part ≡ n → above < base → GoodFrom base (ideal_words n) → Stand (rows_within fuel base part) → HangsAs ps (tree_at base part) above (rows_within fuel base part) base (base + ideal_words n))
+      → ((n base : ℕ) (part : List Pair) → Among n ns → length part ≡ n → above < base → GoodFrom base (ideal_words n) → Stand (rows_within fuel base part) → HangsAs ps (tree_at base part) part above (rows_within fuel base part) base (base + ideal_words n))
       → HangAs ps
-      (map (λ part. word_of (tree_at part.0 part.1)) (zip (bases_from from ns) (cut ns xs))) above
+      (map (λ part. word_of (tree_at part.0 part.1)) (zip (bases_from from ns) (cut ns xs))) (cut ns xs) above
       (flat_map (λ part. rows_within fuel part.0 part.1) (zip (bases_from from ns) (cut ns xs))) from (from + sum_by ideal_words ns)
-  parts_hang fuel from above [] xs fits higher good stand each = record { rows = []; trees = no_tree; between = omega arith; each = λ base p i. absurd i }
+  parts_hang fuel from above [] xs fits higher good stand each = record { rows = []; trees = no_tree; between = omega arith; each = λ base p i. absurd i; splits = no_split }
   parts_hang fuel from above (n ∷ ns) xs fits higher good stand each =
       let all = sum_by-cons (λ x. x) n ns in
       let words = sum_by-cons ideal_words n ns in
@@ -138,21 +141,23 @@ module _ (ps : Pieces) where
             (λ k. ⊎_elim (λ l. inl l) (λ l. inr (among_left base first.rows rest.rows l)) (first.each base p k))
             (λ k. ⊎_elim (λ l. inl l) (λ l. inr (among_right base first.rows rest.rows l)) (rest.each base p k))
             (among-append (base, p) here more i);
+        splits = one_split (tree_at from (take n xs)) (ref_of-word_of (tree_at from (take n xs)) (tree_good from (take n xs) (low, omega arith))) first.splits rest.splits;
       }
 
   -- the rows of a tree are one
   pub rows_hang : (fuel base above : ℕ) (pairs : List Pair) → length pairs ≤ fuel → above < base
       → GoodFrom base (ideal_words (length pairs)) → Stand (rows_within fuel base pairs)
-      → HangsAs ps (tree_at base pairs) above (rows_within fuel base pairs) base
+      → HangsAs ps (tree_at base pairs) pairs above (rows_within fuel base pairs) base
       (base + ideal_words (length pairs))
   unfolding rows_within
-  rows_hang fuel base above [] h higher good stand = record { rows = []; tree = tree_none; between = omega arith; each = λ b p i. absurd i }
+  rows_hang fuel base above [] h higher good stand = record { rows = []; tree = tree_none; between = omega arith; each = λ b p i. absurd i; splits = split_none }
   rows_hang fuel base above (pair ∷ []) h higher good stand =
       record {
         rows = [];
         tree = tree_leaf record { key = pair.key; value = pair.value } (stand base (Leaf record { key = pair.key; value = pair.value }) (inl refl));
         between = omega arith;
         each = λ b p i. ⊎_elim (λ e. inl (subst IsLeafRow (sym (ap (λ x. x.1) e)) (leaf_row _))) (λ n. absurd n) i;
+        splits = split_leaf record { key = pair.key; value = pair.value } (stand base (Leaf record { key = pair.key; value = pair.value }) (inl refl)) refl;
       }
   rows_hang zero base above (pair ∷ more ∷ pairs) h higher good stand = absurd (omega arith)
   rows_hang (suc fuel) base above (pair ∷ more ∷ pairs) h higher good stand =
@@ -169,24 +174,25 @@ module _ (ps : Pieces) where
       let it = among_part_lens n m i in
       let less = part_len-lt n it.0 (omega arith) in
       let is = it.1 in
-      subst (λ k. HangsAs ps (tree_at at part) base (rows_within fuel at part) at (at + ideal_words k)) e
+      subst (λ k. HangsAs ps (tree_at at part) part base (rows_within fuel at part) at (at + ideal_words k)) e
       (rows_hang fuel at base part (omega arith) deeper (subst (λ k. GoodFrom at (ideal_words k)) (sym e) ok) stands)) in
       let end : from + sum_by ideal_words (part_lens n) ≡ base + ideal_words n = omega arith in
-      top_hangs base above all higher below (stand base (top_row base all) (inl refl)) from (base + ideal_words n) (omega arith)
-      (subst (λ to. HangAs ps (map (λ part. word_of (tree_at part.0 part.1)) (placed_parts base all)) base below from to) end hang)
+      top_hangs base above all (omega arith) higher below (stand base (top_row base all) (inl refl)) from (base + ideal_words n) (omega arith)
+      (subst (λ to. HangAs ps (map (λ part. word_of (tree_at part.0 part.1)) (placed_parts base all)) (parts all) base below from to) end hang)
     where
-      top_hangs : (base above : ℕ) (all : List Pair) → above < base → (below : List (ℕ × Piece))
+      top_hangs : (base above : ℕ) (all : List Pair) → 2 ≤ length all → above < base → (below : List (ℕ × Piece))
           → ps base ≡ Some (top_row base all)
           → (from to : ℕ) → base + 1 ≤ from
           → HangAs ps
-          (map (λ part. word_of (tree_at part.0 part.1)) (placed_parts base all)) base below from to
-          → HangsAs ps (InnerAt base) above ((base, top_row base all) ∷ below) base to
-      top_hangs base above all higher below there from to behind hang =
+          (map (λ part. word_of (tree_at part.0 part.1)) (placed_parts base all)) (parts all) base below from to
+          → HangsAs ps (InnerAt base) all above ((base, top_row base all) ∷ below) base to
+      top_hangs base above all two higher below there from to behind hang =
           record {
             rows = base ∷ hang.rows;
             tree = tree_row _ there higher hang.trees;
             between = (omega arith, between_wider (base + 1) from to hang.rows behind hang.between);
             each = λ b p i. ⊎_elim (λ e. inr (inl (ap (λ x. x.0) e))) (λ k. ⊎_elim (λ l. inl l) (λ l. inr (inr l)) (hang.each b p k)) i;
+            splits = split_row _ there two refl hang.splits;
           }
 
 module _ (pairs : List Pair) (words : ℕ) (opens : CanOpen pairs words) where
@@ -201,7 +207,7 @@ module _ (pairs : List Pair) (words : ℕ) (opens : CanOpen pairs words) where
 
   -- a new table is one tree
   pub start_hangs : (above : ℕ) → above < first_row
-      → HangsAs (start pairs words).pieces (tree_at first_row pairs) above
+      → HangsAs (start pairs words).pieces (tree_at first_row pairs) pairs above
       (rows_from first_row pairs) first_row (first_row + ideal_words (length pairs))
   start_hangs above low = rows_hang (start pairs words).pieces (length pairs) first_row above pairs (omega arith) low start_good start_stands
 

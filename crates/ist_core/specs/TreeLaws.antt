@@ -1,13 +1,17 @@
 -- The laws over lawful logs that speak of the tree. `src/laws.rt` lists them.
-use Rattle.std.specs.Prelude.{◌≡◌, ℕ, ◌<◌, List, Some}
+use Rattle.std.specs.Prelude.{◌≡◌, ℕ, ◌<◌, List, map, Some}
+use Rattle.std.specs.List.Sorted.{IsStrictlyIncreasing}
 use Rattle.ist_core.specs.declared.pairs.Pair.{Pair}
+use Rattle.ist_core.specs.declared.states.LeafRow.{LeafRow}
 use Rattle.ist_core.specs.declared.states.InnerRow.{InnerRow}
-use Rattle.ist_core.specs.References.{ref_of}
-use Rattle.ist_core.specs.Pieces.{Inner}
+use Rattle.ist_core.specs.References.{LeafAt, InnerAt, ref_of}
+use Rattle.ist_core.specs.Pieces.{Leaf, Inner}
+use Rattle.ist_core.specs.Leaves.{PlacedLeaf, HasLeaves, HasContents}
+use Rattle.ist_core.specs.Rebuilding.{IsFinishedWith}
 use Rattle.ist_core.specs.Logs.{Log, GoesOn}
-use Rattle.ist_core.specs.Slots.{SlotHolds, past_rebuild, logical}
+use Rattle.ist_core.specs.Slots.{SlotHolds, IsChildFor, past_rebuild, logical}
 use Rattle.ist_core.specs.Naming.{NamesRow, HasDegree}
-use Rattle.ist_core.specs.Links.{IsChild}
+use Rattle.ist_core.specs.Links.{IsChild, Linked, Leads}
 use Rattle.ist_core.specs.Marking.{IsFrozen}
 use Rattle.ist_core.specs.Lawful.{Lawful, state_of}
 use Rattle.ist_core.specs.Freezing.{IsClosedOver}
@@ -33,6 +37,46 @@ abbrev pub ChildrenLieAbove : Type 0
 ChildrenLieAbove =
     (pairs : List Pair) (words : ℕ) (log : Log) → Lawful pairs words log → (node i child : ℕ)
     → IsChild (state_of pairs words log) node i child → node < child
+
+-- the keys of each published inner row rise
+abbrev pub KeysRise : Type 0
+KeysRise =
+    (pairs : List Pair) (words : ℕ) (log : Log) → Lawful pairs words log → (node : ℕ) (row : InnerRow)
+    → (state_of pairs words log).pieces node ≡ Some (Inner row) → IsStrictlyIncreasing row.keys
+
+-- a leaf that a slot of a linked node reads as lies where its key leads: each row on the way from the anchor leads on by the
+-- child for the key, and so does the node
+abbrev pub LeavesLieByKey : Type 0
+LeavesLieByKey =
+    (pairs : List Pair) (words : ℕ) (log : Log) → Lawful pairs words log → (node i word leaf : ℕ) (row : LeafRow)
+    → Linked (state_of pairs words log) node → SlotHolds (state_of pairs words log) node i word
+    → logical (state_of pairs words log).pieces word ≡ Some (LeafAt leaf)
+    → (state_of pairs words log).pieces leaf ≡ Some (Leaf row)
+    → Leads (state_of pairs words log) row.key node × IsChildFor (state_of pairs words log) node row.key i
+
+-- the leaves below a slot, of a linked node or not, rise by key
+abbrev pub LeavesRise : Type 0
+LeavesRise =
+    (pairs : List Pair) (words : ℕ) (log : Log) → Lawful pairs words log → (node i word : ℕ) (leaves : List PlacedLeaf)
+    → SlotHolds (state_of pairs words log) node i word
+    → HasLeaves (state_of pairs words log).pieces (logical (state_of pairs words log).pieces word) leaves
+    → IsStrictlyIncreasing (map (λ leaf. leaf.row.key) leaves)
+
+-- so do the contents of the table
+abbrev pub ContentsRise : Type 0
+ContentsRise =
+    (pairs : List Pair) (words : ℕ) (log : Log) → Lawful pairs words log → (contents : List Pair)
+    → HasContents (state_of pairs words log) contents → IsStrictlyIncreasing (map (λ pair. pair.key) contents)
+
+-- ---- finished rows
+
+-- the leaves below a finished row stay, behind any log that goes on from this one
+abbrev pub FinishedLeavesStay : Type 0
+FinishedLeavesStay =
+    (pairs : List Pair) (words : ℕ) (earlier log : Log) → Lawful pairs words log → GoesOn earlier log
+    → (node k : ℕ) (leaves : List PlacedLeaf) → IsFinishedWith (state_of pairs words earlier) node k
+    → HasLeaves (state_of pairs words earlier).pieces (Some (InnerAt node)) leaves
+    → HasLeaves (state_of pairs words log).pieces (Some (InnerAt node)) leaves
 
 -- ---- one parent
 

@@ -12,6 +12,7 @@ ghost use Rattle.ist_core.specs.Laws.{HeldRowsAreUnpublished, RowsAreHeldOnce, L
 ghost use Rattle.ist_core.specs.Laws.{CountsAreFew, CountsAreLow, DrawsAreFew, CallersAreFew};
 ghost use Rattle.ist_core.specs.ImageLaws.{WordsAreFound, OneWordIsWritten, SlotsStandInTheImage};
 ghost use Rattle.ist_core.specs.TreeLaws.{SlotsNameRows, RowsHaveTheirDegree};
+ghost use Rattle.ist_core.specs.TreeLaws.{KeysRise, LeavesLieByKey, LeavesRise, ContentsRise, FinishedLeavesStay};
 ghost use Rattle.ist_core.specs.TreeLaws.{ChildrenLieAbove, ParentsAreOne, FrozenSlotsRead, FrozenSlotsKeep, PassesAgree};
 
 /// A snapshot is shown by one state, and a state shows the rows of one snapshot.
@@ -91,6 +92,21 @@ pub fn words_name_rows()
 /// An inner child's base is above its parent's, so that a way down the tree ends.
 pub fn children_lie_above()
     ensures above { ChildrenLieAbove }
+{}
+
+/// The keys of an inner row rise, and each leaf lies where its key leads, so that a search by the
+/// child for a key comes to the leaf of the key. So the leaves below each slot rise by key, and the
+/// contents of the table too.
+pub fn leaves_lie_by_key()
+    ensures keys { KeysRise }
+    ensures leaves { LeavesLieByKey }
+    ensures below { LeavesRise }
+    ensures contents { ContentsRise }
+{}
+
+/// The leaves below a finished row are the same for good.
+pub fn finished_leaves_stay()
+    ensures stay { FinishedLeavesStay }
 {}
 
 /// An inner row is the logical child of one slot only, ever, whatever changes and rebuilds come.

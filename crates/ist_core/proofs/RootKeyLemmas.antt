@@ -1,0 +1,274 @@
+-- The keys of a rebuild's root are the first keys of the parts of its target's leaves. Serves the order law at a Place.
+use Rattle.std.proofs.Common.{◌≡◌, ◌≢◌, ℕ, zero, suc, ◌≤◌, nat_lt, if◌then◌else◌, true, false, List, [], ◌∷◌, length, drop, Option, Some, refl, sym, ap, ◌∙◌, subst, inl, inr, ⊎_elim}
+use Rattle.ist_core.specs.declared.pairs.Pair.{Pair}
+use Rattle.ist_core.specs.declared.lists.Row.{Row}
+use Rattle.ist_core.specs.declared.states.InnerRow.{InnerRow}
+use Rattle.ist_core.specs.declared.states.ChangeRow.{ChangeRow}
+use Rattle.ist_core.specs.declared.states.RebuildRow.{RebuildRow}
+use Rattle.ist_core.specs.declared.events.Event.{Event}
+use Rattle.ist_core.specs.declared.events.Event.TheVariants.{Enter, Reserve, Install, Okay, Decide, Resolve, Count, Mark, Pass, Finish, Root, Draw, Place, Lose}
+use Rattle.ist_core.specs.RowLayout.{first_row}
+use Rattle.ist_core.specs.References.{Ref, Unset, InnerAt, ref_of, unset_word}
+use Rattle.ist_core.specs.Statuses.{marked_word, finished_word}
+use Rattle.ist_core.specs.Elements.{Each}
+use Rattle.ist_core.specs.Parts.{parts, first_keys}
+use Rattle.ist_core.specs.Pieces.{Pieces, Piece, Leaf, Inner, Change, Rebuild, with_inners, changed_at, with_slot, with_status, counted, with_decision, with_root, drawn}
+use Rattle.ist_core.specs.Snapshots.{Snapshot, bases_of}
+use Rattle.ist_core.specs.StartLayout.{start, placed_parts, rows_within, rows_from}
+use Rattle.ist_core.specs.Logs.{Log}
+use Rattle.ist_core.specs.Leaves.{PlacedLeaf, HasLeaves}
+use Rattle.ist_core.specs.Ideals.{IsTop, IsIdeal, of_none, of_one, of_more}
+use Rattle.ist_core.specs.Installing.{pair_row, pair_over, FitsKind, a_put, a_pair, a_remove, a_start, a_finish}
+use Rattle.ist_core.specs.Building.{IsRoot, root_whole, root_top}
+use Rattle.ist_core.specs.Growing.{AllGrow}
+use Rattle.ist_core.specs.Lawful.{EachEnabled, CanOpen, state_of}
+use Rattle.ist_core.proofs.ElementLemmas.{each-among}
+use Rattle.ist_core.proofs.RowLemmas.{changed_at-some}
+use Rattle.ist_core.proofs.PieceLemmas.{among-pieces_of}
+use Rattle.ist_core.proofs.ReferenceLemmas.{ref_of-unset}
+use Rattle.ist_core.proofs.SoundLemmas.{sound}
+use Rattle.ist_core.proofs.StartLemmas.{sound_start}
+use Rattle.ist_core.proofs.AddingLemmas.{IsInstalled, adds-with_inners}
+use Rattle.ist_core.proofs.GrowingLemmas.{inner_there, rebuild_there}
+use Rattle.ist_core.proofs.StepLemmas.{grow_step}
+use Rattle.ist_core.proofs.PlaceLemmas.{one_piece}
+use Rattle.ist_core.proofs.SlotLemmas.{same_inner}
+use Rattle.ist_core.proofs.NamingLemmas.{InnerHere, RootNames}
+use Rattle.ist_core.proofs.NamingStepLemmas.{changed_at-fixed}
+use Rattle.ist_core.proofs.OrderLemmas.{names}
+use Rattle.ist_core.proofs.ShapedLemmas.{each-flat_map}
+use Rattle.ist_core.proofs.FieldLemmas.{IsPlainEvent, IsRare, Has, has_changed, has_rooted, has_step}
+use Rattle.ist_core.proofs.DrawLemmas.{finished_grows, same_rebuild}
+use Rattle.ist_core.proofs.SplitLemmas.{key_of_leaf}
+use Rattle.ist_core.proofs.KeepingLemmas.{IsFinished, leaves_kept}
+
+-- ---- which event gives a rebuild its root
+
+-- the word of a rebuild's root, and Unset of other rows
+abbrev root_in : Piece → ℕ
+root_in (Rebuild r) = r.root
+root_in _ = unset_word
+
+pair_rootless : (key base other_key other : ℕ)
+    → root_in (pair_row key base other_key other) ≡ unset_word
+pair_rootless key base other_key other =
+    elim (nat_lt other_key key) as (λ v. root_in (if v then pair_over key other base else pair_over other_key base other) ≡ unset_word) [ true ↦ refl | false ↦ refl ]
+
+installed_rootless : (first : Snapshot) (log : Log) (at : ℕ) (change : ChangeRow) (fresh : List Row) (fits : FitsKind first log change fresh) (base : ℕ) (p : Piece)
+    → IsInstalled first log at change fresh fits base p → root_in p ≡ unset_word
+installed_rootless first log at change fresh fits base p (inl h) = ap root_in h.1
+installed_rootless first log at change fresh (a_put f) base p (inr h) = ap root_in h.1
+installed_rootless first log at change fresh (a_pair f) base p (inr (inl h)) = ap root_in h.1 ∙ pair_rootless change.key f.leaf f.other_key f.other
+installed_rootless first log at change fresh (a_pair f) base p (inr (inr h)) = ap root_in h.1
+installed_rootless first log at change fresh (a_remove f) base p (inr h) = absurd h
+installed_rootless first log at change fresh (a_start f) base p (inr h) = ap root_in h.1
+installed_rootless first log at change fresh (a_finish f) base p (inr h) = absurd h
+
+slot_same : (i word : ℕ) (p : Piece) → root_in (with_slot i word p) ≡ root_in p
+slot_same i word (Inner r) = refl
+slot_same i word (Leaf r) = refl
+slot_same i word (Change r) = refl
+slot_same i word (Rebuild r) = refl
+
+decision_same : (word : ℕ) (p : Piece) → root_in (with_decision word p) ≡ root_in p
+decision_same word (Inner r) = refl
+decision_same word (Leaf r) = refl
+decision_same word (Change r) = refl
+decision_same word (Rebuild r) = refl
+
+count_same : (p : Piece) → root_in (counted p) ≡ root_in p
+count_same (Inner r) = refl
+count_same (Leaf r) = refl
+count_same (Change r) = refl
+count_same (Rebuild r) = refl
+
+draw_same : (p : Piece) → root_in (drawn p) ≡ root_in p
+draw_same (Inner r) = refl
+draw_same (Leaf r) = refl
+draw_same (Change r) = refl
+draw_same (Rebuild r) = refl
+
+status_same : (word : ℕ) (p : Piece) → root_in (with_status word p) ≡ root_in p
+status_same word (Inner r) = refl
+status_same word (Leaf r) = refl
+status_same word (Change r) = refl
+status_same word (Rebuild r) = refl
+
+root_rare : IsRare root_in unset_word
+root_rare = record { slot = slot_same; decision = decision_same; count = count_same; draw = draw_same; inner = λ r e. refl; install = installed_rootless }
+
+start_rootless : (fuel base : ℕ) (pairs : List Pair)
+    → Each (λ row. root_in row.1 ≡ unset_word) (rows_within fuel base pairs)
+unfolding rows_within
+start_rootless fuel base [] = tt
+start_rootless fuel base (pair ∷ []) = (refl, tt)
+start_rootless zero base (pair ∷ more ∷ pairs) = tt
+start_rootless (suc fuel) base (pair ∷ more ∷ pairs) =
+    (refl, each-flat_map (λ row. root_in row.1 ≡ unset_word) (λ part. rows_within fuel part.0 part.1) (placed_parts base (pair ∷ more ∷ pairs)) (λ part. start_rootless fuel part.0 part.1))
+
+-- ---- the keys of a root
+
+-- the target is finished, and the keys of the row are the first keys of the parts of its leaves but the first
+pub record IsCutBy (t : Snapshot) (target : ℕ) (r : InnerRow) : Type 0 where
+  pub finished : IsFinished t target
+  pub leaves : List PlacedLeaf
+  pub reached : HasLeaves t.pieces (Some (InnerAt target)) leaves
+  pub two : 2 ≤ length leaves
+  pub keys : r.keys ≡ first_keys key_of_leaf (drop 1 (parts leaves))
+
+-- each root that is an inner row is such
+abbrev pub RootsAreCut : Snapshot → Type 0
+RootsAreCut t =
+    (base : ℕ) (row : RebuildRow) (root : ℕ) (r : InnerRow) → t.pieces base ≡ Some (Rebuild row)
+    → ref_of row.root ≡ Some (InnerAt root) → t.pieces root ≡ Some (Inner r) → IsCutBy t row.target r
+
+-- a root that names an inner row isn't Unset
+root_set : (word root : ℕ) → ref_of word ≡ Some (InnerAt root) → word ≢ unset_word
+root_set word root e f = clash (ref_of word) e (ap ref_of f ∙ ref_of-unset)
+  where
+    clash : (o : Option Ref) → o ≡ Some (InnerAt root) → o ≡ Some Unset → ⊥
+    clash o a b = cc
+
+-- the top row of a root
+top_of : (ps : Pieces) (word k : ℕ) (leaves : List PlacedLeaf) (target : ℕ) (rows : List ℕ)
+    → IsRoot ps word k leaves target rows → (root : ℕ) → ref_of word ≡ Some (InnerAt root)
+    → (r : InnerRow) × IsTop ps root r leaves target
+top_of ps word k leaves target rows (root_whole ref few e ideal) root is = at ref leaves rows ideal (same (ref_of word) ref (InnerAt root) e is)
+  where
+    same : (o : Option Ref) (a b : Ref) → o ≡ Some a → o ≡ Some b → a ≡ b
+    same o a b h k = cc
+
+    at : (ref : Ref) (leaves : List PlacedLeaf) (rows : List ℕ) → IsIdeal ps ref leaves target rows
+        → ref ≡ InnerAt root → (r : InnerRow) × IsTop ps root r leaves target
+    at _ _ _ of_none e = absurd (cc)
+    at _ _ _ (of_one f g) e = absurd (cc)
+    at _ leaves _ (of_more {base = base} r top below) e = let here : base ≡ root = cc in (r, subst (λ b. IsTop ps b r leaves target) here top)
+top_of ps word k leaves target rows (root_top base row many e top unset one) root is = (row, subst (λ b. IsTop ps b row leaves target) (same (ref_of word) base root e is) top)
+  where
+    same : (o : Option Ref) (a b : ℕ) → o ≡ Some (InnerAt a) → o ≡ Some (InnerAt b) → a ≡ b
+    same o a b h k = cc
+
+module _ (pairs : List Pair) (words : ℕ) (opens : CanOpen pairs words) where
+  step_grows : (log : Log) (event : Event) → EachEnabled (start pairs words) (event ∷ log)
+      → AllGrow (state_of pairs words log).pieces (state_of pairs words (event ∷ log)).pieces
+  step_grows log event h = grow_step (start pairs words) log event h.1 (sound (start pairs words) log (sound_start pairs words) h.0)
+
+  -- the cut stays
+  cut_stays : (log : Log) (event : Event) → EachEnabled (start pairs words) (event ∷ log)
+      → (target : ℕ) (r s : InnerRow) → s.keys ≡ r.keys
+      → IsCutBy (state_of pairs words log) target r
+      → IsCutBy (state_of pairs words (event ∷ log)) target s
+  cut_stays log event h target r s keys cut =
+      record {
+        finished = (cut.finished.0, finished_grows (state_of pairs words log) (state_of pairs words (event ∷ log)) target cut.finished.0 (step_grows log event h) cut.finished.1);
+        leaves = cut.leaves;
+        reached = leaves_kept pairs words opens log event h target cut.leaves cut.finished cut.reached;
+        two = cut.two;
+        keys = keys ∙ cut.keys;
+      }
+
+  -- a root that was set before
+  old_root : (log : Log) (event : Event) → EachEnabled (start pairs words) (event ∷ log)
+      → RootsAreCut (state_of pairs words log) → (base : ℕ) (row : RebuildRow) (root : ℕ) (r : InnerRow)
+      → (state_of pairs words (event ∷ log)).pieces base ≡ Some (Rebuild row)
+      → ref_of row.root ≡ Some (InnerAt root)
+      → (state_of pairs words (event ∷ log)).pieces root ≡ Some (Inner r)
+      → Has root_in unset_word root_rare (state_of pairs words log).pieces base row.root
+      → IsCutBy (state_of pairs words (event ∷ log)) row.target r
+  old_root log event h cut base row root r there is published has = at has.0 has.1 has.2
+    where
+      t : Snapshot
+      t = state_of pairs words log
+
+      u : Snapshot
+      u = state_of pairs words (event ∷ log)
+
+      inner_root : (ref : Option Ref) (target : ℕ) → ref ≡ Some (InnerAt root)
+          → RootNames t.pieces target ref → InnerHere t.pieces root
+      inner_root ref target e n = let it : RootNames t.pieces target (Some (InnerAt root)) = subst (λ x. RootNames t.pieces target x) e n in it.1
+
+      at : (p : Piece) → t.pieces base ≡ Some p → root_in p ≡ row.root → IsCutBy u row.target r
+      at (Rebuild q) e same =
+          let g = step_grows log event h in
+          let it = rebuild_there t.pieces u.pieces g base q e in
+          let now = same_rebuild (u.pieces base) it.0 row it.1 there in
+          let names_root = ap ref_of same ∙ is in
+          let old = inner_root (ref_of q.root) q.target names_root ((names pairs words opens log h.0).rows base (Rebuild q) e).2 in
+          let grown = inner_there t.pieces u.pieces g root old.0 old.1 in
+          let known = same_inner (u.pieces root) grown.0 r grown.1 published in
+          subst (λ n. IsCutBy u n r) (sym it.2.target ∙ ap (λ x. x.target) now)
+          (cut_stays log event h q.target old.0 r (ap (λ x. x.keys) (sym known) ∙ grown.2.keys) (cut base q root old.0 e names_root old.1))
+      at (Leaf q) e same = absurd (root_set row.root root is (sym same))
+      at (Inner q) e same = absurd (root_set row.root root is (sym same))
+      at (Change q) e same = absurd (root_set row.root root is (sym same))
+
+  -- behind a Root
+  new_root : (log : Log) (caller rebuild word : ℕ) (rows : List Row)
+      (h : EachEnabled (start pairs words) (Root caller rebuild word rows ∷ log)) (root : ℕ) (r : InnerRow)
+      → ref_of word ≡ Some (InnerAt root)
+      → (state_of pairs words (Root caller rebuild word rows ∷ log)).pieces root ≡ Some (Inner r)
+      → IsCutBy (state_of pairs words (Root caller rebuild word rows ∷ log)) h.1.row.target r
+  new_root log caller rebuild word rows h root r is published =
+      let can = h.1 in
+      let t = state_of pairs words log in
+      let qs = with_inners t.pieces rows in
+      let top = top_of qs word can.k can.leaves can.row.target (bases_of rows) can.root root is in
+      let stands = changed_at-fixed qs rebuild root (with_root word) (Inner top.0) top.1.published refl in
+      let same = same_inner (changed_at qs rebuild (with_root word) root) top.0 r stands published in
+      cut_stays log (Root caller rebuild word rows) h can.row.target top.0 r (ap (λ x. x.keys) (sym same))
+      record { finished = (can.k, can.finished); leaves = can.leaves; reached = can.reached; two = top.1.two; keys = top.1.keys }
+
+  -- behind an event that gives no root
+  by_step : (log : Log) (event : Event) → (h : EachEnabled (start pairs words) (event ∷ log))
+      → IsPlainEvent event → RootsAreCut (state_of pairs words log)
+      → RootsAreCut (state_of pairs words (event ∷ log))
+  by_step log event h plain cut base row root r there is published =
+      old_root log event h cut base row root r there is published
+      (has_step root_in unset_word root_rare (start pairs words) log event h.1 (sound (start pairs words) log (sound_start pairs words) h.0) plain base row.root (root_set row.root root is) (Rebuild row, there, refl))
+
+  cut_step : (log : Log) (event : Event) → EachEnabled (start pairs words) (event ∷ log)
+      → RootsAreCut (state_of pairs words log) → RootsAreCut (state_of pairs words (event ∷ log))
+  cut_step log (Mark caller node) h cut base row root r there is published =
+      old_root log (Mark caller node) h cut base row root r there is published
+      (has_changed root_in unset_word root_rare (state_of pairs words log).pieces node (with_status marked_word) (status_same marked_word) base row.root (Rebuild row, there, refl))
+  cut_step log (Finish caller node keys) h cut base row root r there is published =
+      old_root log (Finish caller node keys) h cut base row root r there is published
+      (has_changed root_in unset_word root_rare (state_of pairs words log).pieces node (with_status (finished_word keys)) (status_same (finished_word keys)) base row.root (Rebuild row, there, refl))
+  cut_step log (Root caller rebuild word rows) h cut base row root r there is published =
+      let t = state_of pairs words log in
+      let qs = with_inners t.pieces rows in
+      let s = sound (start pairs words) log (sound_start pairs words) h.0 in
+      let it = changed_at-some qs rebuild base (with_root word) (Rebuild row) there in
+      ⊎_elim
+      (λ same.
+      old_root log (Root caller rebuild word rows) h cut base row root r there is published
+      (has_rooted root_in unset_word root_rare t caller rebuild word rows h.1 s base row.root (root_set row.root root is) (it.0, it.1, ap root_in (sym same))))
+      (λ new.
+      let stood = (adds-with_inners t caller rows h.1.held s).keeps rebuild (Rebuild h.1.row) h.1.published in
+      let old = one_piece (qs rebuild) it.0 (Rebuild h.1.row) (subst (λ b. qs b ≡ Some it.0) new.0 it.1) stood in
+      let row_is : row ≡ record h.1.row { root = word } = rebuild_is row (record h.1.row { root = word }) (new.1 ∙ ap (with_root word) old) in
+      subst (λ n. IsCutBy (state_of pairs words (Root caller rebuild word rows ∷ log)) n r) (sym (ap (λ x. x.target) row_is))
+      (new_root log caller rebuild word rows h root r (ap (λ x. ref_of x.root) (sym row_is) ∙ is) published))
+      it.2
+    where
+      rebuild_is : (x y : RebuildRow) → Rebuild x ≡ Rebuild y → x ≡ y
+      rebuild_is x y e = cc
+  cut_step log (Install caller change rows) h cut base row root r there is published = by_step log (Install caller change rows) h tt cut base row root r there is published
+  cut_step log (Decide caller change said) h cut base row root r there is published = by_step log (Decide caller change said) h tt cut base row root r there is published
+  cut_step log (Resolve caller change) h cut base row root r there is published = by_step log (Resolve caller change) h tt cut base row root r there is published
+  cut_step log (Count caller node) h cut base row root r there is published = by_step log (Count caller node) h tt cut base row root r there is published
+  cut_step log (Draw caller rebuild part) h cut base row root r there is published = by_step log (Draw caller rebuild part) h tt cut base row root r there is published
+  cut_step log (Place caller rebuild i word rows) h cut base row root r there is published = by_step log (Place caller rebuild i word rows) h tt cut base row root r there is published
+  cut_step log (Enter caller) h cut base row root r there is published = by_step log (Enter caller) h tt cut base row root r there is published
+  cut_step log (Reserve caller b size) h cut base row root r there is published = by_step log (Reserve caller b size) h tt cut base row root r there is published
+  cut_step log (Okay caller change) h cut base row root r there is published = by_step log (Okay caller change) h tt cut base row root r there is published
+  cut_step log (Pass caller node i word) h cut base row root r there is published = by_step log (Pass caller node i word) h tt cut base row root r there is published
+  cut_step log (Lose caller bases) h cut base row root r there is published = by_step log (Lose caller bases) h tt cut base row root r there is published
+
+  -- the keys of each root are the first keys of the parts of its target's leaves
+  pub roots_are_cut : (log : Log) → EachEnabled (start pairs words) log
+      → RootsAreCut (state_of pairs words log)
+  roots_are_cut [] h base row root r there is published =
+      let none = each-among (λ x. root_in x.1 ≡ unset_word) (base, Rebuild row) (rows_from first_row pairs) (start_rootless (length pairs) first_row pairs) (among-pieces_of (rows_from first_row pairs) base (Rebuild row) there) in
+      absurd (root_set row.root root is none)
+  roots_are_cut (event ∷ log) h base row root r there is published = cut_step log event h (roots_are_cut log h.0) base row root r there is published

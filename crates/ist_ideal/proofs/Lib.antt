@@ -1,0 +1,5 @@
+pub mod GatherLemmas
+pub mod PartCutLemmas
+pub mod TopLemmas
+pub mod BuiltLemmas
+pub mod RootLemmas

@@ -1,0 +1,15 @@
+pub mod StartingLemmas
+pub mod RebuiltLemmas
+pub mod NewTreeLemmas
+pub mod UnlinkedLemmas
+pub mod BuiltLemmas
+pub mod WholeLemmas
+pub mod IdealLeafLemmas
+pub mod ReplacingLemmas
+pub mod KeepingContentLemmas
+pub mod NumberLemmas
+pub mod ReturnLemmas
+pub mod ReplacedLemmas
+pub mod CalledLemmas
+pub mod RestLemmas
+pub mod LowLemmas

@@ -1,0 +1,50 @@
+//! Laws over lawful logs. The functions take no steps and answer nothing: contracts are laws.
+ghost use Rattle.ist_rebuilds.specs.Returning.{UnlinkedRowsStayOut};
+ghost use Rattle.ist_rebuilds.specs.Replacing.{StartedRebuildsStand, ReplacedRebuildsAreGone, ReplacedTargetsAreOut, RootsComeLate};
+ghost use Rattle.ist_rebuilds.specs.Replacing.{RootsAreIdeal, UpdatesAloneChange, NumbersCountLeaves};
+ghost use Rattle.ist_rebuilds.specs.Drawing.{TargetsAreSmall, DrawsStayLow};
+ghost use Rattle.ist_rebuilds.specs.Opening.{RowsAreOpenAtRest};
+
+/// A row that was linked and isn't any more is never linked again: no change brings it back.
+pub fn unlinked_rows_stay_out()
+    ensures out { UnlinkedRowsStayOut }
+{}
+
+/// A started rebuild stands in its slot until it is replaced, and never again then; its target isn't
+/// linked from then on. A rebuild gets its root once its target is finished.
+pub fn rebuilds_stand()
+    ensures stand { StartedRebuildsStand }
+    ensures gone { ReplacedRebuildsAreGone }
+    ensures out { ReplacedTargetsAreOut }
+    ensures rooted { RootsComeLate }
+{}
+
+/// Where a finish is decided yes, the root that it puts into its slot is the ideal subtree over
+/// exactly the leaves below the target, whose inner rows lie above the target.
+pub fn roots_are_ideal()
+    ensures ideal { RootsAreIdeal }
+{}
+
+/// Only a Decide with yes of a put or remove changes the contents: behind any other event, a rebuild's
+/// among them, the same pairs are reached from the anchor.
+pub fn updates_alone_change()
+    ensures kept { UpdatesAloneChange }
+{}
+
+/// The number with which a row is finished is the number of leaves below it.
+pub fn numbers_count_leaves()
+    ensures number { NumbersCountLeaves }
+{}
+
+/// A target has fewer leaves than a table has places, since they share no word; so the draw word of its
+/// rebuild stays far below where it would wrap.
+pub fn draws_stay_low()
+    ensures small { TargetsAreSmall }
+    ensures low { DrawsStayLow }
+{}
+
+/// Where each started rebuild was replaced, or hangs in a node that isn't open, no linked row is marked
+/// or finished.
+pub fn rows_are_open_at_rest()
+    ensures all_open { RowsAreOpenAtRest }
+{}
