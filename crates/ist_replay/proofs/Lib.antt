@@ -1,0 +1,3 @@
+pub mod WriteLemmas
+pub mod PublishLemmas
+pub mod FreshLemmas
