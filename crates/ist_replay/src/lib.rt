@@ -4,11 +4,13 @@
 //! and `ist_ideal`.
 #![tactic(auto)]
 
+mod advancing;
 mod holding;
 mod installing;
 mod publishing;
 mod writes;
 
+pub use advancing::advance;
 pub use holding::{give_up, give_up_rows};
 pub use installing::install;
 pub use publishing::{put_as_inner, put_as_leaf, put_as_rebuild, put_change, put_inners};
