@@ -1,0 +1,77 @@
+//! Laws over lawful logs. The functions take no steps and answer nothing: contracts are laws.
+ghost use Rattle.ist_histories.specs.Telling.{TreeGivesTheMap, ContentsAreThePairs, PairsRise, ChangesAreLegal};
+ghost use Rattle.ist_histories.specs.Telling.{UpdatesHaveEntries, EntriesAreUpdates, EntriesAreOnce, EntriesAreOfOne, EntriesChangeTheMap};
+ghost use Rattle.ist_histories.specs.Calls.{ChangesGoOn, CallsStandOn, ReadingsStand, UpdatesStand};
+ghost use Rattle.ist_histories.specs.Weaving.{WovenIsLegal, WovenHasEachCall, TakenBackIsLegal, LearntCallsComeFirst};
+ghost use Rattle.ist_histories.specs.Loads.{WordsStandInTheImage, WordsAreOne, WordsLieInNoOtherRow};
+ghost use Rattle.ist_histories.specs.Searching.{SearchesHaveAPosition, SearchesStand, SlotLoadsHold, NodesWereMet, LooksGoUp};
+
+/// The changes of a log are what happened to the map. Behind them the tree gives each key what the
+/// map has, and the contents are the pairs of the map, rising by key; and each change has the reply
+/// of the map at its place.
+pub fn changes_are_told()
+    ensures gives { TreeGivesTheMap }
+    ensures contents { ContentsAreThePairs }
+    ensures rising { PairsRise }
+    ensures legal { ChangesAreLegal }
+{}
+
+/// Each put or remove that was decided yes is exactly one of the changes, with its owner, its
+/// command, and the reply that is read from its row; and the changes are only these.
+pub fn updates_are_entries()
+    ensures entry { UpdatesHaveEntries }
+    ensures update { EntriesAreUpdates }
+    ensures once { EntriesAreOnce }
+    ensures of_one { EntriesAreOfOne }
+    ensures change { EntriesChangeTheMap }
+{}
+
+/// The changes of a log stand at the front of those of each log that goes on from it; and calls
+/// that stand in it stand there too, where their pass made no entry meanwhile.
+pub fn calls_stand_on()
+    ensures front { ChangesGoOn }
+    ensures stand { CallsStandOn }
+{}
+
+/// What a call adds to the calls of its pass. A get, and a remove that found nothing, stands at any
+/// fresh position at which the map replies so. A put, and a remove that took a value away, stands
+/// at its entry, which its change made when it was decided yes, and is fresh.
+pub fn calls_are_added()
+    ensures reading { ReadingsStand }
+    ensures update { UpdatesStand }
+{}
+
+/// The table has one word at each place of a published row and in the anchor's slot; it stands there
+/// in the image, and in no row that is held or was lost.
+pub fn words_are_told()
+    ensures image { WordsStandInTheImage }
+    ensures one { WordsAreOne }
+    ensures elsewhere { WordsLieInNoOtherRow }
+{}
+
+/// A search that began at the anchor, and loaded each slot at a moment of its own, has the reply of
+/// the map behind some number of changes, no fewer than there were when it began; so that its call
+/// stands behind those of its pass, and is fresh.
+pub fn searches_have_a_position()
+    ensures position { SearchesHaveAPosition }
+    ensures stand { SearchesStand }
+{}
+
+/// Each node to which a search comes was linked and led to by its key, and stands published. The
+/// word that was loaded from its slot is what the slot held, and the next node has a greater base,
+/// so that the search ends.
+pub fn searches_go_up()
+    ensures met { NodesWereMet }
+    ensures held { SlotLoadsHold }
+    ensures up { LooksGoUp }
+{}
+
+/// Calls of some passes, each standing in a prefix of one lawful log, are woven into one legal
+/// history, which has each change and each other call once. A call that a pass has learnt of has no
+/// later place than a call that is fresh.
+pub fn calls_are_woven()
+    ensures woven { WovenIsLegal }
+    ensures once { WovenHasEachCall }
+    ensures taken_back { TakenBackIsLegal }
+    ensures learnt { LearntCallsComeFirst }
+{}
