@@ -7,7 +7,11 @@ pub mod WholeLemmas
 pub mod IdealLeafLemmas
 pub mod ReplacingLemmas
 pub mod KeepingContentLemmas
+pub mod ExistLemmas
+pub mod ContentLemmas
 pub mod NumberLemmas
+pub mod FewLeafLemmas
+pub mod FinishedLeafLemmas
 pub mod ReturnLemmas
 pub mod ReplacedLemmas
 pub mod CalledLemmas

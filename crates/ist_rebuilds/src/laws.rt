@@ -1,8 +1,13 @@
 //! Laws over lawful logs. The functions take no steps and answer nothing: contracts are laws.
 ghost use Rattle.ist_rebuilds.specs.Returning.{UnlinkedRowsStayOut};
-ghost use Rattle.ist_rebuilds.specs.Replacing.{StartedRebuildsStand, ReplacedRebuildsAreGone, ReplacedTargetsAreOut, RootsComeLate};
-ghost use Rattle.ist_rebuilds.specs.Replacing.{RootsAreIdeal, UpdatesAloneChange, NumbersCountLeaves};
-ghost use Rattle.ist_rebuilds.specs.Drawing.{TargetsAreSmall, DrawsStayLow};
+ghost use Rattle.ist_rebuilds.specs.Replacing.{StartedRebuildsStand, ReplacedRebuildsAreGone};
+ghost use Rattle.ist_rebuilds.specs.Replacing.{ReplacedTargetsAreOut, RootsComeLate};
+ghost use Rattle.ist_rebuilds.specs.Replacing.{RootsAreIdeal};
+ghost use Rattle.ist_rebuilds.specs.Replacing.{FinishedRowsHaveLeaves, NumbersAreLow};
+ghost use Rattle.ist_rebuilds.specs.Replacing.{NumbersCountLeaves};
+ghost use Rattle.ist_rebuilds.specs.Replacing.{ContentsExist, UpdatesAloneChange};
+ghost use Rattle.ist_rebuilds.specs.Replacing.{LinkedSlotsAreSet};
+ghost use Rattle.ist_rebuilds.specs.Drawing.{DrawsStayLow};
 ghost use Rattle.ist_rebuilds.specs.Opening.{RowsAreOpenAtRest};
 
 /// A row that was linked and isn't any more is never linked again: no change brings it back.
@@ -10,8 +15,8 @@ pub fn unlinked_rows_stay_out()
     ensures out { UnlinkedRowsStayOut }
 {}
 
-/// A started rebuild stands in its slot until it is replaced, and never again then; its target isn't
-/// linked from then on. A rebuild gets its root once its target is finished.
+/// A started rebuild stands in its slot until it is replaced, and never again then; its target
+/// isn't linked from then on. A rebuild gets its root once its target is finished.
 pub fn rebuilds_stand()
     ensures stand { StartedRebuildsStand }
     ensures gone { ReplacedRebuildsAreGone }
@@ -25,26 +30,31 @@ pub fn roots_are_ideal()
     ensures ideal { RootsAreIdeal }
 {}
 
-/// Only a Decide with yes of a put or remove changes the contents: behind any other event, a rebuild's
-/// among them, the same pairs are reached from the anchor.
+/// A table has contents behind each lawful log, so that each slot of a linked node is set. Only a
+/// Decide with yes of a put or remove changes them: before and behind any other event, those of a
+/// rebuild among them, the same pairs are reached from the anchor.
 pub fn updates_alone_change()
+    ensures exist { ContentsExist }
     ensures kept { UpdatesAloneChange }
+    ensures set { LinkedSlotsAreSet }
 {}
 
-/// The number with which a row is finished is the number of leaves below it.
+/// A finished row has leaves below it, and its number is how many they are. No two leaves share a
+/// word, so that the number is no greater than that of a table's places.
 pub fn numbers_count_leaves()
+    ensures leaves { FinishedRowsHaveLeaves }
     ensures number { NumbersCountLeaves }
+    ensures low { NumbersAreLow }
 {}
 
-/// A target has fewer leaves than a table has places, since they share no word; so the draw word of its
-/// rebuild stays far below where it would wrap.
+/// The draw word of a rebuild is at most the number of places and that of callers, since its target
+/// has no more leaves than there are places. So it stays far below where it would wrap.
 pub fn draws_stay_low()
-    ensures small { TargetsAreSmall }
     ensures low { DrawsStayLow }
 {}
 
-/// Where each started rebuild was replaced, or hangs in a node that isn't open, no linked row is marked
-/// or finished.
+/// Where each started rebuild was replaced, or hangs in a node that isn't open, no linked row is
+/// marked or finished.
 pub fn rows_are_open_at_rest()
     ensures all_open { RowsAreOpenAtRest }
 {}
