@@ -1,5 +1,5 @@
 -- The changes of a log are exactly the puts and removes that were decided yes. Serves `laws.updates_are_entries`.
-use Rattle.std.proofs.Common.{◌≡◌, ℕ, zero, suc, ◌+◌, ◌<◌, ◌⊎◌, ◌==◌, Bool, true, List, [], ◌∷◌, ◌++◌, length, slice_get, is_some, Option, Some, None, option_map, refl, sym, ap, ◌∙◌, subst, inl, inr, ⊎_elim, arith, length-append, append_assoc}
+use Rattle.std.proofs.Common.{◌≡◌, ℕ, zero, suc, ◌+◌, ◌<◌, ◌⊎◌, ◌==◌, true, List, [], ◌∷◌, ◌++◌, length, slice_get, is_some, Option, Some, None, option_map, refl, sym, ap, ◌∙◌, subst, inl, inr, ⊎_elim, arith, length-append, append_assoc}
 use Rattle.std.proofs.lemmas.Bool.Decides.{nat_tests}
 use Rattle.ist_core.specs.declared.commands.Command.{Command}
 use Rattle.ist_core.specs.declared.pairs.Pair.{Pair}
@@ -25,20 +25,11 @@ use Rattle.ist_core.proofs.RowLemmas.{changed_at-same}
 use Rattle.ist_core.proofs.NamingLemmas.{SideNames}
 use Rattle.ist_core.proofs.OrderLemmas.{names}
 use Rattle.ist_core.proofs.FreezingLemmas.{same_change}
-use Rattle.ist_links.proofs.InductionLemmas.{changes_by}
-use Rattle.ist_links.proofs.ChangeLemmas.{said_yes}
+use Rattle.ist_histories.proofs.DecisionLemmas.{prefixes, yes_decided, decided_behind}
 use Rattle.ist_histories.specs.Telling.{IsEntryOf}
 use Rattle.ist_histories.proofs.ChangeLemmas.{on_trans, changes_on, changes_rise, get_at}
 use Rattle.ist_histories.proofs.NeedLemmas.{HasForm, into_nothing, over_leaf, beside_low, beside_high, takes_out, begins, ends, AllNeeds}
 use Rattle.ist_histories.proofs.NeededLemmas.{all_needed}
-
--- ---- logs
-
--- of two prefixes of one log one goes on from the other
-prefixes : (a b log : Log) → GoesOn a log → GoesOn b log → GoesOn a b ⊎ GoesOn b a
-prefixes a b _ same_log k = inr k
-prefixes a b _ (one_event event g) same_log = inl (one_event event g)
-prefixes a b _ (one_event {log = log} event g) (one_event other k) = prefixes a b log g k
 
 -- an element of two lists in a row
 get_both : {A : Type 0} (xs ys : List A) (i : ℕ) (x : A) → slice_get (xs ++ ys) i ≡ Some x
@@ -67,26 +58,7 @@ same_prefix a b c d x y e = cc
 same_base : (a b c d : ℕ) (x y : Log) → Decide a b true ∷ x ≡ Decide c d true ∷ y → b ≡ d
 same_base a b c d x y e = cc
 
--- a put or remove that is decided yes behind the earlier log
-record Decided (pairs : List Pair) (words : ℕ) (log : Log) (base : ℕ) : Type 0 where
-  caller : ℕ
-  earlier : Log
-  decided : GoesOn (Decide caller base true ∷ earlier) log
-
 module _ (pairs : List Pair) (words : ℕ) (opens : CanOpen pairs words) where
-  -- a change that was decided yes was decided so at some moment
-  yes_decided : (log : Log) → EachEnabled (start pairs words) log → (base : ℕ) (change : ChangeRow)
-      → (state_of pairs words log).pieces base ≡ Some (Change change) → change.decision ≡ decided_yes → Decided pairs words log base
-  yes_decided =
-      changes_by pairs words (λ log base change. change.decision ≡ decided_yes → Decided pairs words log base)
-      (λ log event h base change old there before said. (let it = before said in record { caller = it.caller; earlier = it.earlier; decided = one_event event it.decided }))
-      (λ log caller base rows h can said. (let none = can.unset in absurd (omega arith)))
-      (λ log caller base said h can before is. at log caller base said (said_yes said is))
-    where
-      at : (log : Log) (caller base : ℕ) (said : Bool) → said ≡ true → Decided pairs words (Decide caller base said ∷ log) base
-      at log caller base said is =
-          subst (λ v. Decided pairs words (Decide caller base v ∷ log) base) (sym is) record { caller = caller; earlier = log; decided = same_log }
-
   -- the entry that a decision makes
   entry_made : (log : Log) → EachEnabled (start pairs words) log → (caller base : ℕ) (earlier : Log) → GoesOn (Decide caller base true ∷ earlier) log
       → (command : Command) → (old : ChangeRow) → (state_of pairs words earlier).pieces base ≡ Some (Change old) → command_of old ≡ Some command
@@ -134,7 +106,7 @@ module _ (pairs : List Pair) (words : ℕ) (opens : CanOpen pairs words) where
       → (state_of pairs words log).pieces base ≡ Some (Change change) → change.decision ≡ decided_yes → command_of change ≡ Some command
       → (position : ℕ) × IsEntryOf pairs words log position base
   update_entry log h base change command e said is =
-      let d = yes_decided log h base change e said in
+      let d = yes_decided pairs words log h base change e said in
       let m = enabled_before (start pairs words) (Decide d.caller base true ∷ d.earlier) log d.decided h in
       let old = m.1.change in
       let t = state_of pairs words d.earlier in
@@ -222,16 +194,8 @@ module _ (pairs : List Pair) (words : ℕ) (opens : CanOpen pairs words) where
   -- a change that was decided isn't pending behind that
   undecided_later : (caller base other : ℕ) (a b : Log) → EachEnabled (start pairs words) (Decide other base true ∷ b) → ¬ (GoesOn (Decide caller base true ∷ a) b)
   undecided_later caller base other a b h g =
-      let m = enabled_before (start pairs words) (Decide caller base true ∷ a) b g h.0 in
-      let now = state_of pairs words (Decide caller base true ∷ a) in
-      let old = m.1.change in
-      let turned : ChangeRow = record old { decision = decided_yes } in
-      let there : now.pieces base ≡ Some (Change turned) = changed_at-same (state_of pairs words a).pieces base (with_decision decided_yes) ∙ ap (option_map (with_decision decided_yes)) m.1.pending.published in
-      let it = change_there now.pieces (state_of pairs words b).pieces (grow_between pairs words (Decide caller base true ∷ a) b h.0 g) base turned there in
-      let same = same_change ((state_of pairs words b).pieces base) h.1.change it.0 h.1.pending.published it.1 in
-      let yes_word = it.2.decided (λ none. omega arith) in
+      let said = decided_behind pairs words caller base a b g h.0 h.1.change h.1.pending.published in
       let none = h.1.pending.unset in
-      let both = ap (λ c. c.decision) same in
       omega arith
 
   -- a change is decided yes behind one log

@@ -1,5 +1,5 @@
 -- Behind each lawful log there are contents: each event leaves leaves below what had some. Serves the changes law.
-use Rattle.std.proofs.Common.{◌≡◌, ◌≢◌, ℕ, zero, suc, ◌<◌, true, List, [], ◌∷◌, ◌++◌, slice_get, Option, Some, refl, sym, ap, ◌∙◌, subst, ⊎_elim, arith}
+use Rattle.std.proofs.Common.{◌≡◌, ◌≢◌, ℕ, zero, suc, ◌<◌, true, List, [], ◌∷◌, ◌++◌, slice_get, Option, Some, refl, sym, ap, ◌∙◌, subst, map, inl, inr, ⊎_elim, arith}
 use Rattle.ist_core.specs.declared.pairs.Pair.{Pair}
 use Rattle.ist_core.specs.declared.states.InnerRow.{InnerRow}
 use Rattle.ist_core.specs.declared.states.LeafRow.{LeafRow}
@@ -13,22 +13,24 @@ use Rattle.ist_core.specs.Pieces.{Pieces, Leaf, Inner, Change, with_decision}
 use Rattle.ist_core.specs.Snapshots.{Snapshot}
 use Rattle.ist_core.specs.StartLayout.{start}
 use Rattle.ist_core.specs.Logs.{Log}
-use Rattle.ist_core.specs.Slots.{SlotHolds, in_anchor, in_row, rebuild_reads, past_rebuild, logical}
-use Rattle.ist_core.specs.Leaves.{PlacedLeaf, HasLeaves, none_here, leaf_here, row_here, SlotsHaveLeaves, no_slot, one_slot}
+use Rattle.ist_core.specs.Slots.{SlotHolds, in_anchor, in_row, past_rebuild, logical}
+use Rattle.ist_core.specs.Rebuilding.{IsUpdate}
+use Rattle.ist_core.specs.Leaves.{PlacedLeaf, pair_of, HasLeaves, none_here, leaf_here, row_here, SlotsHaveLeaves, no_slot, one_slot}
 use Rattle.ist_core.specs.Lawful.{EachEnabled, CanOpen, state_of}
 use Rattle.ist_core.proofs.ReferenceLemmas.{ref_of-word_of}
 use Rattle.ist_core.proofs.GrowingLemmas.{leaf_there, inner_there}
 use Rattle.ist_core.proofs.PlaceLemmas.{anchor_free}
 use Rattle.ist_core.proofs.RoomLemmas.{published_good}
 use Rattle.ist_core.proofs.SlotLemmas.{no_row}
-use Rattle.ist_core.proofs.NamingLemmas.{slot_names}
 use Rattle.ist_core.proofs.NamingStepLemmas.{changed_at-fixed}
-use Rattle.ist_core.proofs.OrderLemmas.{names, child_above, past_rebuild_above}
 use Rattle.ist_core.proofs.FreezingLemmas.{same_change}
+use Rattle.ist_links.proofs.InductionLemmas.{grow_behind}
+use Rattle.ist_rebuilds.specs.Replacing.{LeavesContents}
+use Rattle.ist_rebuilds.proofs.KeepingContentLemmas.{contents_kept}
 use Rattle.ist_histories.proofs.NeedLemmas.{IsPair, HasForm, into_nothing, over_leaf, beside_low, beside_high, takes_out, begins, ends, Needs, AllNeeds}
-use Rattle.ist_histories.proofs.ReadLemmas.{IsTurned, word_reads, ReadsAs, Turns, grows_at, turned_by, reads_step}
+use Rattle.ist_histories.proofs.ReadLemmas.{ReadsAs, Turns, reads_step}
 use Rattle.ist_histories.proofs.SeenLemmas.{row_holds, get_too}
-use Rattle.ist_histories.proofs.TellLemmas.{IsNoYes, same_base}
+use Rattle.ist_histories.proofs.TellLemmas.{same_base}
 use Rattle.ist_histories.proofs.OpeningLemmas.{start_contents}
 
 -- some leaves lie below the reference
@@ -104,7 +106,7 @@ module _ (pairs : List Pair) (words : ℕ) (opens : CanOpen pairs words) (log : 
       → ((j word : ℕ) → slice_get r.slots j ≡ Some word → HasSome Before.pieces (logical Before.pieces word) × HasSome Behind.pieces (logical Before.pieces word))
       → HasSome Behind.pieces (Some (InnerAt base))
   row_some keep base r e each =
-      let it = inner_there Before.pieces Behind.pieces (grows_at pairs words opens log event h) base r e in
+      let it = inner_there Before.pieces Behind.pieces (grow_behind pairs words log event h) base r e in
       let all = slots_some Behind.pieces it.0.slots (λ j word at. here it.0 it.1 j word at (get_too it.0.slots r.slots j word (sym it.2.slots) at)) in
       record { leaves = all.0; reached = row_here it.0 it.1 all.1 }
     where
@@ -123,7 +125,7 @@ module _ (pairs : List Pair) (words : ℕ) (opens : CanOpen pairs words) (log : 
   -- so does the tree
   pub tree_some : TurnsKeep → HasSome Before.pieces (logical Before.pieces Before.anchor) → HasSome Behind.pieces (logical Behind.pieces Behind.anchor)
   tree_some keep old =
-      let new = some_on Before.pieces Behind.pieces (λ base r e. leaf_there Before.pieces Behind.pieces (grows_at pairs words opens log event h) base r e) (row_some keep)
+      let new = some_on Before.pieces Behind.pieces (λ base r e. leaf_there Before.pieces Behind.pieces (grow_behind pairs words log event h) base r e) (row_some keep)
       (logical Before.pieces Before.anchor) old.leaves old.reached in
       let it = slot_some keep anchor 0 Before.anchor (in_anchor refl refl refl) old new in
       subst (λ ref. HasSome Behind.pieces ref) (sym it.1.reads ∙ sym (ap (logical Behind.pieces) (at it.1.word it.1.holds))) it.2
@@ -131,29 +133,6 @@ module _ (pairs : List Pair) (words : ℕ) (opens : CanOpen pairs words) (log : 
       at : (word : ℕ) → SlotHolds Behind anchor 0 word → Behind.anchor ≡ word
       at word (in_anchor a b e) = e
       at word (in_row r p g) = absurd (no_row Behind.pieces anchor r (anchor_free pairs words (event ∷ log) h) refl p)
-
--- ---- above the node of a change
-
-module _ (ps qs : Pieces) (node : ℕ) (leaf : (base : ℕ) (r : LeafRow) → ps base ≡ Some (Leaf r) → qs base ≡ Some (Leaf r))
-    (row : (base : ℕ) (r : InnerRow) → node < base → ps base ≡ Some (Inner r) → qs base ≡ Some (Inner r))
-    (slot : (base j word : ℕ) (r : InnerRow) → node < base → ps base ≡ Some (Inner r) → slice_get r.slots j ≡ Some word
-    → (logical qs word ≡ logical ps word) × ((child : ℕ) → logical ps word ≡ Some (InnerAt child) → node < child)) where
-  mutual
-    -- rows above the node keep their leaves, where they and what their slots read as stay
-    high_leaves : (ref : Option Ref) (leaves : List PlacedLeaf) → ((child : ℕ) → ref ≡ Some (InnerAt child) → node < child)
-        → HasLeaves ps ref leaves → HasLeaves qs ref leaves
-    high_leaves _ _ high none_here = none_here
-    high_leaves _ _ high (leaf_here {base = base} r e) = leaf_here r (leaf base r e)
-    high_leaves _ leaves high (row_here {base = base} r e below) =
-        row_here r (row base r (high base refl) e) (high_slots r.slots leaves (λ j word at. slot base j word r (high base refl) e at) below)
-
-    high_slots : (words : List ℕ) (leaves : List PlacedLeaf)
-        → ((j word : ℕ) → slice_get words j ≡ Some word → (logical qs word ≡ logical ps word) × ((child : ℕ) → logical ps word ≡ Some (InnerAt child) → node < child))
-        → SlotsHaveLeaves ps words leaves → SlotsHaveLeaves qs words leaves
-    high_slots _ _ each no_slot = no_slot
-    high_slots _ _ each (one_slot {word = word} {words = words} {here = here} {rest = rest} first more) =
-        let it = each 0 word refl in
-        one_slot (subst (λ ref. HasLeaves qs ref here) (sym it.0) (high_leaves (logical ps word) here it.1 first)) (high_slots words rest (λ j w e. each (suc j) w e) more)
 
 -- ---- a change that is decided yes
 
@@ -202,41 +181,10 @@ module _ (pairs : List Pair) (words : ℕ) (opens : CanOpen pairs words) (needs 
       subst (λ ref. HasSome Is.pieces (past_rebuild Was.pieces ref)) (sym to)
       record { leaves = leaves; reached = row_here p.row (inner_on pair p.row p.published) (subst (λ ws. SlotsHaveLeaves Is.pieces ws leaves) (sym p.slots) both) }
 
-  -- what a finish puts in keeps its leaves
-  root_some : (leaves : List PlacedLeaf) → HasLeaves Was.pieces (past_rebuild Was.pieces (ref_of change.to)) leaves → HasSome Is.pieces (past_rebuild Was.pieces (ref_of change.to))
-  root_some leaves has =
-      let o = names pairs words opens log h.0 in
-      let side = (o.rows base (Change change) h.1.pending.published).1 in
-      record {
-        leaves = leaves;
-        reached =
-            high_leaves Was.pieces Is.pieces change.node leaf_on (λ at r low e. inner_on at r e) slot (past_rebuild Was.pieces (ref_of change.to)) leaves
-            (λ child e. past_rebuild_above Was change.node change.index child (ref_of change.to) o side e) has;
-      }
-    where
-      slot : (at j word : ℕ) (r : InnerRow) → change.node < at → Was.pieces at ≡ Some (Inner r) → slice_get r.slots j ≡ Some word
-          → (logical Is.pieces word ≡ logical Was.pieces word) × ((child : ℕ) → logical Was.pieces word ≡ Some (InnerAt child) → change.node < child)
-      slot at j word r low e got =
-          let o = names pairs words opens log h.0 in
-          let held : SlotHolds Was at j word = in_row r e got in (
-            ⊎_elim
-                (λ same. same)
-                (λ it. absurd (turned at j word low it))
-                (word_reads Was Is (grows_at pairs words opens log (Decide caller base true) h) o at j (ref_of word) (slot_names Was at j word o held)),
-            λ child is. (let up = child_above Was at j child o record { word = word; holds = held; reads = is } in omega arith),
-          )
-        where
-          turned : (at j word : ℕ) → change.node < at → IsTurned Was Is at j (ref_of word) → ⊥
-          turned at j word low it =
-              let decides = turned_by pairs words opens log (Decide caller base true) h it.base it.old it.new it.published it.not_yet it.later it.yes in
-              let same = same_base caller base decides.caller it.base decides.is in
-              let row = same_change (Was.pieces base) it.old change (subst (λ b. Was.pieces b ≡ Some (Change it.old)) (sym same) it.published) h.1.pending.published in
-              let node : change.node ≡ at = sym (ap (λ c. c.node) row) ∙ it.node_is in
-              omega arith
-
-  pub yes_keeps : TurnsKeep pairs words opens log (Decide caller base true) h
+  -- an update puts in what has leaves
+  pub update_keeps : IsUpdate change.kind → TurnsKeep pairs words opens log (Decide caller base true) h
   unfolding AllNeeds
-  yes_keeps node i ref turn old new =
+  update_keeps update node i ref turn old new =
       subst (λ c. HasSome Is.pieces (past_rebuild Was.pieces (ref_of c.to))) (sym same) (at (n.form base change h.1.pending))
     where
       n : Needs pairs words log
@@ -253,20 +201,52 @@ module _ (pairs : List Pair) (words : ℕ) (opens : CanOpen pairs words) (needs 
       at (beside_low other k leaf pair kind from is less to p made) = pair_some pair change.key other leaf is.row record { key = change.key; value = change.value } p is.published made to
       at (beside_high other k leaf pair kind from is less to p made) = pair_some pair k leaf other record { key = change.key; value = change.value } is.row p made is.published to
       at (takes_out leaf kind from is to) = subst (λ x. HasSome Is.pieces (past_rebuild Was.pieces x)) (sym to) record { leaves = []; reached = none_here }
-      at (begins target rebuild kind from to has) =
-          let one : past_rebuild Was.pieces (ref_of change.from) ≡ past_rebuild Was.pieces (ref_of change.to) =
-          ap (past_rebuild Was.pieces) from ∙ sym (ap (past_rebuild Was.pieces) to ∙ ap rebuild_reads has.published ∙ ap (λ x. Some (InnerAt x)) has.target_is) in
-          subst (λ x. HasSome Is.pieces x) (sym turn.from ∙ ap (λ c. past_rebuild Was.pieces (ref_of c.from)) same ∙ one) new
-      at (ends rebuild row kind from e f set) = let it = n.same_leaves base change h.1.pending h.1.outcome kind in root_some it.0 it.2
+      at (begins target rebuild kind from to has) = absurd (⊎_elim (λ e. (omega arith)) (λ e. (omega arith)) update)
+      at (ends rebuild row kind from e f set) = absurd (⊎_elim (λ e. (omega arith)) (λ e. (omega arith)) update)
 
 -- ---- over a log
 
-module _ (pairs : List Pair) (words : ℕ) (opens : CanOpen pairs words) (needs : AllNeeds pairs words) where
-  quiet_keeps : (log : Log) (event : Event) (h : EachEnabled (start pairs words) (event ∷ log)) → IsNoYes event → TurnsKeep pairs words opens log event h
-  quiet_keeps log event h quiet node i ref turn old new = absurd (subst IsNoYes turn.decides.is quiet)
+-- the tree has leaves
+pub TreeHasSome : List Pair → ℕ → Log → Type 0
+TreeHasSome pairs words log = HasSome (state_of pairs words log).pieces (logical (state_of pairs words log).pieces (state_of pairs words log).anchor)
 
-  -- the tree has leaves
+module _ (pairs : List Pair) (words : ℕ) (opens : CanOpen pairs words) (needs : AllNeeds pairs words) where
+  -- an event that leaves the contents leaves some
+  kept : (log : Log) (event : Event) → EachEnabled (start pairs words) (event ∷ log) → LeavesContents (state_of pairs words log) event
+      → TreeHasSome pairs words log → TreeHasSome pairs words (event ∷ log)
+  unfolding TreeHasSome
+  kept log event h leaves old =
+      let it = contents_kept pairs words opens log event h leaves (map pair_of old.leaves) record { leaves = old.leaves; reached = old.reached; pairs_are = refl } in
+      record { leaves = it.leaves; reached = it.reached }
+
+  -- so does a change that is decided yes
+  kept_yes : (log : Log) (caller base : ℕ) → EachEnabled (start pairs words) (Decide caller base true ∷ log)
+      → TreeHasSome pairs words log → TreeHasSome pairs words (Decide caller base true ∷ log)
+  unfolding TreeHasSome AllNeeds
+  kept_yes log caller base h old = at ((needs log h.0).form base h.1.change h.1.pending)
+    where
+      update : IsUpdate h.1.change.kind → TreeHasSome pairs words (Decide caller base true ∷ log)
+      update is = tree_some pairs words opens log (Decide caller base true) h (update_keeps pairs words opens needs log caller base h is) old
+
+      no_update : (k : ℕ) → h.1.change.kind ≡ k → 2 < k → TreeHasSome pairs words (Decide caller base true ∷ log)
+      no_update k kind large =
+          kept log (Decide caller base true) h
+          (λ change e is.
+          let same = ap (λ c. c.kind) (same_change ((state_of pairs words log).pieces base) change h.1.change e h.1.pending.published) in
+          ⊎_elim (λ put. (omega arith)) (λ remove. (omega arith)) is) old
+
+      at : HasForm (state_of pairs words log) h.1.change → TreeHasSome pairs words (Decide caller base true ∷ log)
+      at (into_nothing leaf kind from to made) = update (inl kind)
+      at (over_leaf old leaf kind from is to made) = update (inl kind)
+      at (beside_low other k leaf pair kind from is less to p made) = update (inl kind)
+      at (beside_high other k leaf pair kind from is less to p made) = update (inl kind)
+      at (takes_out leaf kind from is to) = update (inr kind)
+      at (begins target rebuild kind from to has) = no_update 3 kind (omega arith)
+      at (ends rebuild row kind from e f set) = no_update 4 kind (omega arith)
+
+  -- the tree has leaves behind each log
   pub has_some : (log : Log) → EachEnabled (start pairs words) log → HasSome (state_of pairs words log).pieces (logical (state_of pairs words log).pieces (state_of pairs words log).anchor)
+  unfolding TreeHasSome
   has_some [] h = let it = start_contents pairs words opens in record { leaves = it.leaves; reached = it.reached }
-  has_some (Decide caller base true ∷ log) h = tree_some pairs words opens log (Decide caller base true) h (yes_keeps pairs words opens needs log caller base h) (has_some log h.0)
-  has_some (event ∷ log) h = tree_some pairs words opens log event h (quiet_keeps log event h tt) (has_some log h.0)
+  has_some (Decide caller base true ∷ log) h = kept_yes log caller base h (has_some log h.0)
+  has_some (event ∷ log) h = kept log event h tt (has_some log h.0)

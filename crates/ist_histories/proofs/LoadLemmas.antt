@@ -29,12 +29,12 @@ use Rattle.ist_core.proofs.NamingLemmas.{IsChangeFor, IsRebuildFor, SideNames, S
 use Rattle.ist_core.proofs.NamingStepLemmas.{side_names}
 use Rattle.ist_core.proofs.OrderLemmas.{names}
 use Rattle.ist_core.proofs.FreezingLemmas.{side_not_yes}
+use Rattle.ist_links.proofs.ReadLemmas.{side_yes, past_plain}
 use Rattle.ist_histories.specs.Finding.{Finds, in_nothing, in_leaf}
 use Rattle.ist_histories.specs.Loads.{Load, log_at, in_anchor_slot, in_published, IsLoad}
 use Rattle.ist_histories.specs.Searching.{ReadsSide, no_change, by_to, by_from, ReadsTarget, no_rebuild, by_target, LooksAt, ComesTo, begins, goes_down, ReadsValue, of_nothing, of_other, of_key}
 use Rattle.ist_histories.proofs.ChangeLemmas.{on_trans}
-use Rattle.ist_histories.proofs.ReadLemmas.{change_logical, side_yes}
-use Rattle.ist_histories.proofs.SeenLemmas.{plain_change}
+use Rattle.ist_histories.proofs.ReadLemmas.{change_logical}
 use Rattle.ist_histories.proofs.SearchLemmas as search
 
 -- ---- the log at a length
@@ -167,7 +167,7 @@ module _ (pairs : List Pair) (words : ℕ) (opens : CanOpen pairs words) (log : 
       let t = At slot.length in
       record {
         since = le_refl slot.length;
-        reads = ap (past_rebuild t.pieces) (plain_change t (ref_of slot.word) plain);
+        reads = ap (past_rebuild t.pieces) (past_plain t.pieces (ref_of slot.word) plain);
         names_it = slot_names t node i slot.word (names pairs words opens (log_at log slot.length) (enabled_at slot.length)) held;
       }
   sided node i slot _ _ held (by_to base decision side is load yes_word other) =

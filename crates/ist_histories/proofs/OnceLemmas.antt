@@ -1,8 +1,8 @@
 -- The woven history has each change once, and each reading once. Serves `laws.calls_are_woven`.
-use Rattle.std.proofs.Common.{◌≡◌, ℕ, suc, ◌+◌, ◌≤◌, ◌==◌, nat_le, not, if◌then◌else◌, Bool, true, false, List, [], ◌∷◌, ◌++◌, map, filter, length, refl, sym, ap, ◌∙◌, subst, inl, inr, arith, append_assoc}
+use Rattle.std.proofs.Common.{◌≡◌, ℕ, suc, ◌+◌, ◌≤◌, ◌==◌, nat_le, not, if◌then◌else◌, Bool, true, false, List, [], ◌∷◌, ◌++◌, map, filter, length, refl, sym, ap, subst, inl, inr, arith, append_assoc}
 use Rattle.std.proofs.lemmas.Bool.Decides.{nat_tests}
 use Rattle.std.proofs.lemmas.List.{map-append}
-use Rattle.std.proofs.lemmas.List.Sorted.{IsPermutation-refl, IsPermutation-sym, IsPermutation-cons, IsPermutation-swap, IsPermutation-map, IsPermutation-append_left, IsPermutation-append_right, IsPermutation-trans, IsPermutation-middle, IsPermutation-append_comm, IsPermutation-filter_both}
+use Rattle.std.proofs.lemmas.List.Sorted.{IsPermutation-refl, IsPermutation-sym, IsPermutation-cons, IsPermutation-map, IsPermutation-append_left, IsPermutation-append_right, IsPermutation-trans, IsPermutation-middle, IsPermutation-append_comm, IsPermutation-filter_both}
 use Rattle.std.specs.List.Sorted.{IsPermutation}
 use Rattle.ist_core.specs.declared.pairs.Pair.{Pair}
 use Rattle.ist_core.specs.Map.{map_of}
@@ -100,7 +100,7 @@ woven_moves position (entry ∷ entries) xs h =
     let behind = map told_by_reading (from_position (position + 1) xs) in
     let rest = woven_from (position + 1) entries xs in
     let later : Each (λ x. x.call.position ≤ position + 1 + length entries) xs =
-        subst (λ n. Each (λ x. x.call.position ≤ n) xs) (let same : position + suc (length entries) ≡ position + 1 + length entries = omega arith in same) h in
+    subst (λ n. Each (λ x. x.call.position ≤ n) xs) (let same : position + suc (length entries) ≡ position + 1 + length entries = omega arith in same) h in
     let one = IsPermutation-append_right front from (here ++ behind) (split position xs) in
     let two = IsPermutation-trans (front ++ from) (front ++ (here ++ behind)) (here ++ (front ++ behind)) one (exchange front here behind) in
     let three = IsPermutation-cons first (front ++ from) (here ++ (front ++ behind)) two in
@@ -130,6 +130,6 @@ woven_once pairs words log passes all =
         let stands = each-among (λ pass. (prefix : Log) × GoesOn prefix log × StandsIn pairs words prefix pass.number pass.calls) it.0 passes all it.1 in
         let on = changes_on (start pairs words) stands.0 log stands.1 in
         let read : IsRead (map_of pairs) (changes_of pairs words log) x.call =
-            subst (λ es. IsRead (map_of pairs) es x.call) (sym on.1) (read_on (map_of pairs) (changes_of pairs words stands.0) on.0 x.call (stands.2.read x.call it.2.call it.2.plain)) in
+        subst (λ es. IsRead (map_of pairs) es x.call) (sym on.1) (read_on (map_of pairs) (changes_of pairs words stands.0) on.0 x.call (stands.2.read x.call it.2.call it.2.plain)) in
         let low = read.within in
         omega arith

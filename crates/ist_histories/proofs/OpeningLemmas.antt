@@ -1,8 +1,7 @@
 -- The contents of a new table are its start pairs. Serves the changes law.
-use Rattle.std.proofs.Common.{◌≡◌, ℕ, zero, suc, ◌≤◌, List, [], ◌∷◌, ◌++◌, length, take, drop, map, zip, Option, Some, refl, sym, ap, ◌∙◌, subst, inl, inr, arith, length-drop}
+use Rattle.std.proofs.Common.{◌≡◌, ℕ, zero, suc, List, [], ◌∷◌, ◌++◌, length, take, drop, map, zip, Option, Some, refl, sym, ap, ◌∙◌, subst, inl, inr, arith}
 use Rattle.std.proofs.lemmas.List.{map-append, take-append-drop}
-use Rattle.std.proofs.lemmas.List.Sums.{sum_by-cons}
-use Rattle.std.specs.List.{sum, flat_map}
+use Rattle.std.specs.List.{flat_map}
 use Rattle.ist_core.specs.declared.pairs.Pair.{Pair}
 use Rattle.ist_core.specs.declared.states.LeafRow.{LeafRow}
 use Rattle.ist_core.specs.Arithmetic.{part_lens}
@@ -17,32 +16,12 @@ use Rattle.ist_core.specs.Leaves.{PlacedLeaf, pair_of, HasLeaves, none_here, lea
 use Rattle.ist_core.specs.Lawful.{CanOpen}
 use Rattle.ist_core.proofs.ElementLemmas.{among_left, among_right, each-among, each_append}
 use Rattle.ist_core.proofs.PieceLemmas.{among-pieces_of}
-use Rattle.ist_core.proofs.PartLemmas.{sum-part_lens}
 use Rattle.ist_core.proofs.RisingLemmas.{Rises}
 use Rattle.ist_core.proofs.SplitLemmas.{key_of_leaf, Splits, split_none, split_leaf, split_row, SplitAll, no_split, one_split}
 use Rattle.ist_core.proofs.StartTreeLemmas.{start_hangs, start_anchor}
 use Rattle.ist_core.proofs.LeafOrderLemmas.{rises_from_next}
+use Rattle.ist_rebuilds.proofs.IdealLeafLemmas.{joined, joined_parts}
 use Rattle.ist_histories.proofs.ValueLemmas.{same_pair}
-
--- ---- parts
-
--- lists one behind another
-pub joined : {A : Type 0} → List (List A) → List A
-joined [] = []
-joined (xs ∷ more) = xs ++ joined more
-
--- the pieces of a list are the list
-joined-cut : {A : Type 0} (ns : List ℕ) (xs : List A) → length xs ≤ sum ns → joined (cut ns xs) ≡ xs
-unfolding joined
-joined-cut [] [] h = refl
-joined-cut [] (x ∷ xs) h = absurd (omega arith)
-joined-cut (n ∷ ns) xs h =
-    let all = sum_by-cons (λ x. x) n ns in
-    let less = length-drop n xs in
-    ap (λ ys. take n xs ++ ys) (joined-cut ns (drop n xs) (omega arith)) ∙ take-append-drop n xs
-
-joined-parts : {A : Type 0} (xs : List A) → joined (parts xs) ≡ xs
-joined-parts xs = joined-cut (part_lens (length xs)) xs (let whole = sum-part_lens (length xs) in omega arith)
 
 -- ---- the leaves of a tree over keys
 
@@ -66,14 +45,12 @@ record HaveKeys {A : Type 0} (key : A → ℕ) (ps : Pieces) (words : List ℕ) 
 
 module _ {A : Type 0} (key : A → ℕ) (ps : Pieces) where
   mutual
-    unfolding joined
-
     split_leaves : (ref : Ref) (xs : List A) (rows : List ℕ) → Splits key ps ref xs rows → HasKeys key ps ref xs
     split_leaves _ _ _ split_none = record { leaves = []; reached = none_here; keys = refl }
     split_leaves _ _ _ (split_leaf {base = base} r e is) = record { leaves = record { base = base; row = r } ∷ []; reached = leaf_here r e; keys = ap (λ k. k ∷ []) is }
     split_leaves _ xs _ (split_row {rows = rows} r e two keys below) =
         let it = split_all_leaves r.slots (parts xs) rows below in
-        record { leaves = it.leaves; reached = row_here r e it.reached; keys = it.keys ∙ ap (map key) (joined-parts xs) }
+        record { leaves = it.leaves; reached = row_here r e it.reached; keys = it.keys ∙ ap (map key) (joined_parts xs) }
 
     split_all_leaves : (words : List ℕ) (behind : List (List A)) (rows : List ℕ) → SplitAll key ps words behind rows → HaveKeys key ps words behind
     split_all_leaves _ _ _ no_split = record { leaves = []; reached = no_slot; keys = refl }

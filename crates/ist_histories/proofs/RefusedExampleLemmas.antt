@@ -1,5 +1,5 @@
 -- The log of a put that is refused is lawful, and changes nothing. Serves `examples`.
-use Rattle.std.proofs.Common.{◌≡◌, ℕ, ◌⊎◌, false, [], ◌∷◌, Some, refl, sym, inl, inr, subst, arith}
+use Rattle.std.proofs.Common.{◌≡◌, ℕ, false, [], ◌∷◌, Some, refl, inl, inr, arith}
 use Rattle.ist_core.specs.declared.states.InnerRow.{InnerRow}
 use Rattle.ist_core.specs.declared.states.ChangeRow.{ChangeRow}
 use Rattle.ist_core.specs.declared.events.Event.TheVariants.{Mark, Decide}
@@ -9,7 +9,7 @@ use Rattle.ist_core.specs.References.{ref_of}
 use Rattle.ist_core.specs.Statuses.{put_kind}
 use Rattle.ist_core.specs.Pieces.{Inner, Change, with_status}
 use Rattle.ist_core.specs.StartLayout.{rows_within}
-use Rattle.ist_core.specs.Logs.{state, Log}
+use Rattle.ist_core.specs.Logs.{state}
 use Rattle.ist_core.specs.Slots.{IsOpen, anchor_is, row_is, in_anchor, in_row, of_anchor, of_row}
 use Rattle.ist_core.specs.Links.{IsChild, at_anchor, below, from_anchor, down}
 use Rattle.ist_core.specs.Leaves.{leaf_here, row_here, no_slot, one_slot, HasContents}
@@ -19,7 +19,7 @@ use Rattle.ist_core.specs.Deciding.{CanDecide, CanResolve}
 use Rattle.ist_core.specs.Marking.{CanMark, as_target}
 use Rattle.ist_core.specs.Lawful.{Lawful, EachEnabled}
 use Rattle.ist_core.specs.Changes.{changes_of}
-use Rattle.ist_core.specs.ExampleLogs.{start_pairs, late_reserved, late_rows, rebuild_replaced, put_resolved}
+use Rattle.ist_core.specs.ExampleLogs.{start_pairs, late_reserved, late_rows, rebuild_replaced}
 use Rattle.ist_core.proofs.StartExampleLemmas.{two, start_is_lawful}
 use Rattle.ist_core.proofs.RebuildExampleLemmas.{the_start, the_rebuild, low, high, both}
 use Rattle.ist_core.proofs.FinishExampleLemmas.{none_refused_started}

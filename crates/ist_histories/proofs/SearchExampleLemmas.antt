@@ -1,9 +1,9 @@
 -- A put, and a search that loads its change, on a small log. Serves `examples`.
-use Rattle.std.proofs.Common.{◌≡◌, ◌≢◌, ℕ, ◌+◌, ◌≤◌, [], ◌∷◌, length, slice_get, Some, None, refl, arith}
+use Rattle.std.proofs.Common.{◌≡◌, ℕ, ◌+◌, [], ◌∷◌, length, slice_get, Some, None, refl, arith}
 use Rattle.ist_core.specs.declared.commands.Command.TheVariants.{Put}
 use Rattle.ist_core.specs.declared.states.ChangeRow.{ChangeRow}
 use Rattle.ist_core.specs.declared.states.LeafRow.{LeafRow}
-use Rattle.ist_core.specs.References.{Empty, LeafAt, ChangeAt, RebuildAt, ref_of}
+use Rattle.ist_core.specs.References.{Empty, LeafAt, ref_of}
 use Rattle.ist_core.specs.Statuses.{put_kind}
 use Rattle.ist_core.specs.Pieces.{Piece, Leaf, Change, words_of}
 use Rattle.ist_core.specs.StartLayout.{start, rows_within}
@@ -15,7 +15,7 @@ use Rattle.ist_core.specs.ExampleTables.{pair}
 use Rattle.ist_core.specs.ExampleLogs.{put_decided, put_resolved}
 use Rattle.ist_core.proofs.PutExampleLemmas.{put_is_lawful}
 use Rattle.ist_histories.specs.Loads.{Load, log_at, in_anchor_slot, in_published, IsLoad}
-use Rattle.ist_histories.specs.Searching.{ReadsSide, by_to, by_from, ReadsTarget, no_rebuild, LooksAt, begins, of_nothing, of_key, Searched}
+use Rattle.ist_histories.specs.Searching.{by_to, by_from, no_rebuild, LooksAt, begins, of_nothing, of_key, Searched}
 use Rattle.ist_histories.proofs.WordLemmas.{one_word}
 
 -- ---- the put

@@ -28,13 +28,17 @@ use Rattle.ist_core.proofs.RoomLemmas.{published_good}
 use Rattle.ist_core.proofs.NamingStepLemmas.{changed_at-fixed}
 use Rattle.ist_core.proofs.OrderLemmas.{names, past_rebuild_above}
 use Rattle.ist_core.proofs.SlotStepLemmas.{slot_stays}
-use Rattle.ist_core.proofs.FreezingLemmas.{side_not_yes, same_change}
+use Rattle.ist_core.proofs.FreezingLemmas.{change_read, side_not_yes, same_change}
+use Rattle.ist_links.specs.Linking.{IsFinished}
+use Rattle.ist_links.proofs.FormLemmas.{finished_grows}
+use Rattle.ist_links.proofs.InductionLemmas.{sound_behind, grow_behind}
+use Rattle.ist_links.proofs.ReadLemmas.{side_yes}
 use Rattle.ist_histories.specs.Finding.{Finds, Gives}
 use Rattle.ist_histories.specs.Telling.{AreLegal}
 use Rattle.ist_histories.proofs.MapLemmas.{replay-append, map_told, legal_append}
-use Rattle.ist_histories.proofs.NeedLemmas.{IsFinished, HasForm, into_nothing, over_leaf, beside_low, beside_high, takes_out, begins, ends, Needs, AllNeeds}
-use Rattle.ist_histories.proofs.ReadLemmas.{side_reads, change_logical, side_yes, Turns, sound_at, grows_at, change_word}
-use Rattle.ist_histories.proofs.LedLemmas.{finished_grows, child_stays, led_step, led_on}
+use Rattle.ist_histories.proofs.NeedLemmas.{HasForm, into_nothing, over_leaf, beside_low, beside_high, takes_out, begins, ends, Needs, AllNeeds}
+use Rattle.ist_histories.proofs.ReadLemmas.{side_reads, change_logical, Turns}
+use Rattle.ist_histories.proofs.LedLemmas.{child_stays, led_step, led_on}
 use Rattle.ist_histories.proofs.DecisionLemmas.{unfinished}
 use Rattle.ist_histories.proofs.FindLemmas.{finds_once, finds_above, gives_step, IsHigh, finds_high}
 use Rattle.ist_histories.proofs.CameLemmas.{came}
@@ -145,10 +149,10 @@ module _ (pairs : List Pair) (words : ℕ) (opens : CanOpen pairs words) (needs 
       let turned : ChangeRow = record change { decision = decided_yes } in
       let there : Behind.pieces base ≡ Some (Change turned) =
       changed_at-same Before.pieces base (with_decision decided_yes) ∙ ap (option_map (with_decision decided_yes)) pending.published in
-      let word = change_word pairs words opens log h.0 base change pending.published in
+      let word = change_read pairs words opens log h.0 base change pending.published in
       let none : change.decision ≢ decided_yes = λ e. (let zero = pending.unset in omega arith) in
       let row = (names pairs words opens log h.0).rows base (Change change) pending.published in
-      let grows = grows_at pairs words opens log (Decide caller base true) h in
+      let grows = grow_behind pairs words log (Decide caller base true) h in
       record {
         led = led;
         index_is = by_key.index_is;
@@ -156,7 +160,7 @@ module _ (pairs : List Pair) (words : ℕ) (opens : CanOpen pairs words) (needs 
         reads = change_logical Before.pieces (word_of (ChangeAt base)) base change word pending.published ∙ ap (λ w. past_rebuild Before.pieces (ref_of w)) (side_not_yes change none);
         led_behind = ⊎_elim (λ x. x) (λ f. absurd (never f)) (led_step pairs words opens log (Decide caller base true) h needed change.key change.node led);
         index_behind = child_stays Before Behind grows change.node change.key change.index by_key.index_is;
-        slot_behind = slot_stays (start pairs words) log (Decide caller base true) h.1 (sound_at pairs words opens log h.0) tt change.node change.index (word_of (ChangeAt base)) slot;
+        slot_behind = slot_stays (start pairs words) log (Decide caller base true) h.1 (sound_behind pairs words log h.0) tt change.node change.index (word_of (ChangeAt base)) slot;
         reads_behind =
             change_logical Behind.pieces (word_of (ChangeAt base)) base turned word there
             ∙ ap (λ w. past_rebuild Behind.pieces (ref_of w)) (side_yes turned refl)
