@@ -33,7 +33,7 @@ pub use giving_up::{are_distinct, can_lose};
 pub use installing::can_install;
 pub use marking::{can_finish, can_mark, can_pass};
 pub use naming::{inner_of_word, leaf_of_word, names_nothing, rebuild_of_word};
-pub use nodes::finished_keys;
+pub use nodes::{finished_keys, holds_at, is_open, slot_holds};
 pub use pasts::{LastUpdate, Past, Slot, pair_key};
 pub use replicas::Replica;
 pub use rows::{change_of_words, holds_rows};

@@ -1,12 +1,11 @@
 -- Which rows are those of an ideal subtree: a row first, then those of each part. Serves `ideals.rt`.
-use Rattle.std.proofs.Common.{◌≡◌, ◌≢◌, ◌∙◌, ◌≤◌, ◌<◌, ◌-◌, ◌+◌, ◌*◌, ◌^◌, ℕ, zero, suc, min, List, [], ◌∷◌, ◌++◌, length, take, drop, get_or, Option, Some, None, refl, sym, ap, subst, append_assoc, arith, length-append, length-take, length-drop}
-use Rattle.std.proofs.lemmas.List.{take-append-drop}
+use Rattle.std.proofs.Common.{◌≡◌, ◌≢◌, ◌∙◌, ◌≤◌, ◌<◌, ◌-◌, ◌+◌, ◌*◌, ◌^◌, ℕ, zero, suc, min, List, [], ◌∷◌, ◌++◌, length, take, drop, get_or, slice_get, Option, Some, None, refl, sym, ap, subst, append_assoc, arith, length-append, length-take, length-drop}
 use Rattle.ist_core.specs.declared.lists.Row.{Row}
 use Rattle.ist_core.specs.declared.states.InnerRow.{InnerRow}
 use Rattle.ist_core.specs.Arithmetic.{degree, part_len, part_lens}
 use Rattle.ist_core.specs.References.{Ref, Empty, LeafAt, InnerAt, ref_of}
 use Rattle.ist_core.specs.Parts.{cut, parts}
-use Rattle.ist_core.specs.Pieces.{Piece, Inner, inner_of}
+use Rattle.ist_core.specs.Pieces.{Inner, inner_of}
 use Rattle.ist_core.specs.Leaves.{PlacedLeaf}
 use Rattle.ist_core.proofs.PartLemmas.{part_len-lt}
 use Rattle.ist_check.proofs.RowLemmas.{behind, split_first}
@@ -313,3 +312,8 @@ pub parts_by_degree : (leaves : List PlacedLeaf) (d : ℕ) (slots : List ℕ) (b
     → Counts (λ rs. BuildsAll slots (parts leaves) base rs) rows o
 parts_by_degree leaves d slots base rows o e h =
     subst (λ ps. Counts (λ rs. BuildsAll slots ps base rs) rows o) (ap (λ k. cut (lens_from (length leaves) 0 k) leaves) e ∙ all_parts leaves) h
+
+-- the same of one part
+pub nth_by_degree : (leaves : List PlacedLeaf) (d i : ℕ) → d ≡ degree (length leaves)
+    → slice_get (cut (lens_from (length leaves) 0 d) leaves) i ≡ slice_get (parts leaves) i
+nth_by_degree leaves d i e = ap (λ ps. slice_get ps i) (ap (λ k. cut (lens_from (length leaves) 0 k) leaves) e ∙ all_parts leaves)

@@ -1,12 +1,11 @@
 -- What is gathered below a slot or a list of slots are its leaves. Serves `leaves.rt`.
-use Rattle.std.proofs.Common.{◌≡◌, ◌∙◌, ◌≤◌, ◌-◌, ℕ, true, false, Bool, List, [], ◌∷◌, ◌++◌, length, take, drop, get_or, Option, Some, None, Result, Ok, Err, IfOk, refl, sym, ap, subst, append_assoc, arith}
+use Rattle.std.proofs.Common.{◌≡◌, ◌∙◌, ◌≤◌, ◌<◌, ◌-◌, ℕ, true, false, Bool, List, [], ◌∷◌, ◌++◌, length, take, get_or, Option, Some, None, Result, Ok, Err, IfOk, sym, ap, subst, append_assoc, arith}
 use Rattle.std.proofs.lemmas.List.{append-nil, take_all}
 use Rattle.std.specs.Ordering.{nat_cmp}
 use Rattle.std.specs.BTreeMap as tree
 use Rattle.ist_core.specs.declared.states.LeafRow.{LeafRow}
 use Rattle.ist_core.specs.declared.states.InnerRow.{InnerRow}
 use Rattle.ist_core.specs.References.{Ref, Empty, LeafAt, InnerAt}
-use Rattle.ist_core.specs.Elements.{Each}
 use Rattle.ist_core.specs.Pieces.{Pieces, Piece, Leaf, Inner, Change, Rebuild, as_leaf}
 use Rattle.ist_core.specs.Snapshots.{Snapshot}
 use Rattle.ist_core.specs.Slots.{logical}
@@ -41,6 +40,10 @@ as_leaf-some None r e = cc
 pub leaf_stands : (s : Replica) (t : Snapshot) (base : ℕ) → Mirrors s t → (r : LeafRow)
     → tree.get nat_cmp s.leaves base ≡ Some r → t.pieces base ≡ Some (Leaf r)
 leaf_stands s t base h r e = as_leaf-some (t.pieces base) r (sym (h.leaves base) ∙ e)
+
+-- the caller is known to the state
+pub known_caller : (s : Replica) (t : Snapshot) (caller : ℕ) → Mirrors s t → caller < s.callers → caller < t.callers
+known_caller s t caller h less = let same = h.callers in omega arith
 
 module _ (ps : Pieces) where
   pub gathers_none : (ref : Option Ref) (old : List PlacedLeaf) → ref ≡ Some Empty

@@ -3,3 +3,5 @@ pub mod PartCutLemmas
 pub mod TopLemmas
 pub mod BuiltLemmas
 pub mod RootLemmas
+pub mod PublishLemmas
+pub mod FitLemmas

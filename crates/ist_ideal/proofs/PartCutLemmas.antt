@@ -1,5 +1,5 @@
 -- A list cut into parts, one part at a time, and the first keys of the parts. Serves `ideals.rt`.
-use Rattle.std.proofs.Common.{◌≡◌, ◌≢◌, ◌↔◌, ◌∙◌, ◌≤◌, ◌<◌, ◌-◌, ◌+◌, ℕ, zero, suc, min, ⊎_elim, List, [], ◌∷◌, length, map, take, drop, get_or, IsTrue, Bool, refl, sym, ap, subst, arith, length-drop}
+use Rattle.std.proofs.Common.{◌≡◌, ◌≢◌, ◌↔◌, ◌∙◌, ◌≤◌, ◌<◌, ◌-◌, ◌+◌, ℕ, zero, suc, min, ⊎_elim, List, [], ◌∷◌, length, take, drop, get_or, slice_get, IsTrue, Bool, refl, sym, ap, arith, length-drop}
 use Rattle.std.proofs.lemmas.List.{take_all, take_min}
 use Rattle.std.proofs.lemmas.Bool.{cases_lt}
 use Rattle.std.proofs.Math.ListN.{drop_of_length-le}
@@ -39,6 +39,15 @@ module _ {A : Type 0} where
       ∙ ap (λ ys. take end xs ∷ cut (lens_from n (j + 1) left) ys) rest
       ∙ ap (λ k. take end xs ∷ cut (lens_from n (j + 1) k) (from xs end)) one
 
+  -- a later part is one of those behind the first
+  pub nth_more : (n j left end i : ℕ) (xs : List A) → left ≢ 0 → end ≡ min (part_len n j) (length xs) → i ≢ 0
+      → slice_get (cut (lens_from n (j + 1) (left - 1)) (from xs end)) (i - 1) ≡ slice_get (cut (lens_from n j left) xs) i
+  nth_more n j left end zero xs some is ne = absurd (ne refl)
+  nth_more n j left end (suc i) xs some is ne =
+      ap (slice_get (cut (lens_from n (j + 1) (left - 1)) (from xs end))) (let e : suc i - 1 ≡ i = omega arith in e)
+      ∙ ap (λ ps. slice_get ps (suc i)) (sym (cut_first n j left end xs some is))
+
+  -- a list cut into no part
   pub cut_last : (n j left : ℕ) (xs : List A) → left ≡ 0 → cut (lens_from n j left) xs ≡ []
   cut_last n j left xs e = ap (λ k. cut (lens_from n j k) xs) e
 

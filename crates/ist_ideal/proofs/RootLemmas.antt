@@ -1,10 +1,9 @@
 -- Which words and rows are a root, or an ideal subtree. Serves `roots.rt`.
-use Rattle.std.proofs.Common.{◌≡◌, ◌↔◌, ◌∙◌, ◌≤◌, ◌<◌, ℕ, List, [], ◌∷◌, ◌++◌, length, take, get_or, Some, None, IsTrue, Bool, nat_eq, refl, sym, ap, subst, arith}
+use Rattle.std.proofs.Common.{◌≡◌, ◌↔◌, ◌∙◌, ◌≤◌, ◌<◌, ℕ, List, [], length, take, get_or, Some, None, IsTrue, nat_eq, sym, ap, subst, arith}
 use Rattle.std.proofs.lemmas.Bool.Decides.{nat_tests}
 use Rattle.std.proofs.lemmas.List.{append-nil, take_all}
 use Rattle.ist_core.specs.declared.lists.Row.{Row}
-use Rattle.ist_core.specs.References.{InnerAt, ref_of}
-use Rattle.ist_core.specs.Shapes.{share_from, share_from_is}
+use Rattle.ist_core.specs.Shapes.{share_from_is}
 use Rattle.ist_core.specs.Leaves.{PlacedLeaf}
 use Rattle.ist_ideal.specs.Built.{BuildsAt, Counts, HasTopSlots, IsTopAlone, IsRootOf, whole, top_alone}
 

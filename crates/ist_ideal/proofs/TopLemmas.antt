@@ -1,13 +1,13 @@
 -- The words of a top row, read field by field. Serves `ideals.rt`.
-use Rattle.std.proofs.Common.{◌≡◌, ◌≢◌, ◌∙◌, ◌≤◌, ◌<◌, ◌-◌, ◌+◌, ℕ, zero, suc, min, List, [], ◌∷◌, length, take, drop, get_or, Some, refl, sym, ap, subst, arith}
-use Rattle.std.proofs.lemmas.List.{take_all, take_min}
+use Rattle.std.proofs.Common.{◌≡◌, ◌≢◌, ◌∙◌, ◌≤◌, ◌<◌, ◌-◌, ℕ, min, List, [], ◌∷◌, length, take, drop, get_or, Some, sym, ap, arith}
+use Rattle.std.proofs.lemmas.List.{take_min}
 use Rattle.ist_core.specs.declared.lists.Row.{Row}
 use Rattle.ist_core.specs.declared.states.InnerRow.{InnerRow}
 use Rattle.ist_core.specs.Arithmetic.{degree, part_len, part_lens}
 use Rattle.ist_core.specs.Parts.{cut, parts, first_keys}
-use Rattle.ist_core.specs.Pieces.{Piece, Inner, inner_of}
+use Rattle.ist_core.specs.Pieces.{Inner, inner_of}
 use Rattle.ist_core.specs.Leaves.{PlacedLeaf}
-use Rattle.ist_ideal.specs.Built.{lens_from, key_of_leaf, IsTopRow, HasTopSlots}
+use Rattle.ist_ideal.specs.Built.{lens_from, key_of_leaf, HasTopSlots}
 use Rattle.ist_ideal.proofs.PartCutLemmas.{from, from-drop, drop_min, cut_first}
 
 -- words of four fields and some more

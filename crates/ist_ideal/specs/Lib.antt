@@ -3,3 +3,4 @@ pub mod Standing
 -- what the functions inside this crate promise each other
 pub mod Reading
 pub mod Built
+pub mod Publishing

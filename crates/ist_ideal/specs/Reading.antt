@@ -1,5 +1,5 @@
 -- What a slot is read as, and which leaves were found below one.
-use Rattle.std.specs.Prelude.{◌≡◌, ◌++◌, ℕ, Bool, true, false, List, Option, Some}
+use Rattle.std.specs.Prelude.{◌≡◌, ◌++◌, Bool, true, false, List, Option, Some}
 use Rattle.ist_core.specs.References.{Ref, Empty, LeafAt, InnerAt}
 use Rattle.ist_core.specs.Pieces.{Pieces}
 use Rattle.ist_core.specs.Leaves.{PlacedLeaf, HasLeaves}

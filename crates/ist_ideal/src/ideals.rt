@@ -1,5 +1,5 @@
 //! Whether the rows of an event are those of an ideal subtree over some leaves.
-ghost use Rattle.std.specs.Prelude.{◌≡◌, ◌↔◌, ◌≤◌, ◌<◌, ◌^◌, ◌+◌, ℕ, IsTrue, IfSome, MatchOption, List, Some, ◌-◌, length, take, min};
+ghost use Rattle.std.specs.Prelude.{◌≡◌, ◌↔◌, ◌≤◌, ◌<◌, ◌^◌, ◌+◌, ℕ, IsTrue, IfSome, MatchOption, List, Some, None, slice_get, ◌-◌, length, take, min};
 ghost use Rattle.ist_core.specs.declared.states.InnerRow.{InnerRow};
 ghost use Rattle.ist_core.specs.Arithmetic.{part_len};
 ghost use Rattle.ist_core.specs.References.{LeafAt, ref_of};
@@ -18,7 +18,11 @@ fn part_end(n: u64, j: u64, len: usize) -> usize
     ensures value { result ≡ min (part_len n j) len }
 {
     let part = part_len_of(n, j);
-    if part < len as u64 { part as usize } else { len }
+    if part < len as u64 {
+        part as usize
+    } else {
+        len
+    }
 }
 
 /// Are these the keys of the first leaves of `left` parts of `n` leaves, from part `j` on?
@@ -95,7 +99,11 @@ pub fn built(word: u64, leaves: &[FoundLeaf], above: u64, rows: &[Row]) -> Optio
         return if names_nothing(word) { Some(0) } else { None };
     }
     if leaves.len() == 1 {
-        return if is_leaf_at(word, leaves[0].base()) { Some(0) } else { None };
+        return if is_leaf_at(word, leaves[0].base()) {
+            Some(0)
+        } else {
+            None
+        };
     }
     match inner_of_word(word) {
         None => None,
@@ -157,8 +165,15 @@ fn parts_built(
             match built(*word, &leaves[..end], above, rows) {
                 None => None,
                 Some(used) => {
-                    match parts_built(n, j + 1, left - 1, more, &leaves[end..], above, &rows[used..])
-                    {
+                    match parts_built(
+                        n,
+                        j + 1,
+                        left - 1,
+                        more,
+                        &leaves[end..],
+                        above,
+                        &rows[used..],
+                    ) {
                         None => None,
                         Some(further) => Some(used + further),
                     }
@@ -166,4 +181,27 @@ fn parts_built(
             }
         }
     }
+}
+
+/// Part `i` of `left` parts of `n` leaves, from part `j` on.
+pub fn nth_part<'a>(
+    n: u64,
+    j: u64,
+    left: u64,
+    leaves: &'a [FoundLeaf],
+    i: u64,
+) -> Option<&'a [FoundLeaf]>
+    requires parts { j + left < 2 ^ 64 }
+    ensures exact { MatchOption result
+        (slice_get (cut (lens_from n j left) leaves.now) i ≡ None)
+        (λ part. slice_get (cut (lens_from n j left) leaves.now) i ≡ Some part.now) }
+{
+    if left == 0 {
+        return None;
+    }
+    let end = part_end(n, j, leaves.len());
+    if i == 0 {
+        return Some(&leaves[..end]);
+    }
+    nth_part(n, j + 1, left - 1, &leaves[end..], i - 1)
 }

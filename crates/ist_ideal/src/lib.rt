@@ -5,11 +5,13 @@
 //! `ist_core`, `ist_layout`, `ist_math` and `ist_check`.
 #![tactic(auto)]
 
+mod building;
 mod ideals;
 mod leaves;
 mod readings;
 mod roots;
 
+pub use building::{can_place, can_root};
 pub use leaves::{FoundLeaf, add_leaves};
 pub use readings::{Reading, read_slot};
 pub use roots::{is_ideal, is_root};

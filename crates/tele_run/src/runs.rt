@@ -5,8 +5,8 @@ ghost use Rattle.tele_lines.specs.Answer.{answer, usage_text};
 ghost use Rattle.tele_run.specs.Causes.{are_refused, IsAnswer, IsCutShort, IsStatus, IsWhole, Stops};
 
 use crate::outcomes::{ANSWERED, NO_MEMORY, Outcome, READ_FAILED, USAGE, WRITE_FAILED};
+use crate::rounds::Round;
 use crate::steps::{refused, step};
-use plain_map::Plain;
 use std::alloc::Global;
 use tele_io::{Sink, Source, write_whole};
 use tele_lines::Lines;
@@ -14,8 +14,11 @@ use tele_lines::Lines;
 /// The most lines that an input has.
 const LINE_LIMIT: u64 = 16_777_216;
 
-/// Reads lines from the source, carries each out on one map, and writes the replies to the sink,
-/// each line before the next is read. It always returns.
+/// Reads lines from the source, carries them out on one map, and writes the replies to the sink. It
+/// always returns.
+///
+/// Lines are answered in rounds, in the order in which they came. A round ends behind an interval
+/// line, when it has 16,384 point lines, before a bad line, and at the end of the input.
 ///
 /// `words` are those of the command line, the program's name first; the name alone is accepted, and
 /// no word is too. Other words are refused with status 2: the source isn't read, and a line that
@@ -23,8 +26,8 @@ const LINE_LIMIT: u64 = 16_777_216;
 ///
 /// - 0, the input was read to its end, or 3, a bad line was reached: the answer to the bytes of the
 ///   source was written;
-/// - 4, the source failed in this call: the replies to the lines that a newline ends within the
-///   bytes taken were written, and none of these lines is bad;
+/// - 4, the source failed in this call: of the lines that a newline ends within the bytes taken
+///   none is bad, and the replies to those that stand in whole rounds were written;
 /// - 5, the sink failed in this call, or 7, no memory was left: a prefix of the text was written.
 ///
 /// `rt` stands for the runtime that will run the workers. Nothing here uses it.
@@ -49,7 +52,7 @@ pub fn run<R, S: Source, O: Sink>(
         Appends (O.written out.old) (O.written out.new) usage_text }
     ensures unread { are_refused (length words.now) ≡ true → source.new ≡ source.old }
 
-    // After a failed read the replies to the lines that had come whole stand written.
+    // After a failed read the replies to the whole rounds of the lines that had come stand written.
     ensures stops { result.status ≡ READ_FAILED → IfSome (S.left source.old) (λ bytes.
         Stops bytes (S.left source.new) (O.written out.old) (O.written out.new)) }
 
@@ -123,9 +126,9 @@ fn answer_all<S: Source, O: Sink>(alloc: Global, source: &mut S, out: &mut O) ->
     ensures sink_counted { O.faults out.old ≤ O.faults out.new }
 {
     let mut lines = Lines::new(LINE_LIMIT);
-    let mut plain = Plain::new(alloc);
+    let mut round = Round::new(alloc);
     loop {
-        if let Some(status) = step(&mut lines, &mut plain, source, out) {
+        if let Some(status) = step(&mut lines, &mut round, source, out) {
             return status;
         }
     }

@@ -151,23 +151,12 @@ fn refused_words_are_named_and_nothing_is_read(rt: HostRuntime) -> Result<(), Fa
 }
 
 #[test]
-fn a_fault_leaves_the_replies_before_it(rt: HostRuntime) -> Result<(), Fail> {
-    // nine lines of six bytes each and a last one without its newline, in nine reads of seven bytes
-    let input = b"P 1 1\nP 2 2\nP 3 3\nP 4 4\nP 5 5\nP 6 6\nP 7 7\nP 8 8\nP 9 9\nP 1 5";
-    let output = b"1 -\n2 -\n3 -\n4 -\n5 -\n6 -\n7 -\n8 -\n9 -\n10 1\n";
+fn a_failed_read_leaves_the_replies_of_whole_rounds(rt: HostRuntime) -> Result<(), Fail> {
+    // seven lines of six bytes each, in six reads of seven bytes; two rounds, and a line behind them
+    let input = b"P 1 1\nP 2 2\nI 0 9\nP 3 3\nP 4 4\nI 3 3\nP 5 5\n";
+    let output = b"1 -\n2 -\n3 2\n1 1\n2 2\n4 -\n5 -\n6 1\n3 3\n7 -\n";
     // the read that fails, how many bytes of the output are written then
-    let reads = [
-        (0, 0),
-        (1, 4),
-        (2, 8),
-        (3, 12),
-        (4, 16),
-        (5, 20),
-        (6, 28),
-        (7, 32),
-        (8, 36),
-        (9, 36),
-    ];
+    let reads = [(0, 0), (1, 0), (2, 0), (3, 20), (4, 20), (5, 20), (6, 36)];
     for (read, len) in reads {
         let (written, status) = faulty(rt.alloc(), input, &[read], &[])?;
         assert!(rt; len <= output.len());
@@ -178,20 +167,63 @@ fn a_fault_leaves_the_replies_before_it(rt: HostRuntime) -> Result<(), Fail> {
         );
         assert_eq!(rt; status, 4, "the status where read {read} fails");
     }
-    for write in 0..10 {
-        let len = 4 * write;
+    let (written, status) = faulty(rt.alloc(), input, &[99], &[99])?;
+    assert_eq!(rt; written.as_slice(), output.as_slice());
+    assert_eq!(rt; status, 0);
+    Ok(())
+}
+
+#[test]
+fn a_line_of_an_open_round_is_not_answered_at_a_failed_read(rt: HostRuntime) -> Result<(), Fail> {
+    let mut source = MemorySource::new(
+        b"P 1 1\nP 2".to_vec(rt.alloc())?,
+        9,
+        [1].to_vec(rt.alloc())?,
+    );
+    let mut out = QuietSink::new(rt.alloc());
+    let outcome = run_over(rt.alloc(), &mut source, &mut out);
+    assert_eq!(rt; out.bytes(), b"".as_slice());
+    assert_eq!(rt; outcome.status, 4);
+    Ok(())
+}
+
+#[test]
+fn a_round_has_at_most_16384_point_lines(rt: HostRuntime) -> Result<(), Fail> {
+    // how many lines come before the read that fails, that read, how many of the lines are answered
+    let rows = [
+        (16_383, 16, 0),
+        (16_384, 16, 16_384),
+        (20_000, 20, 16_384),
+        (32_768, 32, 32_768),
+    ];
+    for (lines, read, answered) in rows {
+        let mut input = Vec::new(rt.alloc());
+        for _ in 0..lines {
+            input.extend_from_slice(b"G 1\n")?;
+        }
+        let mut source = MemorySource::new(input, 4_096, [read].to_vec(rt.alloc())?);
+        let mut out = QuietSink::new(rt.alloc());
+        let outcome = run_over(rt.alloc(), &mut source, &mut out);
+        let ends = out.bytes().iter().filter(|byte| **byte == b'\n').count();
+        assert_eq!(rt; ends, answered, "of {lines} lines");
+        assert_eq!(rt; outcome.status, 4, "behind {lines} lines");
+    }
+    Ok(())
+}
+
+#[test]
+fn a_failed_write_leaves_the_lines_before_it(rt: HostRuntime) -> Result<(), Fail> {
+    let input = b"P 1 1\nP 2 2\nI 0 9\nP 3 3\nX 4 4\n";
+    let output = b"1 -\n2 -\n3 2\n1 1\n2 2\n4 -\n! 5 letter\n";
+    for write in 0..7 {
         let (written, status) = faulty(rt.alloc(), input, &[], &[write as u64])?;
-        assert!(rt; len <= output.len());
         assert_eq!(rt;
             written.as_slice(),
-            &output[..len],
+            &output[..4 * write],
             "the text where write {write} fails"
         );
         assert_eq!(rt; status, 5, "the status where write {write} fails");
     }
-    let (written, status) = faulty(rt.alloc(), input, &[99], &[99])?;
-    assert_eq!(rt; written.as_slice(), output.as_slice());
-    assert_eq!(rt; status, 0);
     Ok(())
 }
 

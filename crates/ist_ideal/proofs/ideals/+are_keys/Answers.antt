@@ -1,7 +1,6 @@
-use Rattle.std.proofs.Common.{◌↔◌, ◌≡◌, ◌∙◌, IsTrue, Bool, false, sym, ap, subst, get_or}
+use Rattle.std.proofs.Common.{◌↔◌, ◌≡◌, ◌∙◌, IsTrue, sym, subst}
 use Rattle.ist_check.proofs.AnswerLemmas.{never}
-use Rattle.ist_core.specs.Parts.{first_keys, cut}
-use Rattle.ist_ideal.specs.Built.{key_of_leaf, lens_from}
+use Rattle.ist_ideal.specs.Built.{key_of_leaf}
 use Rattle.ist_ideal.proofs.PartCutLemmas.{keys_skip, keys_first, keys_some, rest_keys, none_begins, begins_so}
 use Rattle.ist_ideal.proofs.ideals.+are_keys.Goals as goal
 

@@ -1,5 +1,4 @@
-use Rattle.std.proofs.Common.{◌≡◌, ◌≢◌, ◌∙◌, arith, true≢false, sym}
-use Rattle.ist_core.specs.Arithmetic.{degree}
+use Rattle.std.proofs.Common.{◌∙◌, arith, true≢false, sym}
 use Rattle.ist_ideal.proofs.TopLemmas.{has_top, top_keys}
 use Rattle.ist_ideal.proofs.ideals.top_slots.Goals as goal
 

@@ -1,4 +1,4 @@
-use Rattle.std.proofs.Common.{ap, sym, subst, refl, Some, get_or, arith}
+use Rattle.std.proofs.Common.{sym, subst, Some, get_or, arith}
 use Rattle.ist_core.specs.References.{InnerAt, LeafAt}
 use Rattle.ist_core.specs.Slots.{logical}
 use Rattle.ist_core.specs.Leaves.{HasLeaves}
