@@ -19,6 +19,8 @@ use Rattle.ist_core.proofs.ParentLemmas.{one_home}
 use Rattle.ist_core.proofs.RisingLemmas.{Rises}
 use Rattle.ist_core.proofs.UnderLemmas.{leaves_under, slot_reads_as}
 use Rattle.ist_core.proofs.LeafOrderLemmas.{leaves_lie, next_from_rises}
+use Rattle.ist_rebuilds.proofs.ExistLemmas.{HasSome}
+use Rattle.ist_rebuilds.proofs.ContentLemmas.{contents_exist}
 use Rattle.ist_histories.specs.Finding.{Gives}
 use Rattle.ist_histories.specs.Telling.{map_now}
 use Rattle.ist_histories.proofs.ValueLemmas.{value_of, get-map_of, same_gets}
@@ -27,7 +29,6 @@ use Rattle.ist_histories.proofs.BelowLemmas.{pairs_rise}
 use Rattle.ist_histories.proofs.RootLemmas.{named_value}
 use Rattle.ist_histories.proofs.TellLemmas.{Told, told}
 use Rattle.ist_histories.proofs.OpeningLemmas.{start_contents}
-use Rattle.ist_histories.proofs.ExistLemmas.{HasSome, has_some}
 use Rattle.ist_histories.proofs.NeededLemmas.{all_needed}
 
 -- ---- the pairs of a map
@@ -82,7 +83,7 @@ module _ (pairs : List Pair) (words : ℕ) (opens : CanOpen pairs words) where
 
   -- some leaves lie in the tree
   leaves_at : (log : Log) → EachEnabled (start pairs words) log → HasSome (state_of pairs words log).pieces (logical (state_of pairs words log).pieces (state_of pairs words log).anchor)
-  leaves_at log h = has_some pairs words opens (all_needed pairs words opens) log h
+  leaves_at log h = let it = contents_exist pairs words opens log h in record { leaves = it.1.leaves; reached = it.1.reached }
 
   -- their keys rise
   rise_at : (log : Log) (h : EachEnabled (start pairs words) log) → Rises (λ p. p.key) (map pair_of (leaves_at log h).leaves)

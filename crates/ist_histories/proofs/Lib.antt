@@ -19,7 +19,6 @@ pub mod BelowLemmas
 pub mod RootLemmas
 pub mod TellLemmas
 pub mod OpeningLemmas
-pub mod ExistLemmas
 pub mod NeededLemmas
 pub mod ContentLemmas
 pub mod PositionLemmas
