@@ -23,6 +23,7 @@ pub mod NeededLemmas
 pub mod ContentLemmas
 pub mod PositionLemmas
 pub mod EntryLemmas
+pub mod EntryChangeLemmas
 pub mod WordLemmas
 pub mod RefusedExampleLemmas
 pub mod CallExampleLemmas

@@ -57,7 +57,7 @@ WordsAreOne =
 -- such a place lies in no row that is held or was lost: in none that was set aside and isn't published
 abbrev pub WordsLieInNoOtherRow : Type 0
 WordsLieInNoOtherRow =
-    (pairs : List Pair) (words : ℕ) (log : Log) → Lawful pairs words log → (place word base size : ℕ)
-    → HasWord (state_of pairs words log) place word
+    (pairs : List Pair) (words : ℕ) (log : Log) → Lawful pairs words log
+    → (place word base size : ℕ) → HasWord (state_of pairs words log) place word
     → IsSetAside pairs words log base size → (state_of pairs words log).pieces base ≡ None
     → (place < base) ⊎ (base + size ≤ place)

@@ -27,12 +27,14 @@ WovenHasEachCall =
     (pairs : List Pair) (words : ℕ) (log : Log) (passes : List PassCalls)
     → StandInPrefixes pairs words log passes
     → let entries = changes_of pairs words log in
-    IsPermutation (map told_by_entry entries ++ map told_by_reading (readings passes)) (woven entries passes)
+    IsPermutation (map told_by_entry entries ++ map told_by_reading (readings passes))
+    (woven entries passes)
 
 -- lists of calls as passes, numbered from this number on
 abbrev pub numbered : ℕ → List (List Call) → List PassCalls
 numbered number [] = []
-numbered number (calls ∷ more) = record { number = number; calls = calls } ∷ numbered (number + 1) more
+numbered number (calls ∷ more) =
+    record { number = number; calls = calls } ∷ numbered (number + 1) more
 
 -- so have the passes that were taken back, by their numbers
 abbrev pub TakenBackIsLegal : Type 0

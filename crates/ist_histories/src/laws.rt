@@ -1,10 +1,15 @@
 //! Laws over lawful logs. The functions take no steps and answer nothing: contracts are laws.
-ghost use Rattle.ist_histories.specs.Telling.{TreeGivesTheMap, ContentsAreThePairs, PairsRise, ChangesAreLegal};
-ghost use Rattle.ist_histories.specs.Telling.{UpdatesHaveEntries, EntriesAreUpdates, EntriesAreOnce, EntriesAreOfOne, EntriesChangeTheMap};
+ghost use Rattle.ist_histories.specs.Telling.{TreeGivesTheMap, ContentsAreThePairs, PairsRise};
+ghost use Rattle.ist_histories.specs.Telling.{ChangesAreLegal, UpdatesHaveEntries};
+ghost use Rattle.ist_histories.specs.Telling.{EntriesAreUpdates, EntriesAreOnce, EntriesAreOfOne};
+ghost use Rattle.ist_histories.specs.Telling.{EntriesChangeTheMap};
 ghost use Rattle.ist_histories.specs.Calls.{ChangesGoOn, CallsStandOn, ReadingsStand, UpdatesStand};
-ghost use Rattle.ist_histories.specs.Weaving.{WovenIsLegal, WovenHasEachCall, TakenBackIsLegal, LearntCallsComeFirst};
-ghost use Rattle.ist_histories.specs.Loads.{WordsStandInTheImage, WordsAreOne, WordsLieInNoOtherRow};
-ghost use Rattle.ist_histories.specs.Searching.{SearchesHaveAPosition, SearchesStand, SlotLoadsHold, NodesWereMet, LooksGoUp};
+ghost use Rattle.ist_histories.specs.Weaving.{WovenIsLegal, WovenHasEachCall, TakenBackIsLegal};
+ghost use Rattle.ist_histories.specs.Weaving.{LearntCallsComeFirst};
+ghost use Rattle.ist_histories.specs.Loads.{WordsStandInTheImage, WordsAreOne};
+ghost use Rattle.ist_histories.specs.Loads.{WordsLieInNoOtherRow};
+ghost use Rattle.ist_histories.specs.Searching.{SearchesHaveAPosition, SearchesStand};
+ghost use Rattle.ist_histories.specs.Searching.{SlotLoadsHold, NodesWereMet, LooksGoUp};
 
 /// The changes of a log are what happened to the map. Behind them the tree gives each key what the
 /// map has, and the contents are the pairs of the map, rising by key; and each change has the reply
@@ -41,8 +46,8 @@ pub fn calls_are_added()
     ensures update { UpdatesStand }
 {}
 
-/// The table has one word at each place of a published row and in the anchor's slot; it stands there
-/// in the image, and in no row that is held or was lost.
+/// The table has one word at each place of a published row and in the anchor's slot; it stands
+/// there in the image, and the place lies in no row that is held or was lost.
 pub fn words_are_told()
     ensures image { WordsStandInTheImage }
     ensures one { WordsAreOne }
