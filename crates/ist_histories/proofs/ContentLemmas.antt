@@ -41,10 +41,12 @@ entry p = (p.key, p.value)
 abbrev pair : ℕ × ℕ → Pair
 pair e = record { key = e.0; value = e.1 }
 
+-- pairs are those of their entries
 pairs-entries : (pairs : List Pair) → map pair (map entry pairs) ≡ pairs
 pairs-entries [] = refl
 pairs-entries (p ∷ pairs) = ap (λ (ps : List Pair). p ∷ ps) (pairs-entries pairs)
 
+-- entries have the keys of the pairs
 keys-entries : (pairs : List Pair) → map (λ e. e.0) (map entry pairs) ≡ map (λ p. p.key) pairs
 keys-entries [] = refl
 keys-entries (p ∷ pairs) = ap (λ ks. p.key ∷ ks) (keys-entries pairs)
@@ -108,9 +110,11 @@ module _ (pairs : List Pair) (words : ℕ) (opens : CanOpen pairs words) where
       ∙ sym (get-map_of xs key)) in
       ap pairs_of same ∙ pairs_of-map_of xs (rise_at log h)
 
+  -- the contents are the pairs of the map behind the changes
   pub contents_at : (log : Log) → EachEnabled (start pairs words) log → HasContents (state_of pairs words log) (pairs_of (map_now pairs words log))
   contents_at log h = let has = leaves_at log h in record { leaves = has.leaves; reached = has.reached; pairs_are = pairs_at log h }
 
+  -- these pairs rise by key
   pub pairs_rise_at : (log : Log) → EachEnabled (start pairs words) log → IsStrictlyIncreasing (map (λ p. p.key) (pairs_of (map_now pairs words log)))
   pairs_rise_at log h =
       subst (λ xs. IsStrictlyIncreasing (map (λ p. p.key) xs)) (sym (pairs_at log h)) (next_from_rises (λ p. p.key) (map pair_of (leaves_at log h).leaves) (rise_at log h))

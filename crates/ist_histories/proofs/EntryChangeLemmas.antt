@@ -39,12 +39,15 @@ module _ (pairs : List Pair) (words : ℕ) (opens : CanOpen pairs words) where
       → Each (λ entry. makes_entry entry.command entry.reply ≡ true) (entry_for t.pieces change (command_of change))
   no_entry t change none = rw none tt
 
+  -- a start has no command
   start_none : (change : ChangeRow) → change.kind ≡ start_kind → command_of change ≡ None
   start_none change kind = rw kind refl
 
+  -- nor has a finish
   finish_none : (change : ChangeRow) → change.kind ≡ finish_kind → command_of change ≡ None
   finish_none change kind = rw kind refl
 
+  -- what a change in its form makes changes the map
   entry_changes : (t : Snapshot) (change : ChangeRow) → HasForm t change
       → Each (λ entry. makes_entry entry.command entry.reply ≡ true) (entry_for t.pieces change (command_of change))
   entry_changes t change (into_nothing leaf kind from to new) = put_entry t change kind

@@ -47,6 +47,7 @@ command_stays old new g = ap command_of g.others
 same_prefix : (a b c d : ℕ) (x y : Log) → Decide a b true ∷ x ≡ Decide c d true ∷ y → x ≡ y
 same_prefix a b c d x y e = cc
 
+-- one event decides one change
 same_base : (a b c d : ℕ) (x y : Log) → Decide a b true ∷ x ≡ Decide c d true ∷ y → b ≡ d
 same_base a b c d x y e = cc
 
@@ -121,6 +122,7 @@ module _ (pairs : List Pair) (words : ℕ) (opens : CanOpen pairs words) where
     command : Command
     command_is : command_of change ≡ Some command
 
+  -- each entry comes from a Decide with yes
   source : (log : Log) → EachEnabled (start pairs words) log → (position : ℕ) (entry : Entry) → slice_get (changes_of pairs words log) position ≡ Some entry
       → Source log position
   source [] h position entry e = absurd (cc)

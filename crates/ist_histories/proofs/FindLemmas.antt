@@ -27,6 +27,7 @@ use Rattle.ist_histories.proofs.SearchLemmas.{row_finds}
 
 -- ---- one value
 
+-- one row stands at a base
 same_leaf : (o : Option Piece) (r x : LeafRow) → o ≡ Some (Leaf r) → o ≡ Some (Leaf x) → r ≡ x
 same_leaf o r x e f = cc
 

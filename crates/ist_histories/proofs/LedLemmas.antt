@@ -32,6 +32,7 @@ child_stays t u g node key i (of_row r e f) =
 
 -- ---- at an event
 
+-- nothing and a leaf lead to no node
 no_inner : (ps : Pieces) (ref : Option Ref) (child : ℕ) → (ref ≡ Some Empty) ⊎ ((base : ℕ) × (ref ≡ Some (LeafAt base)))
     → past_rebuild ps ref ≡ Some (InnerAt child) → ⊥
 no_inner ps ref child (inl e) h = let x : Some Empty ≡ Some (InnerAt child) = sym (ap (past_rebuild ps) e) ∙ h in cc

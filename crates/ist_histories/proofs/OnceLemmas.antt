@@ -42,6 +42,7 @@ in_order_moves (x ∷ xs) =
 from_position : ℕ → List Reading → List Reading
 from_position position xs = filter (λ x. nat_le position x.call.position) xs
 
+-- does the reading stand at the position
 is_at : ℕ → Reading → Bool
 is_at position x = x.call.position == position
 
@@ -51,6 +52,7 @@ unfolding from_position is_at
 here_only position [] = refl
 here_only position (x ∷ xs) = grind (arith, nat_tests, here_only position xs)
 
+-- the others are those from the next position on
 behind_only : (position : ℕ) (xs : List Reading) → filter (λ x. not (is_at position x)) (from_position position xs) ≡ from_position (position + 1) xs
 unfolding from_position is_at
 behind_only position [] = refl
@@ -87,6 +89,7 @@ split position xs =
     subst (λ ls. IsPermutation (map told_by_reading ys) ls) (map-append told_by_reading (at_position position xs) (from_position (position + 1) xs))
     (IsPermutation-map told_by_reading ys (at_position position xs ++ from_position (position + 1) xs) parted)
 
+-- what is woven from a position on is the entries, and the readings from there on
 woven_moves : (position : ℕ) (entries : List Entry) (xs : List Reading) → Each (λ x. x.call.position ≤ position + length entries) xs
     → IsPermutation (map told_by_entry entries ++ map told_by_reading (from_position position xs)) (woven_from position entries xs)
 woven_moves position [] xs h =
@@ -114,6 +117,7 @@ each_of : (P : Reading → Type 0) (xs : List Reading) → ((x : Reading) → Am
 each_of P [] h = tt
 each_of P (x ∷ xs) h = (h x (inl refl), each_of P xs (λ y i. h y (inr i)))
 
+-- the woven history has each entry and each reading once
 pub woven_once : (pairs : List Pair) (words : ℕ) (log : Log) (passes : List PassCalls) → StandInPrefixes pairs words log passes
     → IsPermutation (map told_by_entry (changes_of pairs words log) ++ map told_by_reading (readings passes)) (woven (changes_of pairs words log) passes)
 woven_once pairs words log passes all =

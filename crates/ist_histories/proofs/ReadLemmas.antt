@@ -75,6 +75,7 @@ pub record IsTurned (t u : Snapshot) (node i : ℕ) (ref : Option Ref) : Type 0 
   pub later : u.pieces base ≡ Some (Change new)
   pub yes : new.decision ≡ decided_yes
 
+-- what a change reads as depends on its sides and its decision
 same_side : (x y : ChangeRow) → x.from ≡ y.from → x.to ≡ y.to → x.decision ≡ y.decision
     → side_of x ≡ side_of y
 same_side x y f t d = rw (f, t, d) refl

@@ -68,6 +68,7 @@ abbrev pub IsNoYes : Event → Type 0
 IsNoYes (Decide caller base true) = ⊥
 IsNoYes _ = Unit {0}
 
+-- one event decides one change
 pub same_base : (a b c d : ℕ) → Decide a b true ≡ Decide c d true → b ≡ d
 same_base a b c d e = cc
 
@@ -75,6 +76,7 @@ same_base a b c d e = cc
 start_commands : (change : ChangeRow) → change.kind ≡ start_kind → command_of change ≡ None
 start_commands change kind = rw kind refl
 
+-- nor has a finish
 finish_commands : (change : ChangeRow) → change.kind ≡ finish_kind → command_of change ≡ None
 finish_commands change kind = rw kind refl
 
@@ -103,10 +105,12 @@ module _ (pairs : List Pair) (words : ℕ) (opens : CanOpen pairs words) (needs 
   abbrev To : Option Ref
   To = past_rebuild Before.pieces (ref_of h.1.change.to)
 
+  -- what is needed of the log
   needed : Needs pairs words log
   unfolding AllNeeds
   needed = needs log h.0
 
+  -- the change has its form
   form : HasForm Before change
   form = needed.form base change h.1.pending
 
@@ -137,6 +141,7 @@ module _ (pairs : List Pair) (words : ℕ) (opens : CanOpen pairs words) (needs 
     slot_behind : SlotHolds Behind change.node change.index (word_of (ChangeAt base))
     reads_behind : logical Behind.pieces (word_of (ChangeAt base)) ≡ To
 
+  -- the key of the update leads to its slot
   led_here : IsUpdate change.kind → IsLedHere
   led_here update =
       let pending = h.1.pending in
@@ -167,6 +172,7 @@ module _ (pairs : List Pair) (words : ℕ) (opens : CanOpen pairs words) (needs 
             ∙ side_reads Before.pieces Behind.pieces grows change.node change.index (ref_of change.to) row.1;
       }
 
+  -- the two sides of the update
   its_sides : IsUpdate change.kind → Sides Before Behind change
   its_sides update =
       sides Before Behind change
@@ -239,6 +245,7 @@ module _ (pairs : List Pair) (words : ℕ) (opens : CanOpen pairs words) (needs 
         legal = subst (λ es. AreLegal m es) (sym are) (entries_append m old new told.legal legal);
       }
 
+  -- an update is told by its entry
   told_update : IsUpdate change.kind → Told pairs words log → Told pairs words (Decide caller base true ∷ log)
   told_update update told =
       let m = map_behind (map_of pairs) (changes_of pairs words log) in
@@ -249,6 +256,7 @@ module _ (pairs : List Pair) (words : ℕ) (opens : CanOpen pairs words) (needs 
       told_more (entry ∷ []) (ap (λ es. changes_of pairs words log ++ es) made) told (update_gives update m told.gives)
       (ap (λ r. r ∷ []) (ap (fin.get m) makes.key_is ∙ update_reply update m told.gives))
 
+  -- a start and a finish are told by none
   told_rebuild : ((key : ℕ) (value : Option ℕ) → Finds Before.pieces key From value → Finds Before.pieces key To value)
       → command_of change ≡ None → Told pairs words log → Told pairs words (Decide caller base true ∷ log)
   told_rebuild same none told =
@@ -257,6 +265,7 @@ module _ (pairs : List Pair) (words : ℕ) (opens : CanOpen pairs words) (needs 
       let m = map_behind (map_of pairs) (changes_of pairs words log) in
       told_more [] (ap (λ es. changes_of pairs words log ++ es) made) told (λ key. rebuild_gives same key (fin.get m key) (told.gives key)) refl
 
+  -- so each change that is decided yes is told
   pub told_yes : Told pairs words log → Told pairs words (Decide caller base true ∷ log)
   told_yes told = at form
     where

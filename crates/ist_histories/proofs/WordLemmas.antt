@@ -19,6 +19,7 @@ word_stands t image is place word (in_anchor_slot a e) = ap (slice_get image) a 
 word_stands t image is place word (in_published base k p e at read) =
     ap (slice_get image) at ∙ is.rows base p e k (slice_get_within (words_of p) k word read) ∙ read
 
+-- a place has one word
 same_word : (o : Option ℕ) (a b : ℕ) → o ≡ Some a → o ≡ Some b → a ≡ b
 same_word o a b e f = cc
 
