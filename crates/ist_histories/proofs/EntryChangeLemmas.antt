@@ -6,7 +6,7 @@ use Rattle.ist_core.specs.declared.states.LeafRow.{LeafRow}
 use Rattle.ist_core.specs.declared.states.ChangeRow.{ChangeRow}
 use Rattle.ist_core.specs.declared.events.Event.TheVariants.{Decide}
 use Rattle.ist_core.specs.References.{LeafAt, ref_of}
-use Rattle.ist_core.specs.Statuses.{put_kind, remove_kind, start_kind, finish_kind}
+use Rattle.ist_core.specs.Statuses.{put_kind, remove_kind}
 use Rattle.ist_core.specs.Elements.{Each}
 use Rattle.ist_core.specs.Pieces.{Leaf}
 use Rattle.ist_core.specs.Snapshots.{Snapshot}
@@ -17,6 +17,7 @@ use Rattle.ist_core.specs.Lawful.{EachEnabled, CanOpen, state_of}
 use Rattle.ist_core.specs.Standing.{makes_entry}
 use Rattle.ist_core.proofs.ElementLemmas.{each_append}
 use Rattle.ist_histories.proofs.NeedLemmas.{HasForm, into_nothing, over_leaf, beside_low, beside_high, takes_out, begins, ends, AllNeeds}
+use Rattle.ist_histories.proofs.SideLemmas.{start_commands, finish_commands}
 use Rattle.ist_histories.proofs.NeededLemmas.{all_needed}
 
 module _ (pairs : List Pair) (words : ℕ) (opens : CanOpen pairs words) where
@@ -39,14 +40,6 @@ module _ (pairs : List Pair) (words : ℕ) (opens : CanOpen pairs words) where
       → Each (λ entry. makes_entry entry.command entry.reply ≡ true) (entry_for t.pieces change (command_of change))
   no_entry t change none = rw none tt
 
-  -- a start has no command
-  start_none : (change : ChangeRow) → change.kind ≡ start_kind → command_of change ≡ None
-  start_none change kind = rw kind refl
-
-  -- nor has a finish
-  finish_none : (change : ChangeRow) → change.kind ≡ finish_kind → command_of change ≡ None
-  finish_none change kind = rw kind refl
-
   -- what a change in its form makes changes the map
   entry_changes : (t : Snapshot) (change : ChangeRow) → HasForm t change
       → Each (λ entry. makes_entry entry.command entry.reply ≡ true) (entry_for t.pieces change (command_of change))
@@ -55,8 +48,8 @@ module _ (pairs : List Pair) (words : ℕ) (opens : CanOpen pairs words) where
   entry_changes t change (beside_low other k leaf pair kind from is less to p new) = put_entry t change kind
   entry_changes t change (beside_high other k leaf pair kind from is less to p new) = put_entry t change kind
   entry_changes t change (takes_out leaf kind from is to) = remove_entry t change leaf is.row kind from is.published is.key_is
-  entry_changes t change (begins target rebuild kind from to has) = no_entry t change (start_none change kind)
-  entry_changes t change (ends rebuild row kind from e f set) = no_entry t change (finish_none change kind)
+  entry_changes t change (begins target rebuild kind from to has) = no_entry t change (start_commands change kind)
+  entry_changes t change (ends rebuild row kind from e f set) = no_entry t change (finish_commands change kind)
 
   -- each entry changes the map
   pub entries_change : (log : Log) → EachEnabled (start pairs words) log → Each (λ entry. makes_entry entry.command entry.reply ≡ true) (changes_of pairs words log)

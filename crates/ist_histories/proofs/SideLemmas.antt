@@ -12,7 +12,7 @@ use Rattle.ist_core.specs.declared.states.ChangeRow.{ChangeRow}
 use Rattle.ist_core.specs.Arithmetic.{child_count}
 use Rattle.ist_core.specs.Map.{Map, map_after, key_of}
 use Rattle.ist_core.specs.References.{Ref, Empty, LeafAt, InnerAt, IsGoodBase, ref_of, word_of}
-use Rattle.ist_core.specs.Statuses.{put_kind, remove_kind}
+use Rattle.ist_core.specs.Statuses.{put_kind, remove_kind, start_kind, finish_kind}
 use Rattle.ist_core.specs.Pieces.{Pieces, Piece, Leaf, Inner}
 use Rattle.ist_core.specs.Snapshots.{Snapshot}
 use Rattle.ist_core.specs.Slots.{past_rebuild, logical}
@@ -95,6 +95,14 @@ pub record Makes (change : ChangeRow) (new : Option ℕ) : Type 0 where
   pub key_is : key_of command ≡ change.key
   pub made : (m : Map) → fin.get (map_after m command) change.key ≡ new
   pub others : (m : Map) (key : ℕ) → key ≢ change.key → fin.get (map_after m command) key ≡ fin.get m key
+
+-- a start has no command
+pub start_commands : (change : ChangeRow) → change.kind ≡ start_kind → command_of change ≡ None
+start_commands change kind = rw kind refl
+
+-- nor has a finish
+pub finish_commands : (change : ChangeRow) → change.kind ≡ finish_kind → command_of change ≡ None
+finish_commands change kind = rw kind refl
 
 -- what a put makes of a map
 put_makes : (change : ChangeRow) (new : Option ℕ) → change.kind ≡ put_kind → new ≡ Some change.value → Makes change new

@@ -10,7 +10,7 @@ use Rattle.ist_core.specs.declared.events.Event.{Event}
 use Rattle.ist_core.specs.declared.events.Event.TheVariants.{Decide}
 use Rattle.ist_core.specs.Map.{Map, map_of, map_after, replay}
 use Rattle.ist_core.specs.References.{Ref, InnerAt, ChangeAt, ref_of, word_of}
-use Rattle.ist_core.specs.Statuses.{decided_yes, start_kind, finish_kind}
+use Rattle.ist_core.specs.Statuses.{decided_yes}
 use Rattle.ist_core.specs.Pieces.{Leaf, Inner, Change, with_decision}
 use Rattle.ist_core.specs.Snapshots.{Snapshot}
 use Rattle.ist_core.specs.StartLayout.{start}
@@ -42,7 +42,7 @@ use Rattle.ist_histories.proofs.LedLemmas.{child_stays, led_step, led_on}
 use Rattle.ist_histories.proofs.DecisionLemmas.{unfinished}
 use Rattle.ist_histories.proofs.FindLemmas.{finds_once, finds_above, gives_step, IsHigh, finds_high}
 use Rattle.ist_histories.proofs.CameLemmas.{came}
-use Rattle.ist_histories.proofs.SideLemmas.{Sides, sides}
+use Rattle.ist_histories.proofs.SideLemmas.{start_commands, finish_commands, Sides, sides}
 use Rattle.ist_histories.proofs.RootLemmas.{root_finds}
 
 -- ---- entries
@@ -71,14 +71,6 @@ IsNoYes _ = Unit {0}
 -- one event decides one change
 pub same_base : (a b c d : ℕ) → Decide a b true ≡ Decide c d true → b ≡ d
 same_base a b c d e = cc
-
--- a start and a finish have no command
-start_commands : (change : ChangeRow) → change.kind ≡ start_kind → command_of change ≡ None
-start_commands change kind = rw kind refl
-
--- nor has a finish
-finish_commands : (change : ChangeRow) → change.kind ≡ finish_kind → command_of change ≡ None
-finish_commands change kind = rw kind refl
 
 -- what the tree tells of the changes of a log
 pub record Told (pairs : List Pair) (words : ℕ) (log : Log) : Type 0 where
