@@ -11,6 +11,7 @@ pub mod DecisionLemmas
 pub mod SeenLemmas
 pub mod SearchLemmas
 pub mod LoadLemmas
+pub mod LoadOnLemmas
 pub mod FindLemmas
 pub mod CameLemmas
 pub mod SideLemmas

@@ -92,6 +92,29 @@ pub record Searched (pairs : List Pair) (words : ℕ) (log : Log) (key began nod
   pub look : LooksAt pairs words log key least last node ref
   pub value_is : ReadsValue pairs words log key last ref value
 
+-- ---- in a longer log
+
+-- a look at a slot is one too where the log goes on
+abbrev pub LooksGoOn : Type 0
+LooksGoOn =
+    (pairs : List Pair) (words : ℕ) (log longer : Log) → GoesOn log longer
+    → (key least last node : ℕ) (ref : Ref) → LooksAt pairs words log key least last node ref
+    → LooksAt pairs words longer key least last node ref
+
+-- a search that came to a node came to it there too
+abbrev pub SearchesComeOn : Type 0
+SearchesComeOn =
+    (pairs : List Pair) (words : ℕ) (log longer : Log) → GoesOn log longer
+    → (key began last node : ℕ) → ComesTo pairs words log key began last node
+    → ComesTo pairs words longer key began last node
+
+-- and one that ended, ended so
+abbrev pub SearchesEndOn : Type 0
+SearchesEndOn =
+    (pairs : List Pair) (words : ℕ) (log longer : Log) → GoesOn log longer
+    → (key began node : ℕ) (value : Option ℕ) → Searched pairs words log key began node value
+    → Searched pairs words longer key began node value
+
 -- ---- what a search tells
 
 -- the value is what the map has for the key behind some number of changes, no fewer than those of the earlier log and no more

@@ -7,7 +7,8 @@ ghost use Rattle.ist_histories.specs.Calls.{ChangesGoOn, CallsStandOn, ReadingsS
 ghost use Rattle.ist_histories.specs.Weaving.{WovenIsLegal, WovenHasEachCall, TakenBackIsLegal};
 ghost use Rattle.ist_histories.specs.Weaving.{LearntCallsComeFirst};
 ghost use Rattle.ist_histories.specs.Loads.{WordsStandInTheImage, WordsAreOne};
-ghost use Rattle.ist_histories.specs.Loads.{WordsLieInNoOtherRow};
+ghost use Rattle.ist_histories.specs.Loads.{WordsLieInNoOtherRow, PrefixesAreAt, LoadsTellOn};
+ghost use Rattle.ist_histories.specs.Searching.{LooksGoOn, SearchesComeOn, SearchesEndOn};
 ghost use Rattle.ist_histories.specs.Searching.{SearchesHaveAPosition, SearchesStand};
 ghost use Rattle.ist_histories.specs.Searching.{SlotLoadsHold, NodesWereMet, LooksGoUp};
 
@@ -52,6 +53,16 @@ pub fn words_are_told()
     ensures image { WordsStandInTheImage }
     ensures one { WordsAreOne }
     ensures elsewhere { WordsLieInNoOtherRow }
+{}
+
+/// What was loaded, and how far a search has come by it, stays so as the log goes on: a log keeps at
+/// each length what it was.
+pub fn searches_go_on()
+    ensures prefix { PrefixesAreAt }
+    ensures load { LoadsTellOn }
+    ensures look { LooksGoOn }
+    ensures come { SearchesComeOn }
+    ensures end { SearchesEndOn }
 {}
 
 /// A search that began at the anchor, and loaded each slot at a moment of its own, has the reply of
