@@ -27,6 +27,7 @@ use Rattle.ist_links.proofs.ChangeLemmas.{same_change_word, said_yes}
 use Rattle.ist_links.proofs.PassLemmas.{passed_no_change}
 use Rattle.ist_links.proofs.InductionLemmas.{changes_by}
 use Rattle.ist_links.proofs.LinkLemmas.{open_unfinished}
+use Rattle.ist_histories.proofs.ChangeLemmas.{on_trans}
 use Rattle.ist_histories.proofs.NeedLemmas.{Needs}
 
 module _ (pairs : List Pair) (words : ℕ) (opens : CanOpen pairs words) where
@@ -100,18 +101,23 @@ module _ (pairs : List Pair) (words : ℕ) where
       let it = change_there now.pieces (state_of pairs words log).pieces (grow_between pairs words (Decide caller base true ∷ a) log h g) base turned there in
       ap (λ c. c.decision) (same_change ((state_of pairs words log).pieces base) change it.0 e it.1) ∙ it.2.decided (λ none. omega arith)
 
-  -- a change that turned to yes was decided so in between
-  pub turning : (earlier log : Log) → GoesOn earlier log → EachEnabled (start pairs words) log
-      → (base : ℕ) (old new : ChangeRow) → (state_of pairs words earlier).pieces base ≡ Some (Change old)
-      → old.decision ≢ decided_yes → (state_of pairs words log).pieces base ≡ Some (Change new)
-      → new.decision ≡ decided_yes → Turning earlier log base
-  turning earlier log g h base old new e not_yet f said = ⊎_elim (λ x. behind x) (λ x. absurd (before x)) (prefixes earlier (Decide d.caller base true ∷ d.earlier) log g d.decided)
+  -- a change that wasn't decided yes earlier, and is, was decided so in between
+  pub turns_since : (earlier log : Log) → GoesOn earlier log → EachEnabled (start pairs words) log
+      → (base : ℕ) (new : ChangeRow)
+      → ((old : ChangeRow) → (state_of pairs words earlier).pieces base ≡ Some (Change old) → old.decision ≢ decided_yes)
+      → (state_of pairs words log).pieces base ≡ Some (Change new) → new.decision ≡ decided_yes → Turning earlier log base
+  turns_since earlier log g h base new not_yet f said = ⊎_elim (λ x. behind x) (λ x. absurd (before x)) (prefixes earlier (Decide d.caller base true ∷ d.earlier) log g d.decided)
     where
       d : Decided log base
       d = yes_decided log h base new f said
 
       before : ¬ (GoesOn (Decide d.caller base true ∷ d.earlier) earlier)
-      before x = not_yet (decided_behind d.caller base d.earlier earlier x (enabled_before (start pairs words) earlier log g h) old e)
+      before x =
+          let a = enabled_before (start pairs words) earlier log g h in
+          let m = enabled_before (start pairs words) (Decide d.caller base true ∷ d.earlier) earlier x a in
+          let it = change_there (state_of pairs words d.earlier).pieces (state_of pairs words earlier).pieces
+          (grow_between pairs words d.earlier earlier a (on_trans d.earlier (Decide d.caller base true ∷ d.earlier) earlier (one_event (Decide d.caller base true) same_log) x)) base m.1.change m.1.pending.published in
+          not_yet it.0 it.1 (decided_behind d.caller base d.earlier earlier x a it.0 it.1)
 
       behind : GoesOn earlier (Decide d.caller base true ∷ d.earlier) → Turning earlier log base
       behind x = at (Decide d.caller base true ∷ d.earlier) refl x
@@ -123,6 +129,16 @@ module _ (pairs : List Pair) (words : ℕ) where
           at _ z same_log = absurd (before (subst (λ l. GoesOn (Decide d.caller base true ∷ d.earlier) l) (sym z) same_log))
           at _ z (one_event {log = rest} event y) =
               record { caller = d.caller; at = d.earlier; since = subst (λ r. GoesOn earlier r) (the_rest event rest z) y; until = d.decided }
+
+  -- a change that turned to yes was decided so in between
+  pub turning : (earlier log : Log) → GoesOn earlier log → EachEnabled (start pairs words) log
+      → (base : ℕ) (old new : ChangeRow) → (state_of pairs words earlier).pieces base ≡ Some (Change old)
+      → old.decision ≢ decided_yes → (state_of pairs words log).pieces base ≡ Some (Change new)
+      → new.decision ≡ decided_yes → Turning earlier log base
+  turning earlier log g h base old new e not_yet f said =
+      turns_since earlier log g h base new
+      (λ other p turned. not_yet (ap (λ c. c.decision) (same_change ((state_of pairs words earlier).pieces base) old other e p) ∙ turned))
+      f said
 
 module _ (pairs : List Pair) (words : ℕ) (opens : CanOpen pairs words) where
   -- a change at a finished node gets no Okay any more

@@ -40,7 +40,7 @@ value_stays ps qs g node i (Some (LeafAt base)) key h =
 value_stays ps qs g node i _ key h = refl
 
 -- the command of a change is that of its fields that stay
-command_stays : (old new : ChangeRow) → ChangeGrows old new → command_of new ≡ command_of old
+pub command_stays : (old new : ChangeRow) → ChangeGrows old new → command_of new ≡ command_of old
 command_stays old new g = ap command_of g.others
 
 -- the same prefix has one event behind it
@@ -53,7 +53,7 @@ same_base a b c d x y e = cc
 
 module _ (pairs : List Pair) (words : ℕ) (opens : CanOpen pairs words) where
   -- the entry that a decision makes
-  entry_made : (log : Log) → EachEnabled (start pairs words) log → (caller base : ℕ) (earlier : Log) → GoesOn (Decide caller base true ∷ earlier) log
+  pub entry_made : (log : Log) → EachEnabled (start pairs words) log → (caller base : ℕ) (earlier : Log) → GoesOn (Decide caller base true ∷ earlier) log
       → (command : Command) → (old : ChangeRow) → (state_of pairs words earlier).pieces base ≡ Some (Change old) → command_of old ≡ Some command
       → IsEntryOf pairs words log (length (changes_of pairs words earlier)) base
   entry_made log h caller base earlier g command old e is =

@@ -25,6 +25,7 @@ pub mod ContentLemmas
 pub mod PositionLemmas
 pub mod EntryLemmas
 pub mod EntryChangeLemmas
+pub mod EffectLemmas
 pub mod WordLemmas
 pub mod RefusedExampleLemmas
 pub mod CallExampleLemmas

@@ -3,7 +3,8 @@ ghost use Rattle.ist_histories.specs.Telling.{TreeGivesTheMap, ContentsAreThePai
 ghost use Rattle.ist_histories.specs.Telling.{ChangesAreLegal, UpdatesHaveEntries};
 ghost use Rattle.ist_histories.specs.Telling.{EntriesAreUpdates, EntriesAreOnce, EntriesAreOfOne};
 ghost use Rattle.ist_histories.specs.Telling.{EntriesChangeTheMap};
-ghost use Rattle.ist_histories.specs.Calls.{ChangesGoOn, CallsStandOn, ReadingsStand, UpdatesStand};
+ghost use Rattle.ist_histories.specs.Calls.{ChangesGoOn, CallsStandOn, ReadingsStand};
+ghost use Rattle.ist_histories.specs.Calls.{UpdatesTakeEffect, UpdatesStand};
 ghost use Rattle.ist_histories.specs.Weaving.{WovenIsLegal, WovenHasEachCall, TakenBackIsLegal};
 ghost use Rattle.ist_histories.specs.Weaving.{LearntCallsComeFirst};
 ghost use Rattle.ist_histories.specs.Loads.{WordsStandInTheImage, WordsAreOne};
@@ -40,10 +41,12 @@ pub fn calls_stand_on()
 {}
 
 /// What a call adds to the calls of its pass. A get, and a remove that found nothing, stands at any
-/// fresh position at which the map replies so. A put, and a remove that took a value away, stands
-/// at its entry, which its change made when it was decided yes, and is fresh.
+/// fresh position at which the map replies so. A put or remove whose change was decided yes since
+/// took effect, where its owner has no more than one entry since; its call stands at that entry, and
+/// is fresh.
 pub fn calls_are_added()
     ensures reading { ReadingsStand }
+    ensures effect { UpdatesTakeEffect }
     ensures update { UpdatesStand }
 {}
 
