@@ -42,8 +42,8 @@ pub fn calls_stand_on()
 
 /// What a call adds to the calls of its pass. A get, and a remove that found nothing, stands at any
 /// fresh position at which the map replies so. A put or remove whose change was decided yes since
-/// took effect, where its owner has no more than one entry since; its call stands at that entry, and
-/// is fresh.
+/// took effect, where its owner has no more than one entry since; its call stands at that entry,
+/// and is fresh.
 pub fn calls_are_added()
     ensures reading { ReadingsStand }
     ensures effect { UpdatesTakeEffect }
@@ -58,8 +58,8 @@ pub fn words_are_told()
     ensures elsewhere { WordsLieInNoOtherRow }
 {}
 
-/// What was loaded, and how far a search has come by it, stays so as the log goes on: a log keeps at
-/// each length what it was.
+/// What was loaded, and how far a search has come by it, stays so as the log goes on: a log keeps
+/// at each length what it was.
 pub fn searches_go_on()
     ensures prefix { PrefixesAreAt }
     ensures load { LoadsTellOn }
