@@ -3,6 +3,7 @@ pub mod CallLemmas
 pub mod MapLemmas
 pub mod WovenLemmas
 pub mod OnceLemmas
+pub mod PlacedLemmas
 pub mod ReadLemmas
 pub mod PassLemmas
 pub mod NeedLemmas

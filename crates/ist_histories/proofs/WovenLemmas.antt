@@ -1,5 +1,5 @@
 -- The woven history is legal: a reading leaves the map, and has the reply of the map at its position. Serves
--- `laws.histories_are_legal`.
+-- `laws.calls_are_woven`.
 use Rattle.std.proofs.Common.{◌≡◌, ℕ, suc, ◌+◌, ◌≤◌, ◌⊎◌, ◌≢◌, ◌==◌, not, if◌then◌else◌, Bool, true, false, List, [], ◌∷◌, map, filter, refl, sym, ap, ◌∙◌, subst, inl, inr, ⊎_elim, arith}
 use Rattle.std.proofs.lemmas.Bool.Decides.{eqb_tells}
 use Rattle.ist_core.specs.declared.calls.Call.{Call}

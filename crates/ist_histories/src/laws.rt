@@ -5,8 +5,10 @@ ghost use Rattle.ist_histories.specs.Telling.{EntriesAreUpdates, EntriesAreOnce,
 ghost use Rattle.ist_histories.specs.Telling.{EntriesChangeTheMap};
 ghost use Rattle.ist_histories.specs.Calls.{ChangesGoOn, CallsStandOn, ReadingsStand};
 ghost use Rattle.ist_histories.specs.Calls.{UpdatesTakeEffect, UpdatesStand};
-ghost use Rattle.ist_histories.specs.Weaving.{WovenIsLegal, WovenHasEachCall, TakenBackIsLegal};
+ghost use Rattle.ist_histories.specs.Weaving.{WovenIsLegal, TakenBackIsLegal};
 ghost use Rattle.ist_histories.specs.Weaving.{LearntCallsComeFirst};
+ghost use Rattle.ist_histories.specs.Placing.{WovenHasPlaces, CallsHavePlaces};
+ghost use Rattle.ist_histories.specs.Placing.{FollowersComeLater};
 ghost use Rattle.ist_histories.specs.Loads.{WordsStandInTheImage, WordsAreOne};
 ghost use Rattle.ist_histories.specs.Loads.{WordsLieInNoOtherRow, PrefixesAreAt, LoadsTellOn};
 ghost use Rattle.ist_histories.specs.Searching.{LooksGoOn, SearchesComeOn, SearchesEndOn};
@@ -86,11 +88,17 @@ pub fn searches_go_up()
 {}
 
 /// Calls of some passes, each standing in a prefix of one lawful log, are woven into one legal
-/// history, which has each change and each other call once. A call that a pass has learnt of has no
-/// later place than a call that is fresh.
+/// history. A call that is fresh follows each call that its pass has learnt of.
 pub fn calls_are_woven()
     ensures woven { WovenIsLegal }
-    ensures once { WovenHasEachCall }
     ensures taken_back { TakenBackIsLegal }
     ensures learnt { LearntCallsComeFirst }
+{}
+
+/// The woven history has each change once and each other call once, in order; each call of the
+/// passes is one of these, and one that follows another stands behind it.
+pub fn calls_have_places()
+    ensures places { WovenHasPlaces }
+    ensures among { CallsHavePlaces }
+    ensures later { FollowersComeLater }
 {}
