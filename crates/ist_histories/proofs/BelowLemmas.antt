@@ -69,12 +69,15 @@ pub record IsEnd (key : ℕ) (leaves : List PlacedLeaf) (value : Option ℕ) : T
   pub cases : (value ≡ None) ⊎ ((leaf : PlacedLeaf) × Among leaf leaves × (leaf.row.key ≡ key) × (value ≡ Some leaf.row.value))
 
 module _ (ps : Pieces) (shaped : (base : ℕ) (r : InnerRow) → ps base ≡ Some (Inner r) → HasDegree r) (key : ℕ) where
+  -- an end in the first of two lists is one in both
   end_left : (xs ys : List PlacedLeaf) (value : Option ℕ) → IsEnd key xs value → IsEnd key (xs ++ ys) value
   end_left xs ys value h = record { cases = ⊎_elim (λ e. inl e) (λ w. inr (w.0, among_left w.0 xs ys w.1, w.2, w.3)) h.cases }
 
+  -- so is one in the second
   end_right : (xs ys : List PlacedLeaf) (value : Option ℕ) → IsEnd key ys value → IsEnd key (xs ++ ys) value
   end_right xs ys value h = record { cases = ⊎_elim (λ e. inl e) (λ w. inr (w.0, among_right w.0 xs ys w.1, w.2, w.3)) h.cases }
 
+  -- a leaf is an end
   leaf_end : (base : ℕ) (r : LeafRow) → IsEnd key (record { base = base; row = r } ∷ []) (value_in (Some (Leaf r)) key)
   leaf_end base r = at (r.key == key) refl
     where

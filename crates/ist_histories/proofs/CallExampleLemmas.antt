@@ -1,5 +1,5 @@
 -- Calls of two passes on a small log. Serves `examples`.
-use Rattle.std.proofs.Common.{◌≡◌, ℕ, ◌≤◌, true, false, [], ◌∷◌, length, slice_get, Some, None, refl, sym, inl, inr, subst, arith}
+use Rattle.std.proofs.Common.{◌≡◌, ◌≤◌, true, false, [], ◌∷◌, length, slice_get, Some, refl, sym, inl, inr, subst, arith}
 use Rattle.std.proofs.lemmas.Bool.Decides.{nat_tests}
 use Rattle.std.specs.FinMap as fin
 use Rattle.std.specs.FinMap.{gets}
@@ -26,6 +26,7 @@ use Rattle.ist_histories.proofs.ContentLemmas.{told_at}
 abbrev the_entry : Entry
 the_entry = record { owner = 1; command = Put 20 9; reply = Some 2 }
 
+-- a test has one outcome
 clash : true ≡ false → ⊥
 clash e = cc
 
@@ -34,9 +35,11 @@ old_value : fin.get (map_of start_pairs) 20 ≡ Some 2
 unfolding value_of
 old_value = get-map_of start_pairs 20
 
+-- and behind it
 new_value : fin.get (fin.insert (map_of start_pairs) 20 9) 20 ≡ Some 9
 new_value = grind (arith, nat_tests, gets)
 
+-- the put stands among the changes
 writer_among : StandAmong (map_of start_pairs) (the_entry ∷ []) 1 (the_put ∷ [])
 writer_among =
     record {
@@ -54,15 +57,19 @@ writer_among =
     plainly call (inl e) plain = clash (subst (λ c. is_change c ≡ false) e plain)
     plainly call (inr i) plain = absurd i
 
+-- so it stands in the log
 pub writer_stands : StandsIn start_pairs 100 late_finished 1 (the_put ∷ [])
 writer_stands = subst (λ es. StandAmong (map_of start_pairs) es 1 (the_put ∷ [])) (sym late_changes) writer_among
 
+-- the early find reads the map at its position
 early_read : IsRead (map_of start_pairs) (the_entry ∷ []) early_find
 early_read = record { within = omega arith; reply = sym old_value }
 
+-- so does the late one
 late_read : IsRead (map_of start_pairs) (the_entry ∷ []) late_find
 late_read = record { within = omega arith; reply = sym new_value }
 
+-- both finds stand among the changes
 reader_among : StandAmong (map_of start_pairs) (the_entry ∷ []) 2 (early_find ∷ late_find ∷ [])
 reader_among =
     record {
@@ -82,9 +89,11 @@ reader_among =
     reads call (inr (inl e)) = subst (λ c. IsRead (map_of start_pairs) (the_entry ∷ []) c) (sym e) late_read
     reads call (inr (inr i)) = absurd i
 
+-- so they stand in the log
 pub reader_stands : StandsIn start_pairs 100 late_finished 2 (early_find ∷ late_find ∷ [])
 reader_stands = subst (λ es. StandAmong (map_of start_pairs) es 2 (early_find ∷ late_find ∷ [])) (sym late_changes) reader_among
 
+-- the early find stands before the put
 early_among : StandAmong (map_of start_pairs) [] 2 (early_find ∷ [])
 early_among =
     record {
@@ -102,6 +111,7 @@ early_among =
     reads call (inl e) = subst (λ c. IsRead (map_of start_pairs) [] c) (sym e) record { within = omega arith; reply = sym old_value }
     reads call (inr i) = absurd i
 
+-- so it stands in the log of that moment
 pub early_stands : StandsIn start_pairs 100 late_marked 2 (early_find ∷ [])
 unfolding ref_of rows_within degree square_root root_up_to part_len part_lens ideal_words ideal_words_within
 early_stands = early_among
@@ -111,9 +121,11 @@ resolved_changes : changes_of start_pairs 100 late_resolved ≡ the_entry ∷ []
 unfolding ref_of rows_within degree square_root root_up_to part_len part_lens ideal_words ideal_words_within
 resolved_changes = refl
 
+-- the late find is fresh
 pub late_fresh : IsFresh start_pairs 100 late_resolved 1 late_find
 late_fresh = record { position = subst (λ es. length es ≤ 1) (sym resolved_changes) (omega arith); later = omega arith }
 
+-- the two passes, woven
 pub calls_woven : woven (changes_of start_pairs 100 late_finished) (writer ∷ reader ∷ []) ≡ one_history
 calls_woven = subst (λ es. woven es (writer ∷ reader ∷ []) ≡ one_history) (sym late_changes) refl
 

@@ -1,11 +1,10 @@
 -- A put or remove came to its slot by its key. Serves the changes law.
-use Rattle.std.proofs.Common.{◌≡◌, ℕ, ◌⊎◌, List, [], ◌∷◌, inl, inr, ⊎_elim, arith}
+use Rattle.std.proofs.Common.{◌≡◌, ℕ, List, [], ◌∷◌, inl, inr, ⊎_elim, arith}
 use Rattle.ist_core.specs.declared.pairs.Pair.{Pair}
 use Rattle.ist_core.specs.declared.lists.Row.{Row}
 use Rattle.ist_core.specs.declared.states.ChangeRow.{ChangeRow}
 use Rattle.ist_core.specs.declared.events.Event.{Event}
 use Rattle.ist_core.specs.declared.events.Event.TheVariants.{Install, Decide}
-use Rattle.ist_core.specs.Statuses.{start_kind, finish_kind}
 use Rattle.ist_core.specs.Snapshots.{Snapshot}
 use Rattle.ist_core.specs.StartLayout.{start}
 use Rattle.ist_core.specs.Logs.{Log, state, Ever, GoesOn, same_log, one_event}
@@ -13,7 +12,7 @@ use Rattle.ist_core.specs.Slots.{IsChildFor}
 use Rattle.ist_core.specs.Links.{Leads}
 use Rattle.ist_core.specs.Rebuilding.{IsUpdate}
 use Rattle.ist_core.specs.Installing.{FitsKind, a_put, a_pair, a_remove, a_start, a_finish, ComesByKey}
-use Rattle.ist_core.specs.Lawful.{EachEnabled, CanOpen, state_of}
+use Rattle.ist_core.specs.Lawful.{EachEnabled, state_of}
 use Rattle.ist_core.specs.Pieces.{Change}
 use Rattle.std.proofs.Common.{Some}
 use Rattle.ist_links.proofs.InductionLemmas.{grow_behind, changes_by}

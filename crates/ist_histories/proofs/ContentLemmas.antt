@@ -19,6 +19,8 @@ use Rattle.ist_core.proofs.ParentLemmas.{one_home}
 use Rattle.ist_core.proofs.RisingLemmas.{Rises}
 use Rattle.ist_core.proofs.UnderLemmas.{leaves_under, slot_reads_as}
 use Rattle.ist_core.proofs.LeafOrderLemmas.{leaves_lie, next_from_rises}
+use Rattle.ist_rebuilds.proofs.ExistLemmas.{HasSome}
+use Rattle.ist_rebuilds.proofs.ContentLemmas.{contents_exist}
 use Rattle.ist_histories.specs.Finding.{Gives}
 use Rattle.ist_histories.specs.Telling.{map_now}
 use Rattle.ist_histories.proofs.ValueLemmas.{value_of, get-map_of, same_gets}
@@ -27,7 +29,6 @@ use Rattle.ist_histories.proofs.BelowLemmas.{pairs_rise}
 use Rattle.ist_histories.proofs.RootLemmas.{named_value}
 use Rattle.ist_histories.proofs.TellLemmas.{Told, told}
 use Rattle.ist_histories.proofs.OpeningLemmas.{start_contents}
-use Rattle.ist_histories.proofs.ExistLemmas.{HasSome, has_some}
 use Rattle.ist_histories.proofs.NeededLemmas.{all_needed}
 
 -- ---- the pairs of a map
@@ -40,10 +41,12 @@ entry p = (p.key, p.value)
 abbrev pair : ℕ × ℕ → Pair
 pair e = record { key = e.0; value = e.1 }
 
+-- pairs are those of their entries
 pairs-entries : (pairs : List Pair) → map pair (map entry pairs) ≡ pairs
 pairs-entries [] = refl
 pairs-entries (p ∷ pairs) = ap (λ (ps : List Pair). p ∷ ps) (pairs-entries pairs)
 
+-- entries have the keys of the pairs
 keys-entries : (pairs : List Pair) → map (λ e. e.0) (map entry pairs) ≡ map (λ p. p.key) pairs
 keys-entries [] = refl
 keys-entries (p ∷ pairs) = ap (λ ks. p.key ∷ ks) (keys-entries pairs)
@@ -82,7 +85,7 @@ module _ (pairs : List Pair) (words : ℕ) (opens : CanOpen pairs words) where
 
   -- some leaves lie in the tree
   leaves_at : (log : Log) → EachEnabled (start pairs words) log → HasSome (state_of pairs words log).pieces (logical (state_of pairs words log).pieces (state_of pairs words log).anchor)
-  leaves_at log h = has_some pairs words opens (all_needed pairs words opens) log h
+  leaves_at log h = let it = contents_exist pairs words opens log h in record { leaves = it.1.leaves; reached = it.1.reached }
 
   -- their keys rise
   rise_at : (log : Log) (h : EachEnabled (start pairs words) log) → Rises (λ p. p.key) (map pair_of (leaves_at log h).leaves)
@@ -107,9 +110,11 @@ module _ (pairs : List Pair) (words : ℕ) (opens : CanOpen pairs words) where
       ∙ sym (get-map_of xs key)) in
       ap pairs_of same ∙ pairs_of-map_of xs (rise_at log h)
 
+  -- the contents are the pairs of the map behind the changes
   pub contents_at : (log : Log) → EachEnabled (start pairs words) log → HasContents (state_of pairs words log) (pairs_of (map_now pairs words log))
   contents_at log h = let has = leaves_at log h in record { leaves = has.leaves; reached = has.reached; pairs_are = pairs_at log h }
 
+  -- these pairs rise by key
   pub pairs_rise_at : (log : Log) → EachEnabled (start pairs words) log → IsStrictlyIncreasing (map (λ p. p.key) (pairs_of (map_now pairs words log)))
   pairs_rise_at log h =
       subst (λ xs. IsStrictlyIncreasing (map (λ p. p.key) xs)) (sym (pairs_at log h)) (next_from_rises (λ p. p.key) (map pair_of (leaves_at log h).leaves) (rise_at log h))

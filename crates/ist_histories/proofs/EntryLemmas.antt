@@ -1,44 +1,27 @@
 -- The changes of a log are exactly the puts and removes that were decided yes. Serves `laws.updates_are_entries`.
-use Rattle.std.proofs.Common.{◌≡◌, ℕ, zero, suc, ◌+◌, ◌<◌, ◌⊎◌, ◌==◌, Bool, true, List, [], ◌∷◌, ◌++◌, length, slice_get, is_some, Option, Some, None, option_map, refl, sym, ap, ◌∙◌, subst, inl, inr, ⊎_elim, arith, length-append, append_assoc}
-use Rattle.std.proofs.lemmas.Bool.Decides.{nat_tests}
+use Rattle.std.proofs.Common.{◌≡◌, ℕ, zero, suc, ◌+◌, ◌<◌, ◌⊎◌, true, List, [], ◌∷◌, ◌++◌, length, slice_get, Option, Some, None, option_map, refl, sym, ap, ◌∙◌, subst, inl, inr, ⊎_elim, arith, length-append, append_assoc}
 use Rattle.ist_core.specs.declared.commands.Command.{Command}
 use Rattle.ist_core.specs.declared.pairs.Pair.{Pair}
-use Rattle.ist_core.specs.declared.states.LeafRow.{LeafRow}
 use Rattle.ist_core.specs.declared.states.ChangeRow.{ChangeRow}
 use Rattle.ist_core.specs.declared.events.Event.{Event}
 use Rattle.ist_core.specs.declared.events.Event.TheVariants.{Decide}
 use Rattle.ist_core.specs.References.{Ref, LeafAt, ref_of}
-use Rattle.ist_core.specs.Statuses.{decided_yes, put_kind, remove_kind, start_kind, finish_kind}
-use Rattle.ist_core.specs.Elements.{Each}
-use Rattle.ist_core.specs.Pieces.{Pieces, Leaf, Change, with_decision}
-use Rattle.ist_core.specs.Snapshots.{Snapshot}
+use Rattle.ist_core.specs.Statuses.{decided_yes}
+use Rattle.ist_core.specs.Pieces.{Pieces, Change, with_decision}
 use Rattle.ist_core.specs.StartLayout.{start}
 use Rattle.ist_core.specs.Logs.{Log, GoesOn, same_log, one_event}
 use Rattle.ist_core.specs.Growing.{AllGrow, ChangeGrows}
 use Rattle.ist_core.specs.Changes.{Entry, command_of, value_in, value_at, reply_of, entry_for, entry_of, changes_of}
 use Rattle.ist_core.specs.Lawful.{EachEnabled, CanOpen, state_of}
-use Rattle.ist_core.specs.Standing.{makes_entry}
-use Rattle.ist_core.proofs.ElementLemmas.{each_append}
 use Rattle.ist_core.proofs.GrowingLemmas.{leaf_there, change_there}
 use Rattle.ist_core.proofs.FateLemmas.{enabled_before, grow_between}
 use Rattle.ist_core.proofs.RowLemmas.{changed_at-same}
 use Rattle.ist_core.proofs.NamingLemmas.{SideNames}
 use Rattle.ist_core.proofs.OrderLemmas.{names}
 use Rattle.ist_core.proofs.FreezingLemmas.{same_change}
-use Rattle.ist_links.proofs.InductionLemmas.{changes_by}
-use Rattle.ist_links.proofs.ChangeLemmas.{said_yes}
+use Rattle.ist_histories.proofs.DecisionLemmas.{prefixes, yes_decided, decided_behind}
 use Rattle.ist_histories.specs.Telling.{IsEntryOf}
 use Rattle.ist_histories.proofs.ChangeLemmas.{on_trans, changes_on, changes_rise, get_at}
-use Rattle.ist_histories.proofs.NeedLemmas.{HasForm, into_nothing, over_leaf, beside_low, beside_high, takes_out, begins, ends, AllNeeds}
-use Rattle.ist_histories.proofs.NeededLemmas.{all_needed}
-
--- ---- logs
-
--- of two prefixes of one log one goes on from the other
-prefixes : (a b log : Log) → GoesOn a log → GoesOn b log → GoesOn a b ⊎ GoesOn b a
-prefixes a b _ same_log k = inr k
-prefixes a b _ (one_event event g) same_log = inl (one_event event g)
-prefixes a b _ (one_event {log = log} event g) (one_event other k) = prefixes a b log g k
 
 -- an element of two lists in a row
 get_both : {A : Type 0} (xs ys : List A) (i : ℕ) (x : A) → slice_get (xs ++ ys) i ≡ Some x
@@ -57,38 +40,20 @@ value_stays ps qs g node i (Some (LeafAt base)) key h =
 value_stays ps qs g node i _ key h = refl
 
 -- the command of a change is that of its fields that stay
-command_stays : (old new : ChangeRow) → ChangeGrows old new → command_of new ≡ command_of old
+pub command_stays : (old new : ChangeRow) → ChangeGrows old new → command_of new ≡ command_of old
 command_stays old new g = ap command_of g.others
 
 -- the same prefix has one event behind it
 same_prefix : (a b c d : ℕ) (x y : Log) → Decide a b true ∷ x ≡ Decide c d true ∷ y → x ≡ y
 same_prefix a b c d x y e = cc
 
+-- one event decides one change
 same_base : (a b c d : ℕ) (x y : Log) → Decide a b true ∷ x ≡ Decide c d true ∷ y → b ≡ d
 same_base a b c d x y e = cc
 
--- a put or remove that is decided yes behind the earlier log
-record Decided (pairs : List Pair) (words : ℕ) (log : Log) (base : ℕ) : Type 0 where
-  caller : ℕ
-  earlier : Log
-  decided : GoesOn (Decide caller base true ∷ earlier) log
-
 module _ (pairs : List Pair) (words : ℕ) (opens : CanOpen pairs words) where
-  -- a change that was decided yes was decided so at some moment
-  yes_decided : (log : Log) → EachEnabled (start pairs words) log → (base : ℕ) (change : ChangeRow)
-      → (state_of pairs words log).pieces base ≡ Some (Change change) → change.decision ≡ decided_yes → Decided pairs words log base
-  yes_decided =
-      changes_by pairs words (λ log base change. change.decision ≡ decided_yes → Decided pairs words log base)
-      (λ log event h base change old there before said. (let it = before said in record { caller = it.caller; earlier = it.earlier; decided = one_event event it.decided }))
-      (λ log caller base rows h can said. (let none = can.unset in absurd (omega arith)))
-      (λ log caller base said h can before is. at log caller base said (said_yes said is))
-    where
-      at : (log : Log) (caller base : ℕ) (said : Bool) → said ≡ true → Decided pairs words (Decide caller base said ∷ log) base
-      at log caller base said is =
-          subst (λ v. Decided pairs words (Decide caller base v ∷ log) base) (sym is) record { caller = caller; earlier = log; decided = same_log }
-
   -- the entry that a decision makes
-  entry_made : (log : Log) → EachEnabled (start pairs words) log → (caller base : ℕ) (earlier : Log) → GoesOn (Decide caller base true ∷ earlier) log
+  pub entry_made : (log : Log) → EachEnabled (start pairs words) log → (caller base : ℕ) (earlier : Log) → GoesOn (Decide caller base true ∷ earlier) log
       → (command : Command) → (old : ChangeRow) → (state_of pairs words earlier).pieces base ≡ Some (Change old) → command_of old ≡ Some command
       → IsEntryOf pairs words log (length (changes_of pairs words earlier)) base
   entry_made log h caller base earlier g command old e is =
@@ -134,7 +99,7 @@ module _ (pairs : List Pair) (words : ℕ) (opens : CanOpen pairs words) where
       → (state_of pairs words log).pieces base ≡ Some (Change change) → change.decision ≡ decided_yes → command_of change ≡ Some command
       → (position : ℕ) × IsEntryOf pairs words log position base
   update_entry log h base change command e said is =
-      let d = yes_decided log h base change e said in
+      let d = yes_decided pairs words log h base change e said in
       let m = enabled_before (start pairs words) (Decide d.caller base true ∷ d.earlier) log d.decided h in
       let old = m.1.change in
       let t = state_of pairs words d.earlier in
@@ -157,6 +122,7 @@ module _ (pairs : List Pair) (words : ℕ) (opens : CanOpen pairs words) where
     command : Command
     command_is : command_of change ≡ Some command
 
+  -- each entry comes from a Decide with yes
   source : (log : Log) → EachEnabled (start pairs words) log → (position : ℕ) (entry : Entry) → slice_get (changes_of pairs words log) position ≡ Some entry
       → Source log position
   source [] h position entry e = absurd (cc)
@@ -222,16 +188,8 @@ module _ (pairs : List Pair) (words : ℕ) (opens : CanOpen pairs words) where
   -- a change that was decided isn't pending behind that
   undecided_later : (caller base other : ℕ) (a b : Log) → EachEnabled (start pairs words) (Decide other base true ∷ b) → ¬ (GoesOn (Decide caller base true ∷ a) b)
   undecided_later caller base other a b h g =
-      let m = enabled_before (start pairs words) (Decide caller base true ∷ a) b g h.0 in
-      let now = state_of pairs words (Decide caller base true ∷ a) in
-      let old = m.1.change in
-      let turned : ChangeRow = record old { decision = decided_yes } in
-      let there : now.pieces base ≡ Some (Change turned) = changed_at-same (state_of pairs words a).pieces base (with_decision decided_yes) ∙ ap (option_map (with_decision decided_yes)) m.1.pending.published in
-      let it = change_there now.pieces (state_of pairs words b).pieces (grow_between pairs words (Decide caller base true ∷ a) b h.0 g) base turned there in
-      let same = same_change ((state_of pairs words b).pieces base) h.1.change it.0 h.1.pending.published it.1 in
-      let yes_word = it.2.decided (λ none. omega arith) in
+      let said = decided_behind pairs words caller base a b g h.0 h.1.change h.1.pending.published in
       let none = h.1.pending.unset in
-      let both = ap (λ c. c.decision) same in
       omega arith
 
   -- a change is decided yes behind one log
@@ -296,52 +254,3 @@ module _ (pairs : List Pair) (words : ℕ) (opens : CanOpen pairs words) where
             where
               the_rest : (ev : Event) (r : Log) → ev ∷ r ≡ Decide y.caller n true ∷ y.earlier → r ≡ y.earlier
               the_rest ev r e = cc
-
-  -- ---- entries change the map
-
-  -- an entry of a put changes the map
-  put_entry : (t : Snapshot) (change : ChangeRow) → change.kind ≡ put_kind
-      → Each (λ entry. makes_entry entry.command entry.reply ≡ true) (entry_for t.pieces change (command_of change))
-  put_entry t change kind = rw kind (refl, tt)
-
-  -- so does one of a remove, where the leaf of its key stands
-  remove_entry : (t : Snapshot) (change : ChangeRow) (leaf : ℕ) (row : LeafRow) → change.kind ≡ remove_kind → ref_of change.from ≡ Some (LeafAt leaf)
-      → t.pieces leaf ≡ Some (Leaf row) → row.key ≡ change.key
-      → Each (λ entry. makes_entry entry.command entry.reply ≡ true) (entry_for t.pieces change (command_of change))
-  remove_entry t change leaf row kind from e key =
-      let test : (row.key == change.key) ≡ true = grind (arith, nat_tests) in
-      let some : is_some (reply_of t.pieces change) ≡ true = rw (from, e, test) refl in
-      rw kind (some, tt)
-
-  -- a start and a finish make no entry
-  no_entry : (t : Snapshot) (change : ChangeRow) → command_of change ≡ None
-      → Each (λ entry. makes_entry entry.command entry.reply ≡ true) (entry_for t.pieces change (command_of change))
-  no_entry t change none = rw none tt
-
-  start_none : (change : ChangeRow) → change.kind ≡ start_kind → command_of change ≡ None
-  start_none change kind = rw kind refl
-
-  finish_none : (change : ChangeRow) → change.kind ≡ finish_kind → command_of change ≡ None
-  finish_none change kind = rw kind refl
-
-  entry_changes : (t : Snapshot) (change : ChangeRow) → HasForm t change
-      → Each (λ entry. makes_entry entry.command entry.reply ≡ true) (entry_for t.pieces change (command_of change))
-  entry_changes t change (into_nothing leaf kind from to new) = put_entry t change kind
-  entry_changes t change (over_leaf old leaf kind from is to new) = put_entry t change kind
-  entry_changes t change (beside_low other k leaf pair kind from is less to p new) = put_entry t change kind
-  entry_changes t change (beside_high other k leaf pair kind from is less to p new) = put_entry t change kind
-  entry_changes t change (takes_out leaf kind from is to) = remove_entry t change leaf is.row kind from is.published is.key_is
-  entry_changes t change (begins target rebuild kind from to has) = no_entry t change (start_none change kind)
-  entry_changes t change (ends rebuild row kind from e f set) = no_entry t change (finish_none change kind)
-
-  -- each entry changes the map
-  pub entries_change : (log : Log) → EachEnabled (start pairs words) log → Each (λ entry. makes_entry entry.command entry.reply ≡ true) (changes_of pairs words log)
-  unfolding AllNeeds
-  entries_change [] h = tt
-  entries_change (Decide caller base true ∷ log) h =
-      let t = state_of pairs words log in
-      let made : entry_of t.pieces (t.pieces base) ≡ entry_for t.pieces h.1.change (command_of h.1.change) = ap (entry_of t.pieces) h.1.pending.published in
-      each_append (λ entry. makes_entry entry.command entry.reply ≡ true) (changes_of pairs words log) (entry_of t.pieces (t.pieces base)) (entries_change log h.0)
-      (subst (λ es. Each (λ entry. makes_entry entry.command entry.reply ≡ true) es) (sym made)
-      (entry_changes t h.1.change ((all_needed pairs words opens log h.0).form base h.1.change h.1.pending)))
-  entries_change (event ∷ log) h = entries_change log h.0

@@ -19,13 +19,15 @@ use Rattle.ist_core.proofs.GrowingLemmas.{leaf_there, inner_there}
 use Rattle.ist_core.proofs.PlaceLemmas.{anchor_free}
 use Rattle.ist_core.proofs.SlotLemmas.{same_inner, no_row}
 use Rattle.ist_core.proofs.OrderLemmas.{names, child_above}
+use Rattle.ist_links.proofs.InductionLemmas.{grow_behind}
 use Rattle.ist_histories.specs.Finding.{Finds, in_nothing, in_leaf, in_node, Gives}
-use Rattle.ist_histories.proofs.ReadLemmas.{ReadsAs, Turns, grows_at, reads_step}
+use Rattle.ist_histories.proofs.ReadLemmas.{ReadsAs, Turns, reads_step}
 use Rattle.ist_histories.proofs.SeenLemmas.{row_holds}
 use Rattle.ist_histories.proofs.SearchLemmas.{row_finds}
 
 -- ---- one value
 
+-- one row stands at a base
 same_leaf : (o : Option Piece) (r x : LeafRow) → o ≡ Some (Leaf r) → o ≡ Some (Leaf x) → r ≡ x
 same_leaf o r x e f = cc
 
@@ -72,7 +74,7 @@ module _ (pairs : List Pair) (words : ℕ) (opens : CanOpen pairs words) (log : 
       → i ≡ child_count r.keys key → ReadsAs Behind base i ref → Finds Behind.pieces key ref value
       → Finds Behind.pieces key (Some (InnerAt base)) value
   finds_through key base i r ref value e is read f =
-      let it = inner_there Before.pieces Behind.pieces (grows_at pairs words opens log event h) base r e in
+      let it = inner_there Before.pieces Behind.pieces (grow_behind pairs words log event h) base r e in
       let held = row_holds Behind base i read.word it.0 (anchor_free pairs words (event ∷ log) h) it.1 read.holds in
       in_node it.0 it.1 (subst (λ k. slice_get it.0.slots k ≡ Some read.word) (is ∙ ap (λ ks. child_count ks key) (sym it.2.keys)) held)
       (subst (λ x. Finds Behind.pieces key x value) (sym read.reads) f)
@@ -83,7 +85,7 @@ module _ (pairs : List Pair) (words : ℕ) (opens : CanOpen pairs words) (log : 
       → Finds Behind.pieces key (past_rebuild Before.pieces (ref_of turn.change.to)) value)
       → (ref : Option Ref) (value : Option ℕ) → Finds Before.pieces key ref value → Finds Behind.pieces key ref value
   finds_step key alike _ _ in_nothing = in_nothing
-  finds_step key alike _ _ (in_leaf {base = base} r e) = in_leaf r (leaf_there Before.pieces Behind.pieces (grows_at pairs words opens log event h) base r e)
+  finds_step key alike _ _ (in_leaf {base = base} r e) = in_leaf r (leaf_there Before.pieces Behind.pieces (grow_behind pairs words log event h) base r e)
   finds_step key alike _ value (in_node {base = base} {word = word} r e g f) =
       let ref = logical Before.pieces word in
       let i = child_count r.keys key in
@@ -120,7 +122,7 @@ module _ (pairs : List Pair) (words : ℕ) (opens : CanOpen pairs words) (log : 
   pub finds_high : (key node : ℕ) → ((at i : ℕ) (ref : Option Ref) → Turns Before Behind event at i ref → at ≡ node)
       → (ref : Option Ref) (value : Option ℕ) → IsHigh node ref → Finds Before.pieces key ref value → Finds Behind.pieces key ref value
   finds_high key node here _ _ high in_nothing = in_nothing
-  finds_high key node here _ _ high (in_leaf {base = base} r e) = in_leaf r (leaf_there Before.pieces Behind.pieces (grows_at pairs words opens log event h) base r e)
+  finds_high key node here _ _ high (in_leaf {base = base} r e) = in_leaf r (leaf_there Before.pieces Behind.pieces (grow_behind pairs words log event h) base r e)
   finds_high key node here _ value high (in_node {base = base} {word = word} r e g f) =
       let ref = logical Before.pieces word in
       let i = child_count r.keys key in

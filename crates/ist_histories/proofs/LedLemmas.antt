@@ -1,42 +1,27 @@
 -- To which nodes the search for a key is led, from event to event: a node drops out only once it is finished. Serves the
 -- search law and the changes law.
-use Rattle.std.proofs.Common.{◌≡◌, ℕ, ◌⊎◌, List, ◌∷◌, Option, Some, sym, ap, ◌∙◌, subst, inl, inr, ⊎_elim, arith}
+use Rattle.std.proofs.Common.{◌≡◌, ℕ, ◌⊎◌, List, ◌∷◌, Option, Some, sym, ap, ◌∙◌, subst, inl, inr, ⊎_elim}
 use Rattle.ist_core.specs.declared.pairs.Pair.{Pair}
 use Rattle.ist_core.specs.declared.states.ChangeRow.{ChangeRow}
 use Rattle.ist_core.specs.declared.events.Event.{Event}
 use Rattle.ist_core.specs.Arithmetic.{child_count}
 use Rattle.ist_core.specs.References.{Ref, Empty, LeafAt, InnerAt, RebuildAt, ref_of}
-use Rattle.ist_core.specs.Statuses.{finished_word}
 use Rattle.ist_core.specs.Pieces.{Pieces}
 use Rattle.ist_core.specs.Snapshots.{Snapshot}
 use Rattle.ist_core.specs.StartLayout.{start}
 use Rattle.ist_core.specs.Logs.{Log, GoesOn, same_log, one_event}
 use Rattle.ist_core.specs.Slots.{IsChildFor, of_anchor, of_row, rebuild_reads, past_rebuild}
 use Rattle.ist_core.specs.Links.{IsChild, Leads, from_anchor, down}
-use Rattle.ist_core.specs.Growing.{AllGrow, StatusGoesOn, status_stays, is_marked, is_finished, is_closed}
+use Rattle.ist_core.specs.Growing.{AllGrow}
 use Rattle.ist_core.specs.Marking.{HasTarget}
 use Rattle.ist_core.specs.Lawful.{EachEnabled, CanOpen, state_of}
 use Rattle.ist_core.proofs.GrowingLemmas.{inner_there}
-use Rattle.ist_histories.proofs.NeedLemmas.{IsFinished, HasForm, into_nothing, over_leaf, beside_low, beside_high, takes_out, begins, ends, Needs, AllNeeds}
-use Rattle.ist_histories.proofs.ReadLemmas.{grows_at, reads_step}
+use Rattle.ist_links.specs.Linking.{IsFinished}
+use Rattle.ist_links.proofs.InductionLemmas.{grow_behind}
+use Rattle.ist_histories.proofs.NeedLemmas.{HasForm, into_nothing, over_leaf, beside_low, beside_high, takes_out, begins, ends, Needs, AllNeeds}
+use Rattle.ist_histories.proofs.ReadLemmas.{reads_step}
 
 -- ---- growing
-
--- a finished status stays
-finished_on : (keys old new : ℕ) → old ≡ finished_word keys → StatusGoesOn old new → new ≡ finished_word keys
-finished_on keys old new e (status_stays h) = h ∙ e
-finished_on keys old new e (is_marked h i) = let zero : finished_word keys ≡ 0 = sym e ∙ h in absurd (omega arith)
-finished_on keys old new e (is_finished k h i) = let one : finished_word keys ≡ 1 = sym e ∙ h in absurd (omega arith)
-finished_on keys old new e (is_closed k h i) = let zero : finished_word keys ≡ 0 = sym e ∙ h in absurd (omega arith)
-
--- a finished node stays finished
-pub finished_grows : (t u : Snapshot) → AllGrow t.pieces u.pieces → (node : ℕ) → IsFinished t node → IsFinished u node
-finished_grows t u g node f =
-    let it = inner_there t.pieces u.pieces g node f.finished.row f.finished.published in
-    record {
-      keys = f.keys;
-      finished = record { row = it.0; published = it.1; status = finished_on f.keys f.finished.row.status it.0.status f.finished.status it.2.status };
-    }
 
 -- the child for a key stays
 pub child_stays : (t u : Snapshot) → AllGrow t.pieces u.pieces → (node key i : ℕ) → IsChildFor t node key i → IsChildFor u node key i
@@ -47,6 +32,7 @@ child_stays t u g node key i (of_row r e f) =
 
 -- ---- at an event
 
+-- nothing and a leaf lead to no node
 no_inner : (ps : Pieces) (ref : Option Ref) (child : ℕ) → (ref ≡ Some Empty) ⊎ ((base : ℕ) × (ref ≡ Some (LeafAt base)))
     → past_rebuild ps ref ≡ Some (InnerAt child) → ⊥
 no_inner ps ref child (inl e) h = let x : Some Empty ≡ Some (InnerAt child) = sym (ap (past_rebuild ps) e) ∙ h in cc
@@ -102,7 +88,7 @@ module _ (pairs : List Pair) (words : ℕ) (opens : CanOpen pairs words) where
       ⊎_elim
       (λ still.
       ⊎_elim
-      (λ d. inl (down i still (child_stays (state_of pairs words log) (state_of pairs words (event ∷ log)) (grows_at pairs words opens log event h) node key i index) d))
+      (λ d. inl (down i still (child_stays (state_of pairs words log) (state_of pairs words (event ∷ log)) (grow_behind pairs words log event h) node key i index) d))
       (λ f. inr f)
       (child_step log event h n node i child c))
       (λ f. inr (n.finished_below node i child f c))

@@ -3,6 +3,7 @@ pub mod CallLemmas
 pub mod MapLemmas
 pub mod WovenLemmas
 pub mod OnceLemmas
+pub mod PlacedLemmas
 pub mod ReadLemmas
 pub mod PassLemmas
 pub mod NeedLemmas
@@ -11,6 +12,7 @@ pub mod DecisionLemmas
 pub mod SeenLemmas
 pub mod SearchLemmas
 pub mod LoadLemmas
+pub mod LoadOnLemmas
 pub mod FindLemmas
 pub mod CameLemmas
 pub mod SideLemmas
@@ -19,11 +21,12 @@ pub mod BelowLemmas
 pub mod RootLemmas
 pub mod TellLemmas
 pub mod OpeningLemmas
-pub mod ExistLemmas
 pub mod NeededLemmas
 pub mod ContentLemmas
 pub mod PositionLemmas
 pub mod EntryLemmas
+pub mod EntryChangeLemmas
+pub mod EffectLemmas
 pub mod WordLemmas
 pub mod RefusedExampleLemmas
 pub mod CallExampleLemmas

@@ -29,21 +29,23 @@ use Rattle.ist_core.proofs.NamingLemmas.{IsChangeFor, IsRebuildFor, SideNames, S
 use Rattle.ist_core.proofs.NamingStepLemmas.{side_names}
 use Rattle.ist_core.proofs.OrderLemmas.{names}
 use Rattle.ist_core.proofs.FreezingLemmas.{side_not_yes}
+use Rattle.ist_links.proofs.ReadLemmas.{side_yes, past_plain}
 use Rattle.ist_histories.specs.Finding.{Finds, in_nothing, in_leaf}
 use Rattle.ist_histories.specs.Loads.{Load, log_at, in_anchor_slot, in_published, IsLoad}
 use Rattle.ist_histories.specs.Searching.{ReadsSide, no_change, by_to, by_from, ReadsTarget, no_rebuild, by_target, LooksAt, ComesTo, begins, goes_down, ReadsValue, of_nothing, of_other, of_key}
 use Rattle.ist_histories.proofs.ChangeLemmas.{on_trans}
-use Rattle.ist_histories.proofs.ReadLemmas.{change_logical, side_yes}
-use Rattle.ist_histories.proofs.SeenLemmas.{plain_change}
+use Rattle.ist_histories.proofs.ReadLemmas.{change_logical}
 use Rattle.ist_histories.proofs.SearchLemmas as search
 
 -- ---- the log at a length
 
+-- a log goes on from what is left without its newest events
 drop_on : (k : ℕ) (log : Log) → GoesOn (drop k log) log
 drop_on zero log = same_log
 drop_on (suc k) [] = same_log
 drop_on (suc k) (event ∷ log) = one_event event (drop_on k log)
 
+-- and the more is left, the longer it is
 drop_rises : (a b : ℕ) (log : Log) → b ≤ a → GoesOn (drop a log) (drop b log)
 drop_rises a zero log h = drop_on a log
 drop_rises zero (suc b) log h = absurd (omega arith)
@@ -60,6 +62,7 @@ at_rises log m n h = drop_rises (length log - m) (length log - n) log (omega ari
 
 -- ---- words of rows
 
+-- a list has an element at each place
 get_there : (xs : List ℕ) (i : ℕ) → i < length xs → (word : ℕ) × (slice_get xs i ≡ Some word)
 get_there [] i h = absurd (omega arith)
 get_there (x ∷ xs) zero h = (x, refl)
@@ -88,6 +91,7 @@ slot_of_anchor t node i e = subst (λ n. (if n == anchor then anchor_slot_place 
 to_word : (r : ChangeRow) (word : ℕ) → r.decision ≡ decided_yes → word ≡ r.to → word ≡ side_of r
 to_word r word e is = is ∙ sym (side_yes r e)
 
+-- or by its decision that is no yes
 from_word : (r : ChangeRow) (word : ℕ) → r.decision ≢ decided_yes → word ≡ r.from → word ≡ side_of r
 from_word r word e is = is ∙ sym (side_not_yes r e)
 
@@ -96,9 +100,11 @@ module _ (pairs : List Pair) (words : ℕ) (opens : CanOpen pairs words) (log : 
   abbrev At : ℕ → Snapshot
   At n = state_of pairs words (log_at log n)
 
+  -- the log was enabled then
   enabled_at : (n : ℕ) → EachEnabled (start pairs words) (log_at log n)
   enabled_at n = enabled_before (start pairs words) (log_at log n) log (at_on log n) h
 
+  -- rows grow from one length to a greater one
   grows_to : (m n : ℕ) → m ≤ n → AllGrow (At m).pieces (At n).pieces
   grows_to m n le = grow_between pairs words (log_at log m) (log_at log n) (enabled_at n) (at_rises log m n le)
 
@@ -161,13 +167,14 @@ module _ (pairs : List Pair) (words : ℕ) (opens : CanOpen pairs words) (log : 
       change_named : SlotNames (At slot.length).pieces node i (ref_of slot.word) → IsChangeFor (At slot.length).pieces node i base
       change_named n = subst (λ ref. SlotNames (At slot.length).pieces node i ref) is n
 
+  -- what a slot read as, by its loads
   sided : (node i : ℕ) (slot : Load) (side last : ℕ) → SlotHolds (At slot.length) node i slot.word
       → ReadsSide pairs words log slot side last → SideTold node i slot side last
   sided node i slot _ _ held (no_change plain) =
       let t = At slot.length in
       record {
         since = le_refl slot.length;
-        reads = ap (past_rebuild t.pieces) (plain_change t (ref_of slot.word) plain);
+        reads = ap (past_rebuild t.pieces) (past_plain t.pieces (ref_of slot.word) plain);
         names_it = slot_names t node i slot.word (names pairs words opens (log_at log slot.length) (enabled_at slot.length)) held;
       }
   sided node i slot _ _ held (by_to base decision side is load yes_word other) =

@@ -26,12 +26,15 @@ replies-append m (x ∷ xs) ys = ap (λ rs. reply_to m x ∷ rs) (replies-append
 
 -- ---- legal histories
 
+-- equal lists have equal heads
 pub same_head : (a b : Option ℕ) (xs ys : List (Option ℕ)) → a ∷ xs ≡ b ∷ ys → a ≡ b
 same_head a b xs ys e = cc
 
+-- and equal tails
 pub same_tail : (a b : Option ℕ) (xs ys : List (Option ℕ)) → a ∷ xs ≡ b ∷ ys → xs ≡ ys
 same_tail a b xs ys e = cc
 
+-- equal heads and tails make equal lists
 pub same_cons : (a b : Option ℕ) (xs ys : List (Option ℕ)) → a ≡ b → xs ≡ ys → a ∷ xs ≡ b ∷ ys
 same_cons a b xs ys e f = λ i. e i ∷ f i
 
@@ -54,6 +57,7 @@ remove_none m key h =
     same_map nat_cmp_total nat_cmp-IsAntisymmetric _ _
     (λ q. ⊎_elim (λ e. (let i = e.1 in grind (arith, nat_tests, gets))) (λ e. (let i = e.1 in grind (arith, nat_tests, gets))) (eqb_tells q key))
 
+-- a reply is a value or none
 no_value : (reply : Option ℕ) → is_some reply ≡ false → reply ≡ None
 no_value None h = refl
 no_value (Some value) h = absurd (cc)

@@ -13,16 +13,11 @@ use Rattle.ist_core.specs.Logs.{Log, Happened, Okays, Passes}
 use Rattle.ist_core.specs.Slots.{SlotHolds, past_rebuild}
 use Rattle.ist_core.specs.Links.{IsChild}
 use Rattle.ist_core.specs.Leaves.{PlacedLeaf, HasLeaves}
-use Rattle.ist_core.specs.Rebuilding.{IsFinishedWith}
 use Rattle.ist_core.specs.Installing.{new_leaf, IsLeafOf}
 use Rattle.ist_core.specs.Deciding.{IsPending}
 use Rattle.ist_core.specs.Marking.{HasTarget}
 use Rattle.ist_core.specs.Lawful.{EachEnabled, state_of}
-
--- the node is finished with some number of keys
-pub record IsFinished (t : Snapshot) (node : ℕ) : Type 0 where
-  pub keys : ℕ
-  pub finished : IsFinishedWith t node keys
+use Rattle.ist_links.specs.Linking.{IsFinished}
 
 -- an inner row over two leaves, of which the key is that of the right one
 pub record IsPair (ps : Pieces) (base key left right : ℕ) : Type 0 where
@@ -70,7 +65,7 @@ pub record Needs (pairs : List Pair) (words : ℕ) (log : Log) : Type 0 where
   pub target_finished : (rebuild : ℕ) (row : RebuildRow) → (state_of pairs words log).pieces rebuild ≡ Some (Rebuild row)
       → row.root ≢ unset_word → IsFinished (state_of pairs words log) row.target
   -- each slot of a finished row was passed
-  pub passed : (node keys i word : ℕ) → IsFinishedWith (state_of pairs words log) node keys
+  pub passed : (node i word : ℕ) → IsFinished (state_of pairs words log) node
       → SlotHolds (state_of pairs words log) node i word → (v : ℕ) × Happened (Passes node i v) log
   -- the inner children of a finished row are finished
   pub finished_below : (node i child : ℕ) → IsFinished (state_of pairs words log) node

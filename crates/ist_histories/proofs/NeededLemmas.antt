@@ -105,9 +105,9 @@ module _ (pairs : List Pair) (words : ℕ) (opens : CanOpen pairs words) (log : 
         form = form_of;
         in_slot = λ base change p. undecided_stands pairs words opens log h base change p.published p.unset;
         same_leaves = λ base change p okay kind. same_of base change p kind;
-        target_finished = λ rebuild row e set. (let it = rooted_is_finished pairs words log h rebuild row e set in record { keys = it.0; finished = it.1 });
-        passed = λ node keys i word f slot. (let it = finished_slot pairs words log h node i word (keys, f) slot in (it.word, it.passed));
-        finished_below = λ node i child f c. (let it = finished_down pairs words opens log h node i child (f.keys, f.finished) c in record { keys = it.0; finished = it.1 });
+        target_finished = λ rebuild row e set. rooted_is_finished pairs words log h rebuild row e set;
+        passed = λ node i word f slot. (let it = finished_slot pairs words log h node i word f slot in (it.word, it.passed));
+        finished_below = λ node i child f c. finished_down pairs words opens log h node i child f c;
       }
 
 -- each lawful log has what is needed

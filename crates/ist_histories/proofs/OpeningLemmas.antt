@@ -1,8 +1,7 @@
 -- The contents of a new table are its start pairs. Serves the changes law.
-use Rattle.std.proofs.Common.{◌≡◌, ℕ, zero, suc, ◌≤◌, List, [], ◌∷◌, ◌++◌, length, take, drop, map, zip, Option, Some, refl, sym, ap, ◌∙◌, subst, inl, inr, arith, length-drop}
+use Rattle.std.proofs.Common.{◌≡◌, ℕ, zero, suc, List, [], ◌∷◌, ◌++◌, length, take, drop, map, zip, Option, Some, refl, sym, ap, ◌∙◌, subst, inl, inr, arith}
 use Rattle.std.proofs.lemmas.List.{map-append, take-append-drop}
-use Rattle.std.proofs.lemmas.List.Sums.{sum_by-cons}
-use Rattle.std.specs.List.{sum, flat_map}
+use Rattle.std.specs.List.{flat_map}
 use Rattle.ist_core.specs.declared.pairs.Pair.{Pair}
 use Rattle.ist_core.specs.declared.states.LeafRow.{LeafRow}
 use Rattle.ist_core.specs.Arithmetic.{part_lens}
@@ -17,35 +16,16 @@ use Rattle.ist_core.specs.Leaves.{PlacedLeaf, pair_of, HasLeaves, none_here, lea
 use Rattle.ist_core.specs.Lawful.{CanOpen}
 use Rattle.ist_core.proofs.ElementLemmas.{among_left, among_right, each-among, each_append}
 use Rattle.ist_core.proofs.PieceLemmas.{among-pieces_of}
-use Rattle.ist_core.proofs.PartLemmas.{sum-part_lens}
 use Rattle.ist_core.proofs.RisingLemmas.{Rises}
 use Rattle.ist_core.proofs.SplitLemmas.{key_of_leaf, Splits, split_none, split_leaf, split_row, SplitAll, no_split, one_split}
 use Rattle.ist_core.proofs.StartTreeLemmas.{start_hangs, start_anchor}
 use Rattle.ist_core.proofs.LeafOrderLemmas.{rises_from_next}
+use Rattle.ist_rebuilds.proofs.IdealLeafLemmas.{joined, joined_parts}
 use Rattle.ist_histories.proofs.ValueLemmas.{same_pair}
-
--- ---- parts
-
--- lists one behind another
-pub joined : {A : Type 0} → List (List A) → List A
-joined [] = []
-joined (xs ∷ more) = xs ++ joined more
-
--- the pieces of a list are the list
-joined-cut : {A : Type 0} (ns : List ℕ) (xs : List A) → length xs ≤ sum ns → joined (cut ns xs) ≡ xs
-unfolding joined
-joined-cut [] [] h = refl
-joined-cut [] (x ∷ xs) h = absurd (omega arith)
-joined-cut (n ∷ ns) xs h =
-    let all = sum_by-cons (λ x. x) n ns in
-    let less = length-drop n xs in
-    ap (λ ys. take n xs ++ ys) (joined-cut ns (drop n xs) (omega arith)) ∙ take-append-drop n xs
-
-joined-parts : {A : Type 0} (xs : List A) → joined (parts xs) ≡ xs
-joined-parts xs = joined-cut (part_lens (length xs)) xs (let whole = sum-part_lens (length xs) in omega arith)
 
 -- ---- the leaves of a tree over keys
 
+-- a tree over keys reads as itself
 split_plain : {A : Type 0} (key : A → ℕ) (ps : Pieces) (ref : Ref) (xs : List A) (rows : List ℕ) → Splits key ps ref xs rows
     → (word : ℕ) → ref_of word ≡ Some ref → logical ps word ≡ Some ref
 split_plain key ps _ _ _ split_none word e = ap (λ x. past_rebuild ps (past_change ps x)) e
@@ -66,14 +46,12 @@ record HaveKeys {A : Type 0} (key : A → ℕ) (ps : Pieces) (words : List ℕ) 
 
 module _ {A : Type 0} (key : A → ℕ) (ps : Pieces) where
   mutual
-    unfolding joined
-
     split_leaves : (ref : Ref) (xs : List A) (rows : List ℕ) → Splits key ps ref xs rows → HasKeys key ps ref xs
     split_leaves _ _ _ split_none = record { leaves = []; reached = none_here; keys = refl }
     split_leaves _ _ _ (split_leaf {base = base} r e is) = record { leaves = record { base = base; row = r } ∷ []; reached = leaf_here r e; keys = ap (λ k. k ∷ []) is }
     split_leaves _ xs _ (split_row {rows = rows} r e two keys below) =
         let it = split_all_leaves r.slots (parts xs) rows below in
-        record { leaves = it.leaves; reached = row_here r e it.reached; keys = it.keys ∙ ap (map key) (joined-parts xs) }
+        record { leaves = it.leaves; reached = row_here r e it.reached; keys = it.keys ∙ ap (map key) (joined_parts xs) }
 
     split_all_leaves : (words : List ℕ) (behind : List (List A)) (rows : List ℕ) → SplitAll key ps words behind rows → HaveKeys key ps words behind
     split_all_leaves _ _ _ no_split = record { leaves = []; reached = no_slot; keys = refl }
@@ -97,9 +75,11 @@ abbrev IsOf : List Pair → ℕ × Piece → Type 0
 IsOf pairs row = (r : LeafRow) → row.1 ≡ Leaf r → Among (record { key = r.key; value = r.value }) pairs
 
 module _ {A : Type 0} where
+  -- what is among the first elements is among all
   among_take : (x : A) (n : ℕ) (xs : List A) → Among x (take n xs) → Among x xs
   among_take x n xs i = subst (λ ys. Among x ys) (take-append-drop n xs) (among_left x (take n xs) (drop n xs) i)
 
+  -- so is what is among the last
   among_drop : (x : A) (n : ℕ) (xs : List A) → Among x (drop n xs) → Among x xs
   among_drop x n xs i = subst (λ ys. Among x ys) (take-append-drop n xs) (among_right x (take n xs) (drop n xs) i)
 
@@ -109,16 +89,19 @@ module _ {A : Type 0} where
   among_cut x part (n ∷ ns) xs (inl e) j = among_take x n xs (subst (λ ys. Among x ys) e j)
   among_cut x part (n ∷ ns) xs (inr i) j = among_drop x n xs (among_cut x part ns (drop n xs) i j)
 
+-- the parts of a pair of two lists are among them
 among_zip : {A B : Type 0} (p : A × B) (xs : List A) (ys : List B) → Among p (zip xs ys) → Among p.1 ys
 among_zip p [] ys i = absurd i
 among_zip p (x ∷ xs) [] i = absurd i
 among_zip p (x ∷ xs) (y ∷ ys) (inl e) = inl (ap (λ q. q.1) e)
 among_zip p (x ∷ xs) (y ∷ ys) (inr i) = inr (among_zip p xs ys i)
 
+-- what each part has, their concatenation has
 each_flat_map : {A B : Type 0} (P : B → Type 0) (f : A → List B) (xs : List A) → ((x : A) → Among x xs → Each P (f x)) → Each P (flat_map f xs)
 each_flat_map P f [] all = tt
 each_flat_map P f (x ∷ xs) all = each_append P (f x) (flat_map f xs) (all x (inl refl)) (each_flat_map P f xs (λ y i. all y (inr i)))
 
+-- the rows of a tree over pairs have leaves of these pairs
 rows_of : (fuel base : ℕ) (pairs all : List Pair) → ((p : Pair) → Among p pairs → Among p all) → Each (IsOf all) (rows_within fuel base pairs)
 unfolding rows_within
 rows_of fuel base [] all sub = tt
@@ -156,6 +139,7 @@ same_pairs (x ∷ xs) (y ∷ ys) all rise e h k =
     tail : (a b : ℕ) (ks ls : List ℕ) → a ∷ ks ≡ b ∷ ls → ks ≡ ls
     tail a b ks ls e = cc
 
+-- each element of a list is among it
 each_self : (xs all : List Pair) → ((p : Pair) → Among p xs → Among p all) → Each (λ p. Among p all) xs
 each_self [] all h = tt
 each_self (x ∷ xs) all h = (h x (inl refl), each_self xs all (λ p i. h p (inr i)))
@@ -168,6 +152,7 @@ mutual
   reached_of ps all each _ _ (leaf_here {base = base} r e) = (each base r e, tt)
   reached_of ps all each _ leaves (row_here r e below) = slots_of ps all each r.slots leaves below
 
+  -- so have its slots
   slots_of : (ps : Pieces) (all : List Pair) → ((base : ℕ) (r : LeafRow) → ps base ≡ Some (Leaf r) → Among (record { key = r.key; value = r.value }) all)
       → (words : List ℕ) (leaves : List PlacedLeaf) → SlotsHaveLeaves ps words leaves → Each (λ p. Among p all) (map pair_of leaves)
   slots_of ps all each _ _ no_slot = tt

@@ -1,37 +1,31 @@
 -- What the word of a slot reads as, at an event and over a log: the same, but where its change is decided yes. Serves the
 -- search law and the changes law.
-use Rattle.std.proofs.Common.{◌≡◌, ◌≢◌, ℕ, ◌⊎◌, true, false, List, ◌∷◌, Option, Some, refl, sym, ap, ◌∙◌, subst, inl, inr, ⊎_elim, option_map, arith}
+use Rattle.std.proofs.Common.{◌≡◌, ◌≢◌, ℕ, ◌⊎◌, true, List, ◌∷◌, Option, Some, None, refl, sym, ap, ◌∙◌, subst, inl, inr, ⊎_elim, arith}
 use Rattle.std.proofs.lemmas.Bool.Decides.{eqb_tells}
 use Rattle.ist_core.specs.declared.pairs.Pair.{Pair}
 use Rattle.ist_core.specs.declared.states.ChangeRow.{ChangeRow}
 use Rattle.ist_core.specs.declared.events.Event.{Event}
-use Rattle.ist_core.specs.declared.events.Event.TheVariants.{Enter, Reserve, Install, Okay, Decide, Resolve, Count, Mark, Pass, Finish, Root, Draw, Place, Lose}
-use Rattle.ist_core.specs.References.{Ref, Empty, Unset, LeafAt, InnerAt, ChangeAt, RebuildAt, ref_of, word_of}
-use Rattle.ist_core.specs.Statuses.{decided_yes, decided_no}
-use Rattle.ist_core.specs.Pieces.{Pieces, Change, with_decision}
+use Rattle.ist_core.specs.declared.events.Event.TheVariants.{Decide}
+use Rattle.ist_core.specs.References.{Ref, Empty, Unset, LeafAt, InnerAt, ChangeAt, RebuildAt, ref_of}
+use Rattle.ist_core.specs.Statuses.{decided_yes}
+use Rattle.ist_core.specs.Pieces.{Pieces, Change}
 use Rattle.ist_core.specs.Snapshots.{Snapshot}
 use Rattle.ist_core.specs.StartLayout.{start}
 use Rattle.ist_core.specs.After.{side_of}
 use Rattle.ist_core.specs.Logs.{Log}
 use Rattle.ist_core.specs.Slots.{SlotHolds, change_reads, past_change, rebuild_reads, past_rebuild, logical}
 use Rattle.ist_core.specs.Growing.{AllGrow}
-use Rattle.ist_core.specs.Deciding.{IsPending, CanDecide}
+use Rattle.ist_core.specs.Deciding.{IsPending}
 use Rattle.ist_core.specs.Lawful.{EachEnabled, CanOpen, state_of}
-use Rattle.ist_core.proofs.ReferenceLemmas.{ref_of-unset}
-use Rattle.ist_core.proofs.RowLemmas.{changed_at-same, changed_at-other}
-use Rattle.ist_core.proofs.MoveLemmas.{IsSound}
-use Rattle.ist_core.proofs.SoundLemmas.{sound}
-use Rattle.ist_core.proofs.StartLemmas.{sound_start}
 use Rattle.ist_core.proofs.GrowingLemmas.{change_there, rebuild_there}
-use Rattle.ist_core.proofs.StepLemmas.{grow_step}
-use Rattle.ist_core.proofs.PlaceLemmas.{anchor_free}
-use Rattle.ist_core.proofs.RoomLemmas.{published_good, ref_of-change}
 use Rattle.ist_core.proofs.NamingLemmas.{SideNames, SlotNames, WordsName, slot_names}
 use Rattle.ist_core.proofs.NamingStepLemmas.{side_names}
-use Rattle.ist_core.proofs.InstallNamingLemmas.{from_plain}
-use Rattle.ist_core.proofs.OrderLemmas.{names}
-use Rattle.ist_core.proofs.SlotStepLemmas.{install_stands, install_writes, resolve_writes, place_writes, WritesNoSlot, slot_stays, IsNoDecide, change_stays}
-use Rattle.ist_core.proofs.FreezingLemmas.{side_not_yes, same_change}
+use Rattle.ist_core.proofs.OrderLemmas.{names, past_change_names}
+use Rattle.ist_core.proofs.FreezingLemmas.{side_not_yes}
+use Rattle.ist_links.proofs.InductionLemmas.{grow_behind}
+use Rattle.ist_links.proofs.ReadLemmas.{decide_reads}
+use Rattle.ist_links.proofs.ReadLemmas as links
+use Rattle.ist_links.proofs.ReadStepLemmas as steps
 
 -- ---- references
 
@@ -66,9 +60,6 @@ pub change_logical : (ps : Pieces) (word base : ℕ) (r : ChangeRow)
     → logical ps word ≡ past_rebuild ps (ref_of (side_of r))
 change_logical ps word base r is e = ap (λ ref. past_rebuild ps (past_change ps ref)) is ∙ ap (λ o. past_rebuild ps (change_reads o)) e
 
-pub side_yes : (r : ChangeRow) → r.decision ≡ decided_yes → side_of r ≡ r.to
-side_yes r e = rw e refl
-
 -- ---- over a log
 
 -- the reference is a change of slot i of the node, which isn't decided yes in the first state and is in the second
@@ -84,6 +75,7 @@ pub record IsTurned (t u : Snapshot) (node i : ℕ) (ref : Option Ref) : Type 0 
   pub later : u.pieces base ≡ Some (Change new)
   pub yes : new.decision ≡ decided_yes
 
+-- what a change reads as depends on its sides and its decision
 same_side : (x y : ChangeRow) → x.from ≡ y.from → x.to ≡ y.to → x.decision ≡ y.decision
     → side_of x ≡ side_of y
 same_side x y f t d = rw (f, t, d) refl
@@ -143,156 +135,53 @@ pub record Turns (t u : Snapshot) (event : Event) (node i : ℕ) (ref : Option R
   pub now : ReadsAs u node i (past_rebuild t.pieces (ref_of change.to))
 
 module _ (pairs : List Pair) (words : ℕ) (opens : CanOpen pairs words) where
-  -- rows lie as they should behind a log
-  pub sound_at : (log : Log) → EachEnabled (start pairs words) log → IsSound (state_of pairs words log)
-  sound_at log h = sound (start pairs words) log (sound_start pairs words) h
-
-  -- rows grow at an event
-  pub grows_at : (log : Log) (event : Event) → EachEnabled (start pairs words) (event ∷ log)
-      → AllGrow (state_of pairs words log).pieces (state_of pairs words (event ∷ log)).pieces
-  grows_at log event h = grow_step (start pairs words) log event h.1 (sound_at log h.0)
-
-  -- the word of a published change is read back
-  pub change_word : (log : Log) → EachEnabled (start pairs words) log → (base : ℕ) (r : ChangeRow)
-      → (state_of pairs words log).pieces base ≡ Some (Change r)
-      → ref_of (word_of (ChangeAt base)) ≡ Some (ChangeAt base)
-  change_word log h base r e = ref_of-change base (published_good pairs words opens log base (Change r) h e)
-
-  -- where an event turns a change to yes, it decides it so
-  pub turned_by : (log : Log) (event : Event) → EachEnabled (start pairs words) (event ∷ log)
-      → (base : ℕ) (old new : ChangeRow)
-      → (state_of pairs words log).pieces base ≡ Some (Change old) → old.decision ≢ decided_yes
-      → (state_of pairs words (event ∷ log)).pieces base ≡ Some (Change new) → new.decision ≡ decided_yes
-      → IsYesOf event base
-  turned_by log event h base old new e not_yet f said = at event h f
+  -- a change that the event decides yes turns its slot
+  turned : (log : Log) (event : Event) → EachEnabled (start pairs words) (event ∷ log) → (node i : ℕ) (ref : Ref)
+      → links.Turns (start pairs words) log node i ref event
+      → Turns (state_of pairs words log) (state_of pairs words (event ∷ log)) event node i (past_rebuild (state_of pairs words log).pieces (Some ref))
+  turned log _ h node i ref (links.turned_by {caller = caller} {base = base} can node_is index from) =
+      let t = state_of pairs words log in
+      let u = state_of pairs words (Decide caller base true ∷ log) in
+      let change = can.change in
+      let row = (names pairs words opens log h.0).rows base (Change change) can.pending.published in
+      let now : ReadsAs u change.node change.index (past_rebuild t.pieces (ref_of change.to)) = put_in (ref_of change.to) refl row.1 in
+      record {
+        base = base;
+        decides = record { caller = caller; is = refl };
+        change = change;
+        pending = can.pending;
+        node_is = node_is;
+        index = index;
+        from = ap (past_rebuild t.pieces) from;
+        now = subst (λ j. ReadsAs u node j (past_rebuild t.pieces (ref_of change.to))) index (subst (λ n. ReadsAs u n change.index (past_rebuild t.pieces (ref_of change.to))) node_is now);
+      }
     where
-      t : Snapshot
-      t = state_of pairs words log
-
-      clash : old ≡ new → ⊥
-      clash one = not_yet (ap (λ c. c.decision) one ∙ said)
-
-      other : (ev : Event) → IsNoDecide ev → EachEnabled (start pairs words) (ev ∷ log)
-          → (state_of pairs words (ev ∷ log)).pieces base ≡ Some (Change new) → IsYesOf ev base
-      other ev none k g = absurd (clash (same_change ((state_of pairs words (ev ∷ log)).pieces base) old new (change_stays (start pairs words) log ev k.1 (sound_at log k.0) none base old e) g))
-
-      at : (ev : Event) → EachEnabled (start pairs words) (ev ∷ log)
-          → (state_of pairs words (ev ∷ log)).pieces base ≡ Some (Change new) → IsYesOf ev base
-      at (Decide caller b true) k g =
-          ⊎_elim
-          (λ here. record { caller = caller; is = ap (λ x. Decide caller x true) (sym here.1) })
-          (λ there. absurd (clash (same_change _ old new (changed_at-other t.pieces b base (with_decision decided_yes) there.1 ∙ e) g)))
-          (eqb_tells base b)
-      at (Decide caller b false) k g =
-          ⊎_elim
-          (λ here.
-          let now : (state_of pairs words (Decide caller b false ∷ log)).pieces base ≡ Some (Change record old { decision = decided_no }) =
-          subst (λ x. (state_of pairs words (Decide caller x false ∷ log)).pieces base ≡ Some (Change record old { decision = decided_no })) here.1
-          (changed_at-same t.pieces base (with_decision decided_no) ∙ ap (option_map (with_decision decided_no)) e) in
-          let two : 2 ≡ new.decision = ap (λ c. c.decision) (same_change _ (record old { decision = decided_no }) new now g) in
-          absurd (omega arith))
-          (λ there. absurd (clash (same_change _ old new (changed_at-other t.pieces b base (with_decision decided_no) there.1 ∙ e) g)))
-          (eqb_tells base b)
-      at (Enter caller) k g = other (Enter caller) tt k g
-      at (Reserve caller b size) k g = other (Reserve caller b size) tt k g
-      at (Install caller b rows) k g = other (Install caller b rows) tt k g
-      at (Okay caller b) k g = other (Okay caller b) tt k g
-      at (Resolve caller b) k g = other (Resolve caller b) tt k g
-      at (Count caller n) k g = other (Count caller n) tt k g
-      at (Mark caller n) k g = other (Mark caller n) tt k g
-      at (Pass caller n j w) k g = other (Pass caller n j w) tt k g
-      at (Finish caller n keys) k g = other (Finish caller n keys) tt k g
-      at (Root caller o w rows) k g = other (Root caller o w rows) tt k g
-      at (Draw caller o part) k g = other (Draw caller o part) tt k g
-      at (Place caller o j w rows) k g = other (Place caller o j w rows) tt k g
-      at (Lose caller bases) k g = other (Lose caller bases) tt k g
-
-  -- a word that is set stays in its slot, or what comes in its place reads as it did
-  abbrev WordStays : Log → Event → ℕ → ℕ → ℕ → Type 0
-  WordStays log event node i word =
-      SlotHolds (state_of pairs words (event ∷ log)) node i word
-      ⊎ ReadsAs (state_of pairs words (event ∷ log)) node i (logical (state_of pairs words log).pieces word)
-
-  still : (log : Log) (event : Event) → EachEnabled (start pairs words) (event ∷ log) → WritesNoSlot event
-      → (node i word : ℕ) → SlotHolds (state_of pairs words log) node i word → WordStays log event node i word
-  still log event h none node i word slot = inl (slot_stays (start pairs words) log event h.1 (sound_at log h.0) none node i word slot)
-
-  word_step : (log : Log) (event : Event) → EachEnabled (start pairs words) (event ∷ log)
-      → (node i word : ℕ) → SlotHolds (state_of pairs words log) node i word
-      → logical (state_of pairs words log).pieces word ≢ Some Unset → WordStays log event node i word
-  word_step log (Install caller base rows) h node i word slot set =
-      let first = start pairs words in
-      let t = state_of pairs words log in
-      let u = state_of pairs words (Install caller base rows ∷ log) in
-      let change = h.1.change in
-      let writes = install_writes first log caller base rows h.1 (sound_at log h.0) (anchor_free pairs words log h.0) in
-      let stands = install_stands first log caller base rows h.1 in
-      ⊎_elim
-      (λ w.
-      let ref = ref_of change.from in
-      let same : ref_of word ≡ ref = ap ref_of w.0 in
-      let plain = from_plain first log change h.1.fresh h.1.fits in
-      let unset : ref ≢ Some Unset = λ e. set (ap (λ x. past_rebuild t.pieces (past_change t.pieces x)) (same ∙ e)) in
-      let side = plain_side t.pieces change.node change.index ref (slot_names t change.node change.index change.from (names pairs words opens log h.0) h.1.in_slot) unset plain in
-      let none : change.decision ≢ decided_yes = λ e. (let zero = h.1.unset in omega arith) in
-      inr
-      record {
-        word = word_of (ChangeAt base);
-        holds = subst (λ j. SlotHolds u node j (word_of (ChangeAt base))) (sym w.2) (subst (λ n. SlotHolds u n change.index (word_of (ChangeAt base))) (sym w.1) writes.now);
-        reads =
-            change_logical u.pieces (word_of (ChangeAt base)) base change (change_word (Install caller base rows ∷ log) h base change stands) stands
-            ∙ ap (λ x. past_rebuild u.pieces (ref_of x)) (side_not_yes change none)
-            ∙ side_reads t.pieces u.pieces (grows_at log (Install caller base rows) h) change.node change.index ref side
-            ∙ ap (past_rebuild t.pieces) (sym (ap (past_change t.pieces) same ∙ side_plain t.pieces t.pieces change.node change.index ref side));
-      })
-      (λ stays. inl stays)
-      (writes.others node i word slot)
-  word_step log (Resolve caller base) h node i word slot set =
-      let t = state_of pairs words log in
-      let u = state_of pairs words (Resolve caller base ∷ log) in
-      let change = h.1.change in
-      let writes = resolve_writes t caller base h.1 (anchor_free pairs words log h.0) in
-      ⊎_elim
-      (λ w.
-      let row = (names pairs words opens log h.0).rows base (Change change) h.1.published in
-      let ref = ref_of (side_of change) in
-      let side = side_names t.pieces change.node change.index change row.0 row.1 in
-      inr
-      record {
-        word = side_of change;
-        holds = subst (λ j. SlotHolds u node j (side_of change)) (sym w.2) (subst (λ n. SlotHolds u n change.index (side_of change)) (sym w.1) writes.now);
-        reads =
-            ap (past_rebuild u.pieces) (side_plain t.pieces u.pieces change.node change.index ref side)
-            ∙ side_reads t.pieces u.pieces (grows_at log (Resolve caller base) h) change.node change.index ref side
-            ∙ sym (change_logical t.pieces word base change (ap ref_of w.0 ∙ change_word log h.0 base change h.1.published) h.1.published);
-      })
-      (λ stays. inl stays)
-      (writes.others node i word slot)
-  word_step log (Place caller rebuild j new rows) h node i word slot set =
-      let t = state_of pairs words log in
-      let writes = place_writes t caller rebuild j new rows h.1 (sound_at log h.0) (anchor_free pairs words log h.0) in
-      ⊎_elim
-      (λ w. absurd (set (ap (λ x. past_rebuild t.pieces (past_change t.pieces x)) (ap ref_of w.0 ∙ ref_of-unset))))
-      (λ stays. inl stays)
-      (writes.others node i word slot)
-  word_step log (Enter caller) h node i word slot set = still log (Enter caller) h tt node i word slot
-  word_step log (Reserve caller b size) h node i word slot set = still log (Reserve caller b size) h tt node i word slot
-  word_step log (Okay caller b) h node i word slot set = still log (Okay caller b) h tt node i word slot
-  word_step log (Decide caller b said) h node i word slot set = still log (Decide caller b said) h tt node i word slot
-  word_step log (Count caller n) h node i word slot set = still log (Count caller n) h tt node i word slot
-  word_step log (Mark caller n) h node i word slot set = still log (Mark caller n) h tt node i word slot
-  word_step log (Pass caller n j w) h node i word slot set = still log (Pass caller n j w) h tt node i word slot
-  word_step log (Finish caller n keys) h node i word slot set = still log (Finish caller n keys) h tt node i word slot
-  word_step log (Root caller o w rows) h node i word slot set = still log (Root caller o w rows) h tt node i word slot
-  word_step log (Draw caller o part) h node i word slot set = still log (Draw caller o part) h tt node i word slot
-  word_step log (Lose caller bases) h node i word slot set = still log (Lose caller bases) h tt node i word slot
+      put_in : (o : Option Ref) → ref_of can.change.to ≡ o → SideNames (state_of pairs words log).pieces can.change.node can.change.index o
+          → ReadsAs (state_of pairs words (Decide caller base true ∷ log)) can.change.node can.change.index (past_rebuild (state_of pairs words log).pieces (ref_of can.change.to))
+      put_in None is side = absurd side
+      put_in (Some to) is side =
+          let t = state_of pairs words log in
+          let u = state_of pairs words (Decide caller base true ∷ log) in
+          let r = decide_reads pairs words opens log caller base h can.change can.pending.published to is in
+          record {
+            word = r.word;
+            holds = r.holds;
+            reads =
+                ap (past_rebuild u.pieces) r.reads
+                ∙ side_reads t.pieces u.pieces (grow_behind pairs words log (Decide caller base true) h) can.change.node can.change.index (Some to) side
+                ∙ ap (past_rebuild t.pieces) (sym is);
+          }
 
   -- a slot that is set reads as it did behind an event, or the event turns a change of it
   pub reads_step : (log : Log) (event : Event) → EachEnabled (start pairs words) (event ∷ log)
       → (node i : ℕ) (ref : Option Ref) → ref ≢ Some Unset → ReadsAs (state_of pairs words log) node i ref
       → ReadsAs (state_of pairs words (event ∷ log)) node i ref
       ⊎ Turns (state_of pairs words log) (state_of pairs words (event ∷ log)) event node i ref
-  reads_step log event h node i ref set r = ⊎_elim holds_it (λ it. inl record { word = it.word; holds = it.holds; reads = it.reads ∙ r.reads }) (word_step log event h node i r.word r.holds (λ e. set (sym r.reads ∙ e)))
+  reads_step log event h node i ref set r =
+      ⊎_elim
+      (λ side. at (past_change t.pieces (ref_of r.word)) refl side)
+      (λ unset. absurd (set (sym r.reads ∙ ap (past_rebuild t.pieces) unset)))
+      (past_change_names t node i (ref_of r.word) (names pairs words opens log h.0) (slot_names t node i r.word (names pairs words opens log h.0) r.holds))
     where
       t : Snapshot
       t = state_of pairs words log
@@ -300,41 +189,19 @@ module _ (pairs : List Pair) (words : ℕ) (opens : CanOpen pairs words) where
       u : Snapshot
       u = state_of pairs words (event ∷ log)
 
-      turns : SlotHolds u node i r.word → IsTurned t u node i (ref_of r.word) → Turns t u event node i ref
-      turns slot it =
-          let decides = turned_by log event h it.base it.old it.new it.published it.not_yet it.later it.yes in
-          let can : CanDecide t log decides.caller it.base true = pending_at decides.caller decides.is in
-          let same = same_change (t.pieces it.base) can.change it.old can.pending.published it.published in
-          let grew = change_there t.pieces u.pieces (grows_at log event h) it.base it.old it.published in
-          let now = same_change (u.pieces it.base) grew.0 it.new grew.1 it.later in
-          let to : it.new.to ≡ it.old.to = ap (λ c. c.to) (sym now) ∙ ap (λ c. c.to) grew.2.others in
-          let row = (names pairs words opens log h.0).rows it.base (Change it.old) it.published in
-          record {
-            base = it.base;
-            decides = decides;
-            change = it.old;
-            pending = record { published = it.published; unset = sym (ap (λ c. c.decision) same) ∙ can.pending.unset };
-            node_is = it.node_is;
-            index = it.index;
-            from = ap (λ w. past_rebuild t.pieces (ref_of w)) (sym (side_not_yes it.old it.not_yet)) ∙ sym (change_logical t.pieces r.word it.base it.old it.is it.published) ∙ r.reads;
-            now =
-                record {
-                  word = r.word;
-                  holds = slot;
-                  reads =
-                      change_logical u.pieces r.word it.base it.new it.is it.later
-                      ∙ ap (λ w. past_rebuild u.pieces (ref_of w)) (side_yes it.new it.yes ∙ to)
-                      ∙ side_reads t.pieces u.pieces (grows_at log event h) it.old.node it.old.index (ref_of it.old.to) row.1;
-                };
-          }
-        where
-          pending_at : (caller : ℕ) → event ≡ Decide caller it.base true → CanDecide t log caller it.base true
-          pending_at caller is = (subst (λ ev. EachEnabled (start pairs words) (ev ∷ log)) is h).1
+      unset_side : (plain : Ref) → plain ≡ Unset → ¬ (SideNames t.pieces node i (Some plain))
+      unset_side plain e side = subst (λ x. SideNames t.pieces node i (Some x)) e side
 
-      holds_it : SlotHolds u node i r.word
-          → ReadsAs u node i ref ⊎ Turns t u event node i ref
-      holds_it slot =
+      at : (o : Option Ref) → past_change t.pieces (ref_of r.word) ≡ o → SideNames t.pieces node i o → ReadsAs u node i ref ⊎ Turns t u event node i ref
+      at None is side = absurd side
+      at (Some plain) is side =
+          let same : past_rebuild t.pieces (Some plain) ≡ ref = ap (past_rebuild t.pieces) (sym is) ∙ r.reads in
           ⊎_elim
-          (λ same. inl record { word = r.word; holds = slot; reads = same ∙ r.reads })
-          (λ it. inr (turns slot it))
-          (word_reads t u (grows_at log event h) (names pairs words opens log h.0) node i (ref_of r.word) (slot_names t node i r.word (names pairs words opens log h.0) r.holds))
+          (λ k.
+          inl record {
+            word = k.word;
+            holds = k.holds;
+            reads = ap (past_rebuild u.pieces) k.reads ∙ side_reads t.pieces u.pieces (grow_behind pairs words log event h) node i (Some plain) side ∙ same;
+          })
+          (λ k. inr (subst (λ x. Turns t u event node i x) same (turned log event h node i plain k)))
+          (steps.reads_step pairs words opens log event h node i plain (λ e. unset_side plain e side) record { word = r.word; holds = r.holds; reads = is })

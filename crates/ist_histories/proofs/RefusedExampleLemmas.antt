@@ -1,5 +1,5 @@
 -- The log of a put that is refused is lawful, and changes nothing. Serves `examples`.
-use Rattle.std.proofs.Common.{◌≡◌, ℕ, ◌⊎◌, false, [], ◌∷◌, Some, refl, sym, inl, inr, subst, arith}
+use Rattle.std.proofs.Common.{◌≡◌, ℕ, false, [], ◌∷◌, Some, refl, inl, inr, arith}
 use Rattle.ist_core.specs.declared.states.InnerRow.{InnerRow}
 use Rattle.ist_core.specs.declared.states.ChangeRow.{ChangeRow}
 use Rattle.ist_core.specs.declared.events.Event.TheVariants.{Mark, Decide}
@@ -9,7 +9,7 @@ use Rattle.ist_core.specs.References.{ref_of}
 use Rattle.ist_core.specs.Statuses.{put_kind}
 use Rattle.ist_core.specs.Pieces.{Inner, Change, with_status}
 use Rattle.ist_core.specs.StartLayout.{rows_within}
-use Rattle.ist_core.specs.Logs.{state, Log}
+use Rattle.ist_core.specs.Logs.{state}
 use Rattle.ist_core.specs.Slots.{IsOpen, anchor_is, row_is, in_anchor, in_row, of_anchor, of_row}
 use Rattle.ist_core.specs.Links.{IsChild, at_anchor, below, from_anchor, down}
 use Rattle.ist_core.specs.Leaves.{leaf_here, row_here, no_slot, one_slot, HasContents}
@@ -19,7 +19,7 @@ use Rattle.ist_core.specs.Deciding.{CanDecide, CanResolve}
 use Rattle.ist_core.specs.Marking.{CanMark, as_target}
 use Rattle.ist_core.specs.Lawful.{Lawful, EachEnabled}
 use Rattle.ist_core.specs.Changes.{changes_of}
-use Rattle.ist_core.specs.ExampleLogs.{start_pairs, late_reserved, late_rows, rebuild_replaced, put_resolved}
+use Rattle.ist_core.specs.ExampleLogs.{start_pairs, late_reserved, late_rows, rebuild_replaced}
 use Rattle.ist_core.proofs.StartExampleLemmas.{two, start_is_lawful}
 use Rattle.ist_core.proofs.RebuildExampleLemmas.{the_start, the_rebuild, low, high, both}
 use Rattle.ist_core.proofs.FinishExampleLemmas.{none_refused_started}
@@ -35,13 +35,16 @@ the_put decision = record { decision = decision; kind = put_kind; node = 4; inde
 abbrev target : ℕ → ℕ → InnerRow
 target status word = record { status = status; count = 0; degree = 2; size = 2; keys = 20 ∷ []; slots = 89 ∷ word ∷ [] }
 
+-- the log is enabled until its row is reserved
 reserved : EachEnabled two late_reserved
 reserved = late_is_lawful.enabled.0.0.0.0.0.0.0.0.0
 
+-- the rebuild is started
 is_started : IsStarted (state two late_reserved) 15
 unfolding ref_of
 is_started = record { base = 20; change = the_start 1; published = refl; kind = refl; decision = refl; to = refl }
 
+-- so its target may be marked
 marked : CanMark (state two late_reserved) late_reserved 0 4
 unfolding rows_within degree square_root root_up_to part_len part_lens ideal_words ideal_words_within
 marked =
@@ -58,9 +61,11 @@ target_hangs : IsChild (state two (Mark 0 4 ∷ late_reserved)) 2 0 4
 unfolding ref_of
 target_hangs = record { word = 124; holds = in_anchor refl refl refl; reads = refl }
 
+-- no change was refused before
 none_refused : NoneRefused (state two (Mark 0 4 ∷ late_reserved)).pieces
 none_refused = none_refused-changed_at _ 4 (with_status 1) (status_keeps 1) none_refused_started
 
+-- the put is installed behind the mark
 installed : CanInstall two (Mark 0 4 ∷ late_reserved) 1 31 late_rows
 unfolding NotRefused ref_of rows_within degree square_root root_up_to part_len part_lens ideal_words ideal_words_within
 installed =
@@ -95,9 +100,11 @@ not_open (row_is r e s) = let one : ◌≡◌ {A = ℕ} 1 r.status = status_is r
     status_is : (r : InnerRow) → (state two refused_installed).pieces 4 ≡ Some (Inner r) → 1 ≡ r.status
     status_is r e = cc
 
+-- it is decided no, since its node is marked
 decided : CanDecide (state two refused_installed) refused_installed 2 31 false
 decided = record { known = omega arith; change = the_put 0; pending = record { published = refl; unset = refl }; outcome = not_open }
 
+-- and it is resolved
 resolved : CanResolve (state two (Decide 2 31 false ∷ refused_installed)) 0 31
 unfolding rows_within degree square_root root_up_to part_len part_lens ideal_words ideal_words_within
 resolved = record { known = omega arith; change = the_put 2; published = refl; decided = λ e. omega arith; in_slot = in_row (target 1 251) refl refl }

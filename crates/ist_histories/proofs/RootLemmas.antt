@@ -26,6 +26,7 @@ use Rattle.ist_histories.proofs.ValueLemmas.{value_of}
 use Rattle.ist_histories.proofs.BelowLemmas.{finds_value, table_says}
 use Rattle.ist_histories.proofs.FindLemmas.{finds_once}
 
+-- a reference to a row has one base
 same_inner_ref : (a b : ℕ) → Some (InnerAt a) ≡ Some (InnerAt b) → a ≡ b
 same_inner_ref a b e = cc
 

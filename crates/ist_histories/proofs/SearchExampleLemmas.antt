@@ -1,9 +1,9 @@
 -- A put, and a search that loads its change, on a small log. Serves `examples`.
-use Rattle.std.proofs.Common.{◌≡◌, ◌≢◌, ℕ, ◌+◌, ◌≤◌, [], ◌∷◌, length, slice_get, Some, None, refl, arith}
+use Rattle.std.proofs.Common.{◌≡◌, ℕ, ◌+◌, [], ◌∷◌, length, slice_get, Some, None, refl, arith}
 use Rattle.ist_core.specs.declared.commands.Command.TheVariants.{Put}
 use Rattle.ist_core.specs.declared.states.ChangeRow.{ChangeRow}
 use Rattle.ist_core.specs.declared.states.LeafRow.{LeafRow}
-use Rattle.ist_core.specs.References.{Empty, LeafAt, ChangeAt, RebuildAt, ref_of}
+use Rattle.ist_core.specs.References.{Empty, LeafAt, ref_of}
 use Rattle.ist_core.specs.Statuses.{put_kind}
 use Rattle.ist_core.specs.Pieces.{Piece, Leaf, Change, words_of}
 use Rattle.ist_core.specs.StartLayout.{start, rows_within}
@@ -15,7 +15,7 @@ use Rattle.ist_core.specs.ExampleTables.{pair}
 use Rattle.ist_core.specs.ExampleLogs.{put_decided, put_resolved}
 use Rattle.ist_core.proofs.PutExampleLemmas.{put_is_lawful}
 use Rattle.ist_histories.specs.Loads.{Load, log_at, in_anchor_slot, in_published, IsLoad}
-use Rattle.ist_histories.specs.Searching.{ReadsSide, by_to, by_from, ReadsTarget, no_rebuild, LooksAt, begins, of_nothing, of_key, Searched}
+use Rattle.ist_histories.specs.Searching.{by_to, by_from, no_rebuild, LooksAt, begins, of_nothing, of_key, Searched}
 use Rattle.ist_histories.proofs.WordLemmas.{one_word}
 
 -- ---- the put
@@ -44,6 +44,7 @@ the_put decision = record { decision = decision; kind = put_kind; node = 2; inde
 abbrev load : ℕ → ℕ → ℕ → Load
 load place word length = record { place = place; word = word; length = length }
 
+-- the log is enabled
 decided : EachEnabled (start [] 15) put_decided
 decided = put_is_lawful.enabled.0
 
@@ -68,6 +69,7 @@ since_6 base k word p e read = let it = row_load base k word p e read in record 
 
 -- ---- the search
 
+-- the look whose decision is loaded behind the yes
 look_behind : LooksAt [] 15 put_decided 1 4 6 2 (LeafAt 4)
 unfolding ref_of rows_within
 look_behind =
@@ -95,6 +97,7 @@ search_behind =
       value_is = of_key {base = 4} (load 4 1 6) (load 5 1 6) (since_6 4 0 1 (Leaf the_leaf) refl refl) refl (since_6 4 1 1 (Leaf the_leaf) refl refl);
     }
 
+-- the look whose decision is loaded before it
 look_before : LooksAt [] 15 put_decided 1 4 5 2 Empty
 unfolding ref_of rows_within
 look_before =

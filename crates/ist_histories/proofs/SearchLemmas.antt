@@ -43,6 +43,7 @@ pub data Comes (pairs : List Pair) (words key : ℕ) (first : Log) : Log → ℕ
   goes : {before now : Log} {node child : ℕ} → Comes pairs words key first before node
       → Look pairs words key before now node (Some (InnerAt child)) → Comes pairs words key first now child
 
+-- where a search comes later, the log goes on
 pub comes_on : (pairs : List Pair) (words key : ℕ) (first now : Log) (node : ℕ) → Comes pairs words key first now node
     → GoesOn first now
 comes_on pairs words key first _ _ begins = same_log

@@ -1,5 +1,5 @@
 -- What a look at a slot saw was the tree's at one moment, on the way of the search for the key. Serves the search law.
-use Rattle.std.proofs.Common.{◌≡◌, ◌≢◌, ℕ, zero, suc, true, List, [], ◌∷◌, length, slice_get, Option, Some, None, option_map, refl, sym, ap, ◌∙◌, subst, inr, ⊎_elim, arith}
+use Rattle.std.proofs.Common.{◌≡◌, ℕ, zero, suc, true, List, [], ◌∷◌, length, slice_get, Option, Some, None, option_map, refl, sym, ap, ◌∙◌, subst, inr, ⊎_elim, arith}
 use Rattle.ist_core.specs.declared.pairs.Pair.{Pair}
 use Rattle.ist_core.specs.declared.states.InnerRow.{InnerRow}
 use Rattle.ist_core.specs.declared.states.ChangeRow.{ChangeRow}
@@ -11,7 +11,7 @@ use Rattle.ist_core.specs.Pieces.{Inner, Change, with_decision}
 use Rattle.ist_core.specs.Snapshots.{Snapshot}
 use Rattle.ist_core.specs.StartLayout.{start}
 use Rattle.ist_core.specs.Logs.{Log, Happened, Passes, GoesOn, same_log, one_event}
-use Rattle.ist_core.specs.Slots.{SlotHolds, in_anchor, in_row, IsChildFor, of_anchor, of_row, past_change, past_rebuild, logical}
+use Rattle.ist_core.specs.Slots.{SlotHolds, in_anchor, in_row, IsChildFor, of_anchor, of_row, past_rebuild, logical}
 use Rattle.ist_core.specs.Links.{Leads}
 use Rattle.ist_core.specs.Freezing.{KeepsWord, holds_it, holds_change}
 use Rattle.ist_core.specs.Lawful.{EachEnabled, CanOpen, state_of}
@@ -23,13 +23,17 @@ use Rattle.ist_core.proofs.SlotLemmas.{same_inner, slot_once, no_row}
 use Rattle.ist_core.proofs.NamingLemmas.{SideNames, SlotNames, IsChangeFor, slot_names}
 use Rattle.ist_core.proofs.OrderLemmas.{names}
 use Rattle.ist_core.proofs.SlotStepLemmas.{slot_stays}
-use Rattle.ist_core.proofs.FreezingLemmas.{side_not_yes, same_change}
+use Rattle.ist_core.proofs.FreezingLemmas.{change_read, side_not_yes, same_change}
 use Rattle.ist_core.proofs.FrozenLemmas as frozen
+use Rattle.ist_links.specs.Linking.{IsFinished}
+use Rattle.ist_links.proofs.FormLemmas.{finished_grows}
+use Rattle.ist_links.proofs.InductionLemmas.{sound_behind}
+use Rattle.ist_links.proofs.ReadLemmas.{side_yes, past_plain}
 use Rattle.ist_histories.proofs.ChangeLemmas.{on_trans}
 use Rattle.ist_histories.proofs.PassLemmas.{passed_plain}
-use Rattle.ist_histories.proofs.NeedLemmas.{IsFinished, AllNeeds}
-use Rattle.ist_histories.proofs.ReadLemmas.{side_reads, plain_side, change_logical, side_yes, IsTurned, word_reads, ReadsAs, sound_at, change_word}
-use Rattle.ist_histories.proofs.LedLemmas.{finished_grows, child_stays, led_step, WasLeft, led_on}
+use Rattle.ist_histories.proofs.NeedLemmas.{AllNeeds}
+use Rattle.ist_histories.proofs.ReadLemmas.{side_reads, plain_side, change_logical, IsTurned, word_reads, ReadsAs}
+use Rattle.ist_histories.proofs.LedLemmas.{child_stays, led_step, WasLeft, led_on}
 use Rattle.ist_histories.proofs.DecisionLemmas.{unfinished, turning, never_yes}
 
 -- behind some log in between the node was led to, and its slot for the key read so
@@ -41,11 +45,6 @@ pub record Saw (pairs : List Pair) (words key : ℕ) (earlier log : Log) (node :
   pub index : ℕ
   pub index_is : IsChildFor (state_of pairs words at) node key index
   pub read : ReadsAs (state_of pairs words at) node index ref
-
--- a reference that is no change is read as it is
-pub plain_change : (t : Snapshot) (ref : Option Ref) → ((base : ℕ) → ref ≢ Some (ChangeAt base)) → past_change t.pieces ref ≡ ref
-plain_change t (Some (ChangeAt base)) h = absurd (h base refl)
-plain_change t _ h = refl
 
 -- a list as long has an element there too
 pub get_too : (xs ys : List ℕ) (i word : ℕ) → length ys ≡ length xs → slice_get xs i ≡ Some word
@@ -70,7 +69,7 @@ module _ (pairs : List Pair) (words : ℕ) (opens : CanOpen pairs words) (needs 
       → logical (state_of pairs words now).pieces word ≡ ref → Saw pairs words key loaded now node ref
   unfolding AllNeeds
   saw_turned key loaded now g h node i word ref led index it reads =
-      let turn = turning pairs words opens loaded now g h it.base it.old it.new it.published it.not_yet it.later it.yes in
+      let turn = turning pairs words loaded now g h it.base it.old it.new it.published it.not_yet it.later it.yes in
       let mid = turn.at in
       let log = Decide turn.caller it.base true ∷ mid in
       let m = enabled_before (start pairs words) log now turn.until h in
@@ -108,9 +107,9 @@ module _ (pairs : List Pair) (words : ℕ) (opens : CanOpen pairs words) (needs 
         read =
             record {
               word = word_of (ChangeAt it.base);
-              holds = slot_stays (start pairs words) mid (Decide turn.caller it.base true) can (sound_at pairs words opens mid m.0) tt node i (word_of (ChangeAt it.base)) slot;
+              holds = slot_stays (start pairs words) mid (Decide turn.caller it.base true) can (sound_behind pairs words mid m.0) tt node i (word_of (ChangeAt it.base)) slot;
               reads =
-                  change_logical u.pieces (word_of (ChangeAt it.base)) it.base turned (change_word pairs words opens log m it.base turned there) there
+                  change_logical u.pieces (word_of (ChangeAt it.base)) it.base turned (change_read pairs words opens log m it.base turned there) there
                   ∙ ap (λ w. past_rebuild u.pieces (ref_of w)) (side_yes turned refl)
                   ∙ sym (side_reads u.pieces last.pieces on turned.node turned.index (ref_of turned.to) row.1)
                   ∙ ap (λ w. past_rebuild last.pieces (ref_of w)) (sym (side_yes it.new it.yes ∙ to))
@@ -148,7 +147,7 @@ module _ (pairs : List Pair) (words : ℕ) (opens : CanOpen pairs words) where
           plain_side t.pieces node i (ref_of v) (slot_names t node i v (names pairs words opens log h) k) plain.set plain.no_change
       at (holds_change x) =
           let o = names pairs words opens log h in
-          let here : IsChangeFor t.pieces node i x.base = subst (λ ref. SlotNames t.pieces node i ref) (change_word pairs words opens log h x.base x.change x.published) (slot_names t node i (word_of (ChangeAt x.base)) o x.in_slot) in
+          let here : IsChangeFor t.pieces node i x.base = subst (λ ref. SlotNames t.pieces node i ref) (change_read pairs words opens log h x.base x.change x.published) (slot_names t node i (word_of (ChangeAt x.base)) o x.in_slot) in
           let same = same_change (t.pieces x.base) here.row x.change here.published x.published in
           let row = o.rows x.base (Change x.change) x.published in
           subst (λ w. SideNames t.pieces node i (ref_of w)) x.from
@@ -174,10 +173,10 @@ module _ (pairs : List Pair) (words : ℕ) (opens : CanOpen pairs words) where
       at : KeepsWord t loaded node i v → logical u.pieces word ≡ past_rebuild u.pieces (ref_of v)
       at (holds_it k) =
           ap (logical u.pieces) (slot_once t node i word v (anchor_free pairs words loaded l) slot k)
-          ∙ ap (past_rebuild u.pieces) (plain_change u (ref_of v) (passed_plain (start pairs words) loaded node i v l p).no_change)
+          ∙ ap (past_rebuild u.pieces) (past_plain u.pieces (ref_of v) (passed_plain (start pairs words) loaded node i v l p).no_change)
       at (holds_change x) =
           let same = slot_once t node i word (word_of (ChangeAt x.base)) (anchor_free pairs words loaded l) slot x.in_slot in
-          let is = change_word pairs words opens loaded l x.base x.change x.published in
+          let is = change_read pairs words opens loaded l x.base x.change x.published in
           let here : IsChangeFor t.pieces node i x.base = subst (λ ref. SlotNames t.pieces node i ref) is (slot_names t node i (word_of (ChangeAt x.base)) (names pairs words opens loaded l) x.in_slot) in
           let one = same_change (t.pieces x.base) here.row x.change here.published x.published in
           let node_is : x.change.node ≡ node = sym (ap (λ c. c.node) one) ∙ here.node_is in
@@ -201,14 +200,14 @@ module _ (pairs : List Pair) (words : ℕ) (opens : CanOpen pairs words) (needs 
       let a = state_of pairs words at in
       let t = state_of pairs words loaded in
       let u = state_of pairs words now in
-      let row = was.finished.finished.row in
+      let row = was.finished.1.row in
       let grows = grow_between pairs words at loaded l was.until in
       let all = on_trans at loaded now was.until g in
-      let it = inner_there a.pieces t.pieces grows node row was.finished.finished.published in
+      let it = inner_there a.pieces t.pieces grows node row was.finished.1.published in
       let here = row_holds t node i word it.0 (anchor_free pairs words loaded l) it.1 slot in
       let old = get_too it.0.slots row.slots i word (sym it.2.slots) here in
-      let held : SlotHolds a node i old.0 = in_row row was.finished.finished.published old.1 in
-      let v = (needs at m).passed node was.finished.keys i old.0 was.finished.finished held in
+      let held : SlotHolds a node i old.0 = in_row row was.finished.1.published old.1 in
+      let v = (needs at m).passed node i old.0 was.finished held in
       let p = v.1 in
       record {
         at = at;
@@ -216,7 +215,7 @@ module _ (pairs : List Pair) (words : ℕ) (opens : CanOpen pairs words) (needs 
         until = all;
         led = was.led;
         index = i;
-        index_is = of_row row was.finished.finished.published (index_back it.0 it.1 it.2.keys (anchor_free pairs words loaded l) index);
+        index_is = of_row row was.finished.1.published (index_back it.0 it.1 it.2.keys (anchor_free pairs words loaded l) index);
         read =
             record {
               word = old.0;
@@ -230,8 +229,8 @@ module _ (pairs : List Pair) (words : ℕ) (opens : CanOpen pairs words) (needs 
       }
     where
       index_back : (x : InnerRow) → (state_of pairs words loaded).pieces node ≡ Some (Inner x)
-          → x.keys ≡ was.finished.finished.row.keys → (state_of pairs words loaded).pieces 2 ≡ None
-          → IsChildFor (state_of pairs words loaded) node key i → i ≡ child_count was.finished.finished.row.keys key
+          → x.keys ≡ was.finished.1.row.keys → (state_of pairs words loaded).pieces 2 ≡ None
+          → IsChildFor (state_of pairs words loaded) node key i → i ≡ child_count was.finished.1.row.keys key
       index_back x e same free (of_anchor a b) = absurd (no_row (state_of pairs words loaded).pieces node x free a e)
       index_back x e same free (of_row r k b) =
           b ∙ ap (λ y. child_count y.keys key) (same_inner ((state_of pairs words loaded).pieces node) r x k e) ∙ ap (λ ks. child_count ks key) same

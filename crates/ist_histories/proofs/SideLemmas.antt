@@ -12,7 +12,7 @@ use Rattle.ist_core.specs.declared.states.ChangeRow.{ChangeRow}
 use Rattle.ist_core.specs.Arithmetic.{child_count}
 use Rattle.ist_core.specs.Map.{Map, map_after, key_of}
 use Rattle.ist_core.specs.References.{Ref, Empty, LeafAt, InnerAt, IsGoodBase, ref_of, word_of}
-use Rattle.ist_core.specs.Statuses.{put_kind, remove_kind}
+use Rattle.ist_core.specs.Statuses.{put_kind, remove_kind, start_kind, finish_kind}
 use Rattle.ist_core.specs.Pieces.{Pieces, Piece, Leaf, Inner}
 use Rattle.ist_core.specs.Snapshots.{Snapshot}
 use Rattle.ist_core.specs.Slots.{past_rebuild, logical}
@@ -33,9 +33,11 @@ says r key = value_in (Some (Leaf r)) key
 abbrev pub put_row : ChangeRow → LeafRow
 put_row change = record { key = change.key; value = change.value }
 
+-- a row says its value for its key
 says_self : (r : LeafRow) (key : ℕ) → r.key ≡ key → says r key ≡ Some r.value
 says_self r key e = let same : (r.key == key) ≡ true = grind (arith, nat_tests) in rw same refl
 
+-- and none for another
 says_other : (r : LeafRow) (key : ℕ) → r.key ≢ key → says r key ≡ None
 says_other r key ne = let differs : (r.key == key) ≡ false = grind (arith, nat_tests) in rw differs refl
 
@@ -43,17 +45,21 @@ says_other r key ne = let differs : (r.key == key) ≡ false = grind (arith, nat
 pub pair_says : LeafRow → ℕ → LeafRow → ℕ → Option ℕ
 pair_says left right_key right key = if nat_lt key right_key then says left key else says right key
 
+-- a pair says for a low key what its left row says
 left_says : (left : LeafRow) (right_key : ℕ) (right : LeafRow) (key : ℕ) → key < right_key → pair_says left right_key right key ≡ says left key
 unfolding pair_says
 left_says left right_key right key h = let test : nat_lt key right_key ≡ true = grind (arith, nat_tests) in rw test refl
 
+-- and for a high one what its right row says
 right_says : (left : LeafRow) (right_key : ℕ) (right : LeafRow) (key : ℕ) → right_key ≤ key → pair_says left right_key right key ≡ says right key
 unfolding pair_says
 right_says left right_key right key h = let test : nat_lt key right_key ≡ false = grind (arith, nat_tests) in rw test refl
 
+-- the left slot is that of a low key
 left_slot : (left right : ℕ) (right_key key : ℕ) → key < right_key → slice_get (left ∷ right ∷ []) (child_count (right_key ∷ []) key) ≡ Some left
 left_slot left right right_key key h = let test : nat_le right_key key ≡ false = grind (arith, nat_tests) in rw test refl
 
+-- the right slot is that of a high one
 right_slot : (left right : ℕ) (right_key key : ℕ) → right_key ≤ key → slice_get (left ∷ right ∷ []) (child_count (right_key ∷ []) key) ≡ Some right
 right_slot left right right_key key h = let test : nat_le right_key key ≡ true = grind (arith, nat_tests) in rw test refl
 
@@ -90,6 +96,15 @@ pub record Makes (change : ChangeRow) (new : Option ℕ) : Type 0 where
   pub made : (m : Map) → fin.get (map_after m command) change.key ≡ new
   pub others : (m : Map) (key : ℕ) → key ≢ change.key → fin.get (map_after m command) key ≡ fin.get m key
 
+-- a start has no command
+pub start_commands : (change : ChangeRow) → change.kind ≡ start_kind → command_of change ≡ None
+start_commands change kind = rw kind refl
+
+-- nor has a finish
+pub finish_commands : (change : ChangeRow) → change.kind ≡ finish_kind → command_of change ≡ None
+finish_commands change kind = rw kind refl
+
+-- what a put makes of a map
 put_makes : (change : ChangeRow) (new : Option ℕ) → change.kind ≡ put_kind → new ≡ Some change.value → Makes change new
 put_makes change new kind is =
     record {
@@ -100,6 +115,7 @@ put_makes change new kind is =
       others = λ m key ne. grind (arith, nat_tests, gets);
     }
 
+-- what a remove makes of one
 remove_makes : (change : ChangeRow) (new : Option ℕ) → change.kind ≡ remove_kind → new ≡ None → Makes change new
 remove_makes change new kind is =
     record {
@@ -127,6 +143,7 @@ pub record RowsStay (ps qs : Pieces) : Type 0 where
   pub leaves : (base : ℕ) (r : LeafRow) → ps base ≡ Some (Leaf r) → qs base ≡ Some (Leaf r)
   pub inners : (base : ℕ) (r : InnerRow) → ps base ≡ Some (Inner r) → qs base ≡ Some (Inner r)
 
+-- a pair row stays where rows stay
 pair_stays : (ps qs : Pieces) (pair key left right : ℕ) → RowsStay ps qs → IsPair ps pair key left right → IsPair qs pair key left right
 pair_stays ps qs pair key left right s h = record { row = h.row; published = s.inners pair h.row h.published; keys = h.keys; slots = h.slots }
 
@@ -135,6 +152,7 @@ at_ref : (ps qs : Pieces) (key word : ℕ) (ref : Option Ref) (value : Option �
     → Finds qs key (past_rebuild ps (ref_of word)) value
 at_ref ps qs key word ref value e f = subst (λ x. Finds qs key (past_rebuild ps x) value) (sym e) f
 
+-- the reply of a change over a leaf is what the leaf says
 leaf_reply : (ps : Pieces) (change : ChangeRow) (base : ℕ) (r : LeafRow) → ref_of change.from ≡ Some (LeafAt base) → ps base ≡ Some (Leaf r)
     → says r change.key ≡ reply_of ps change
 leaf_reply ps change base r from e = sym (ap (λ x. value_at ps x change.key) from ∙ ap (λ o. value_in o change.key) e)
@@ -145,10 +163,12 @@ module _ (t u : Snapshot) (change : ChangeRow) (stay : RowsStay t.pieces u.piece
       → Finds t.pieces key (past_rebuild t.pieces (ref_of change.from)) (says r key)
   leaf_from base r from e key = at_ref t.pieces t.pieces key change.from (Some (LeafAt base)) (says r key) from (in_leaf r e)
 
+  -- what a put of one leaf leaves is its row
   put_to : (leaf : ℕ) → ref_of change.to ≡ Some (LeafAt leaf) → t.pieces leaf ≡ Some (new_leaf change) → (key : ℕ)
       → Finds u.pieces key (past_rebuild t.pieces (ref_of change.to)) (says (put_row change) key)
   put_to leaf to new key = at_ref t.pieces u.pieces key change.to (Some (LeafAt leaf)) (says (put_row change) key) to (in_leaf (put_row change) (stay.leaves leaf (put_row change) new))
 
+  -- what a put beside a leaf leaves is a pair of rows
   pair_to : (pair right_key left right : ℕ) (l r : LeafRow) → ref_of change.to ≡ Some (InnerAt pair) → IsPair t.pieces pair right_key left right
       → t.pieces left ≡ Some (Leaf l) → t.pieces right ≡ Some (Leaf r) → (key : ℕ)
       → Finds u.pieces key (past_rebuild t.pieces (ref_of change.to)) (pair_says l right_key r key)
@@ -156,6 +176,7 @@ module _ (t u : Snapshot) (change : ChangeRow) (stay : RowsStay t.pieces u.piece
       at_ref t.pieces u.pieces key change.to (Some (InnerAt pair)) (pair_says l right_key r key) to
       (pair_finds u.pieces key pair right_key left right l r (good left (Leaf l) el) (good right (Leaf r) er) (pair_stays t.pieces u.pieces pair right_key left right stay h) (stay.leaves left l el) (stay.leaves right r er))
 
+  -- the two sides of an update in its form
   pub sides : HasForm t change → IsUpdate change.kind → Sides t u change
   sides (into_nothing leaf kind from to new) update =
       record {

@@ -10,7 +10,7 @@ use Rattle.ist_core.specs.declared.events.Event.{Event}
 use Rattle.ist_core.specs.declared.events.Event.TheVariants.{Decide}
 use Rattle.ist_core.specs.Map.{Map, map_of, map_after, replay}
 use Rattle.ist_core.specs.References.{Ref, InnerAt, ChangeAt, ref_of, word_of}
-use Rattle.ist_core.specs.Statuses.{decided_yes, start_kind, finish_kind}
+use Rattle.ist_core.specs.Statuses.{decided_yes}
 use Rattle.ist_core.specs.Pieces.{Leaf, Inner, Change, with_decision}
 use Rattle.ist_core.specs.Snapshots.{Snapshot}
 use Rattle.ist_core.specs.StartLayout.{start}
@@ -28,17 +28,21 @@ use Rattle.ist_core.proofs.RoomLemmas.{published_good}
 use Rattle.ist_core.proofs.NamingStepLemmas.{changed_at-fixed}
 use Rattle.ist_core.proofs.OrderLemmas.{names, past_rebuild_above}
 use Rattle.ist_core.proofs.SlotStepLemmas.{slot_stays}
-use Rattle.ist_core.proofs.FreezingLemmas.{side_not_yes, same_change}
+use Rattle.ist_core.proofs.FreezingLemmas.{change_read, side_not_yes, same_change}
+use Rattle.ist_links.specs.Linking.{IsFinished}
+use Rattle.ist_links.proofs.FormLemmas.{finished_grows}
+use Rattle.ist_links.proofs.InductionLemmas.{sound_behind, grow_behind}
+use Rattle.ist_links.proofs.ReadLemmas.{side_yes}
 use Rattle.ist_histories.specs.Finding.{Finds, Gives}
 use Rattle.ist_histories.specs.Telling.{AreLegal}
 use Rattle.ist_histories.proofs.MapLemmas.{replay-append, map_told, legal_append}
-use Rattle.ist_histories.proofs.NeedLemmas.{IsFinished, HasForm, into_nothing, over_leaf, beside_low, beside_high, takes_out, begins, ends, Needs, AllNeeds}
-use Rattle.ist_histories.proofs.ReadLemmas.{side_reads, change_logical, side_yes, Turns, sound_at, grows_at, change_word}
-use Rattle.ist_histories.proofs.LedLemmas.{finished_grows, child_stays, led_step, led_on}
+use Rattle.ist_histories.proofs.NeedLemmas.{HasForm, into_nothing, over_leaf, beside_low, beside_high, takes_out, begins, ends, Needs, AllNeeds}
+use Rattle.ist_histories.proofs.ReadLemmas.{side_reads, change_logical, Turns}
+use Rattle.ist_histories.proofs.LedLemmas.{child_stays, led_step, led_on}
 use Rattle.ist_histories.proofs.DecisionLemmas.{unfinished}
 use Rattle.ist_histories.proofs.FindLemmas.{finds_once, finds_above, gives_step, IsHigh, finds_high}
 use Rattle.ist_histories.proofs.CameLemmas.{came}
-use Rattle.ist_histories.proofs.SideLemmas.{Sides, sides}
+use Rattle.ist_histories.proofs.SideLemmas.{start_commands, finish_commands, Sides, sides}
 use Rattle.ist_histories.proofs.RootLemmas.{root_finds}
 
 -- ---- entries
@@ -64,15 +68,9 @@ abbrev pub IsNoYes : Event → Type 0
 IsNoYes (Decide caller base true) = ⊥
 IsNoYes _ = Unit {0}
 
+-- one event decides one change
 pub same_base : (a b c d : ℕ) → Decide a b true ≡ Decide c d true → b ≡ d
 same_base a b c d e = cc
-
--- a start and a finish have no command
-start_commands : (change : ChangeRow) → change.kind ≡ start_kind → command_of change ≡ None
-start_commands change kind = rw kind refl
-
-finish_commands : (change : ChangeRow) → change.kind ≡ finish_kind → command_of change ≡ None
-finish_commands change kind = rw kind refl
 
 -- what the tree tells of the changes of a log
 pub record Told (pairs : List Pair) (words : ℕ) (log : Log) : Type 0 where
@@ -99,10 +97,12 @@ module _ (pairs : List Pair) (words : ℕ) (opens : CanOpen pairs words) (needs 
   abbrev To : Option Ref
   To = past_rebuild Before.pieces (ref_of h.1.change.to)
 
+  -- what is needed of the log
   needed : Needs pairs words log
   unfolding AllNeeds
   needed = needs log h.0
 
+  -- the change has its form
   form : HasForm Before change
   form = needed.form base change h.1.pending
 
@@ -133,6 +133,7 @@ module _ (pairs : List Pair) (words : ℕ) (opens : CanOpen pairs words) (needs 
     slot_behind : SlotHolds Behind change.node change.index (word_of (ChangeAt base))
     reads_behind : logical Behind.pieces (word_of (ChangeAt base)) ≡ To
 
+  -- the key of the update leads to its slot
   led_here : IsUpdate change.kind → IsLedHere
   led_here update =
       let pending = h.1.pending in
@@ -145,10 +146,10 @@ module _ (pairs : List Pair) (words : ℕ) (opens : CanOpen pairs words) (needs 
       let turned : ChangeRow = record change { decision = decided_yes } in
       let there : Behind.pieces base ≡ Some (Change turned) =
       changed_at-same Before.pieces base (with_decision decided_yes) ∙ ap (option_map (with_decision decided_yes)) pending.published in
-      let word = change_word pairs words opens log h.0 base change pending.published in
+      let word = change_read pairs words opens log h.0 base change pending.published in
       let none : change.decision ≢ decided_yes = λ e. (let zero = pending.unset in omega arith) in
       let row = (names pairs words opens log h.0).rows base (Change change) pending.published in
-      let grows = grows_at pairs words opens log (Decide caller base true) h in
+      let grows = grow_behind pairs words log (Decide caller base true) h in
       record {
         led = led;
         index_is = by_key.index_is;
@@ -156,13 +157,14 @@ module _ (pairs : List Pair) (words : ℕ) (opens : CanOpen pairs words) (needs 
         reads = change_logical Before.pieces (word_of (ChangeAt base)) base change word pending.published ∙ ap (λ w. past_rebuild Before.pieces (ref_of w)) (side_not_yes change none);
         led_behind = ⊎_elim (λ x. x) (λ f. absurd (never f)) (led_step pairs words opens log (Decide caller base true) h needed change.key change.node led);
         index_behind = child_stays Before Behind grows change.node change.key change.index by_key.index_is;
-        slot_behind = slot_stays (start pairs words) log (Decide caller base true) h.1 (sound_at pairs words opens log h.0) tt change.node change.index (word_of (ChangeAt base)) slot;
+        slot_behind = slot_stays (start pairs words) log (Decide caller base true) h.1 (sound_behind pairs words log h.0) tt change.node change.index (word_of (ChangeAt base)) slot;
         reads_behind =
             change_logical Behind.pieces (word_of (ChangeAt base)) base turned word there
             ∙ ap (λ w. past_rebuild Behind.pieces (ref_of w)) (side_yes turned refl)
             ∙ side_reads Before.pieces Behind.pieces grows change.node change.index (ref_of change.to) row.1;
       }
 
+  -- the two sides of the update
   its_sides : IsUpdate change.kind → Sides Before Behind change
   its_sides update =
       sides Before Behind change
@@ -235,6 +237,7 @@ module _ (pairs : List Pair) (words : ℕ) (opens : CanOpen pairs words) (needs 
         legal = subst (λ es. AreLegal m es) (sym are) (entries_append m old new told.legal legal);
       }
 
+  -- an update is told by its entry
   told_update : IsUpdate change.kind → Told pairs words log → Told pairs words (Decide caller base true ∷ log)
   told_update update told =
       let m = map_behind (map_of pairs) (changes_of pairs words log) in
@@ -245,6 +248,7 @@ module _ (pairs : List Pair) (words : ℕ) (opens : CanOpen pairs words) (needs 
       told_more (entry ∷ []) (ap (λ es. changes_of pairs words log ++ es) made) told (update_gives update m told.gives)
       (ap (λ r. r ∷ []) (ap (fin.get m) makes.key_is ∙ update_reply update m told.gives))
 
+  -- a start and a finish are told by none
   told_rebuild : ((key : ℕ) (value : Option ℕ) → Finds Before.pieces key From value → Finds Before.pieces key To value)
       → command_of change ≡ None → Told pairs words log → Told pairs words (Decide caller base true ∷ log)
   told_rebuild same none told =
@@ -253,6 +257,7 @@ module _ (pairs : List Pair) (words : ℕ) (opens : CanOpen pairs words) (needs 
       let m = map_behind (map_of pairs) (changes_of pairs words log) in
       told_more [] (ap (λ es. changes_of pairs words log ++ es) made) told (λ key. rebuild_gives same key (fin.get m key) (told.gives key)) refl
 
+  -- so each change that is decided yes is told
   pub told_yes : Told pairs words log → Told pairs words (Decide caller base true ∷ log)
   told_yes told = at form
     where

@@ -1,9 +1,8 @@
 -- Which words a table has at its places, as far as its state fixes them. Serves `laws.words_are_told`.
-use Rattle.std.proofs.Common.{◌≡◌, ◌≢◌, ℕ, ◌+◌, ◌<◌, ◌≤◌, ◌⊎◌, List, length, slice_get, Option, Some, None, refl, sym, ap, ◌∙◌, subst, inl, inr, ⊎_elim, arith}
-use Rattle.std.proofs.lemmas.Bool.Decides.{eqb_tells}
+use Rattle.std.proofs.Common.{◌≡◌, ℕ, ◌+◌, ◌<◌, ◌≤◌, ◌⊎◌, List, slice_get, Option, Some, None, sym, ap, ◌∙◌, subst, inl, inr, ⊎_elim, arith}
 use Rattle.std.proofs.lemmas.Option.{slice_get_within}
 use Rattle.ist_core.specs.declared.pairs.Pair.{Pair}
-use Rattle.ist_core.specs.RowLayout.{anchor_slot_place, first_row}
+use Rattle.ist_core.specs.RowLayout.{first_row}
 use Rattle.ist_core.specs.Pieces.{Piece, words_of, size_of}
 use Rattle.ist_core.specs.Snapshots.{Snapshot}
 use Rattle.ist_core.specs.StartLayout.{start}
@@ -20,6 +19,7 @@ word_stands t image is place word (in_anchor_slot a e) = ap (slice_get image) a 
 word_stands t image is place word (in_published base k p e at read) =
     ap (slice_get image) at ∙ is.rows base p e k (slice_get_within (words_of p) k word read) ∙ read
 
+-- a place has one word
 same_word : (o : Option ℕ) (a b : ℕ) → o ≡ Some a → o ≡ Some b → a ≡ b
 same_word o a b e f = cc
 

@@ -1,5 +1,5 @@
 -- The woven history is legal: a reading leaves the map, and has the reply of the map at its position. Serves
--- `laws.histories_are_legal`.
+-- `laws.calls_are_woven`.
 use Rattle.std.proofs.Common.{◌≡◌, ℕ, suc, ◌+◌, ◌≤◌, ◌⊎◌, ◌≢◌, ◌==◌, not, if◌then◌else◌, Bool, true, false, List, [], ◌∷◌, map, filter, refl, sym, ap, ◌∙◌, subst, inl, inr, ⊎_elim, arith}
 use Rattle.std.proofs.lemmas.Bool.Decides.{eqb_tells}
 use Rattle.ist_core.specs.declared.calls.Call.{Call}
@@ -38,6 +38,7 @@ readings_legal m (x ∷ xs) h =
       ap (λ n. map_told n (map told_by_reading xs)) read.leaves ∙ rest.1,
     )
 
+-- what the readings at a position have
 each_at : (P : Reading → Type 0) (position : ℕ) (xs : List Reading)
     → ((x : Reading) → Among x xs → x.call.position ≡ position → P x) → Each P (at_position position xs)
 each_at P position [] h = tt
@@ -76,6 +77,7 @@ among-put_in x y (z ∷ ys) h = at (among-put_in x y ys) (comes_first y z) h
     at again false (inl e) = inr (inl e)
     at again false (inr h) = ⊎_elim (λ e. inl e) (λ i. inr (inr i)) (again h)
 
+-- readings in order are the same readings
 pub among-in_order : (x : Reading) (xs : List Reading) → Among x (in_order xs) → Among x xs
 among-in_order x [] h = h
 among-in_order x (y ∷ xs) h = ⊎_elim (λ e. inl e) (λ i. inr (among-in_order x xs i)) (among-put_in x y (in_order xs) h)
@@ -85,12 +87,14 @@ pub record IsOf (pass : PassCalls) (x : Reading) : Type 0 where
   pub call : Among x.call pass.calls
   pub plain : is_change x.call ≡ false
 
+-- a numbered call is one of the calls
 among_numbered : (number : ℕ) (calls : List Call) (x : Reading)
     → Among x (map (λ call. record { number = number; call = call }) calls) → Among x.call calls
 among_numbered number [] x h = h
 among_numbered number (call ∷ calls) x (inl e) = inl (ap (λ y. y.call) e)
 among_numbered number (call ∷ calls) x (inr h) = inr (among_numbered number calls x h)
 
+-- a reading of a pass is one of its calls
 of_pass : (pass : PassCalls) (x : Reading) → Among x (readings_of pass) → IsOf pass x
 of_pass pass x h =
     let kept = among-filter (λ call. not (is_change call)) x.call pass.calls (among_numbered pass.number (filter (λ call. not (is_change call)) pass.calls) x h) in
@@ -100,6 +104,7 @@ of_pass pass x h =
     untold false e = refl
     untold true e = absurd (cc)
 
+-- a reading of some passes is a call of one
 pub of_passes : (passes : List PassCalls) (x : Reading) → Among x (readings passes)
     → (pass : PassCalls) × Among pass passes × IsOf pass x
 of_passes [] x h = absurd h
@@ -111,6 +116,7 @@ of_passes (pass ∷ passes) x h =
 
 -- ---- the woven history
 
+-- passes that stand in prefixes of one log are woven into a legal history
 pub woven_legal : (pairs : List Pair) (words : ℕ) (log : Log) (passes : List PassCalls)
     → AreLegal (map_of pairs) (changes_of pairs words log) → StandInPrefixes pairs words log passes
     → IsLegal (map_of pairs) (woven (changes_of pairs words log) passes)
@@ -138,6 +144,7 @@ taken_stand : (pairs : List Pair) (words : ℕ) (log : Log) (number : ℕ) (take
 taken_stand pairs words log number [] h = tt
 taken_stand pairs words log number (calls ∷ more) h = ((log, same_log, h.0), taken_stand pairs words log (number + 1) more h.1)
 
+-- so are passes that were taken back
 pub taken_legal : (pairs : List Pair) (words : ℕ) (log : Log) (taken : List (List Call))
     → AreLegal (map_of pairs) (changes_of pairs words log) → AllStandIn pairs words log 0 taken
     → IsLegal (map_of pairs) (woven (changes_of pairs words log) (numbered 0 taken))
@@ -145,10 +152,12 @@ taken_legal pairs words log taken legal h = woven_legal pairs words log (numbere
 
 -- ---- calls that were learnt of
 
+-- what is so of all that is among a list is so of each element
 each_of : (P : Call → Type 0) (calls : List Call) → ((call : Call) → Among call calls → P call) → Each P calls
 each_of P [] h = tt
 each_of P (call ∷ calls) h = (h call (inl refl), each_of P calls (λ x i. h x (inr i)))
 
+-- calls that were learnt of come before a fresh call
 pub learnt_first : (pairs : List Pair) (words : ℕ) (earlier seen : Log) (number told stamp : ℕ) (calls : List Call) (call : Call)
     → HasCalls pairs words earlier number told calls
     → GoesOn earlier seen → told ≤ stamp → IsFresh pairs words seen stamp call

@@ -1,13 +1,17 @@
 -- How the calls of a pass grow while the log goes on.
-use Rattle.std.specs.Prelude.{◌≡◌, ℕ, ◌<◌, ◌≤◌, true, false, List, [], ◌∷◌, ◌++◌, length}
+use Rattle.std.specs.Prelude.{◌≡◌, ◌≢◌, ℕ, ◌+◌, ◌<◌, ◌≤◌, true, false, List, [], ◌∷◌, ◌++◌, length, Some}
 use Rattle.ist_core.specs.declared.calls.Call.{Call}
+use Rattle.ist_core.specs.declared.commands.Command.{Command}
 use Rattle.ist_core.specs.declared.pairs.Pair.{Pair}
+use Rattle.ist_core.specs.declared.states.ChangeRow.{ChangeRow}
 use Rattle.ist_core.specs.declared.events.Event.TheVariants.{Decide}
 use Rattle.ist_core.specs.Map.{map_of}
+use Rattle.ist_core.specs.Statuses.{decided_yes}
 use Rattle.ist_core.specs.Elements.{Each}
+use Rattle.ist_core.specs.Pieces.{Change}
 use Rattle.ist_core.specs.Logs.{Log, GoesOn}
-use Rattle.ist_core.specs.Changes.{Entry, entry_of, changes_of}
-use Rattle.ist_core.specs.Lawful.{state_of}
+use Rattle.ist_core.specs.Changes.{Entry, command_of, reply_of, entry_of, changes_of}
+use Rattle.ist_core.specs.Lawful.{Lawful, state_of}
 use Rattle.ist_core.specs.Standing.{is_change, entry_by, entries_by, IsRead, StandsIn, IsFresh}
 
 -- ---- logs that go on
@@ -69,6 +73,34 @@ pub record TookEffect (pairs : List Pair) (words : ℕ) (seen log : Log) (number
   pub position : call.position ≡ length (changes_of pairs words earlier)
   pub alone : entries_by number (changes_of pairs words log)
       ≡ entries_by number (changes_of pairs words seen) ++ entry_by number call ∷ []
+
+-- the call to which an update came, with some stamp: it has the command, and the reply that is read from the row of its change
+pub record CameToCall (pairs : List Pair) (words : ℕ) (seen log : Log) (number stamp : ℕ)
+    (command : Command) (change : ChangeRow) : Type 0 where
+  pub position : ℕ
+  pub call : Call
+  pub call_is : call ≡ record {
+    command = command;
+    reply = reply_of (state_of pairs words log).pieces change;
+    position = position;
+    stamp = stamp;
+  }
+  pub changes : is_change call ≡ true
+  pub effect : TookEffect pairs words seen log number call
+
+-- a put or remove of the owner that is decided yes, and wasn't in the earlier log, took effect, where its owner has no more
+-- than one entry since
+abbrev pub UpdatesTakeEffect : Type 0
+UpdatesTakeEffect =
+    (pairs : List Pair) (words : ℕ) (seen log : Log) → Lawful pairs words log → GoesOn seen log
+    → (number stamp base : ℕ) (change : ChangeRow) (command : Command)
+    → (state_of pairs words log).pieces base ≡ Some (Change change)
+    → change.decision ≡ decided_yes → change.owner ≡ number → command_of change ≡ Some command
+    → ((old : ChangeRow) → (state_of pairs words seen).pieces base ≡ Some (Change old)
+    → old.decision ≢ decided_yes)
+    → length (entries_by number (changes_of pairs words log))
+    ≤ length (entries_by number (changes_of pairs words seen)) + 1
+    → CameToCall pairs words seen log number stamp command change
 
 -- the call is added to those of its pass, and is fresh
 pub record IsAdded (pairs : List Pair) (words : ℕ) (seen log : Log) (number stamp : ℕ)

@@ -1,5 +1,5 @@
 -- A small log, and calls of two passes, that show what the laws mean.
-use Rattle.std.specs.Prelude.{true, false, List, [], ◌∷◌, Some}
+use Rattle.std.specs.Prelude.{false, List, [], ◌∷◌, Some}
 use Rattle.ist_core.specs.declared.commands.Command.TheVariants.{Put, Get}
 use Rattle.ist_core.specs.declared.calls.Call.{Call}
 use Rattle.ist_core.specs.declared.events.Event.TheVariants.{Install, Decide, Resolve, Mark}

@@ -3,6 +3,7 @@ pub mod Finding
 pub mod Telling
 pub mod Calls
 pub mod Weaving
+pub mod Placing
 pub mod Loads
 pub mod Searching
 pub mod ExampleCalls

@@ -5,7 +5,7 @@ use Rattle.ist_core.specs.RowLayout.{anchor_slot_place}
 use Rattle.ist_core.specs.Pieces.{Piece, words_of}
 use Rattle.ist_core.specs.Snapshots.{Snapshot}
 use Rattle.ist_core.specs.Images.{IsImage}
-use Rattle.ist_core.specs.Logs.{Log}
+use Rattle.ist_core.specs.Logs.{Log, GoesOn}
 use Rattle.ist_core.specs.Lawful.{Lawful, state_of}
 use Rattle.ist_core.specs.Rows.{IsSetAside}
 
@@ -57,7 +57,20 @@ WordsAreOne =
 -- such a place lies in no row that is held or was lost: in none that was set aside and isn't published
 abbrev pub WordsLieInNoOtherRow : Type 0
 WordsLieInNoOtherRow =
-    (pairs : List Pair) (words : ℕ) (log : Log) → Lawful pairs words log → (place word base size : ℕ)
-    → HasWord (state_of pairs words log) place word
+    (pairs : List Pair) (words : ℕ) (log : Log) → Lawful pairs words log
+    → (place word base size : ℕ) → HasWord (state_of pairs words log) place word
     → IsSetAside pairs words log base size → (state_of pairs words log).pieces base ≡ None
     → (place < base) ⊎ (base + size ≤ place)
+
+-- ---- in a longer log
+
+-- a prefix is what the log was when it had as many events
+abbrev pub PrefixesAreAt : Type 0
+PrefixesAreAt = (prefix log : Log) → GoesOn prefix log → log_at log (length prefix) ≡ prefix
+
+-- a load tells the same where the log goes on
+abbrev pub LoadsTellOn : Type 0
+LoadsTellOn =
+    (pairs : List Pair) (words : ℕ) (log longer : Log) → GoesOn log longer
+    → (place least : ℕ) (load : Load) → IsLoad pairs words log place least load
+    → IsLoad pairs words longer place least load

@@ -40,7 +40,8 @@ pub data ReadsSide (pairs : List Pair) (words : ℕ) (log : Log) (slot : Load) :
       → ReadsSide pairs words log slot side.word decision.length
 
 -- what that word reads as, rebuilds read away: itself, or the target of its rebuild
-pub data ReadsTarget (pairs : List Pair) (words : ℕ) (log : Log) (least word : ℕ) : Ref → Type 0 where
+pub data ReadsTarget (pairs : List Pair) (words : ℕ) (log : Log) (least word : ℕ)
+    : Ref → Type 0 where
   no_rebuild : (ref : Ref) → ref_of word ≡ Some ref → ((base : ℕ) → ref ≢ RebuildAt base)
       → ReadsTarget pairs words log least word ref
   by_target : (base : ℕ) (target : Load) → ref_of word ≡ Some (RebuildAt base)
@@ -70,12 +71,14 @@ pub data ComesTo (pairs : List Pair) (words : ℕ) (log : Log) (key began : ℕ)
       → ComesTo pairs words log key began last child
 
 -- nothing gives the key no value, and so does a leaf of another key; a leaf of the key gives its own
-pub data ReadsValue (pairs : List Pair) (words : ℕ) (log : Log) (key least : ℕ) : Ref → Option ℕ → Type 0 where
+pub data ReadsValue (pairs : List Pair) (words : ℕ) (log : Log) (key least : ℕ)
+    : Ref → Option ℕ → Type 0 where
   of_nothing : ReadsValue pairs words log key least Empty None
   of_other : {base : ℕ} (load : Load) → IsLoad pairs words log (base + leaf_key_offset) least load
       → load.word ≢ key → ReadsValue pairs words log key least (LeafAt base) None
-  of_key : {base : ℕ} (load value : Load) → IsLoad pairs words log (base + leaf_key_offset) least load
-      → load.word ≡ key → IsLoad pairs words log (base + leaf_value_offset) least value
+  of_key : {base : ℕ} (load value : Load)
+      → IsLoad pairs words log (base + leaf_key_offset) least load → load.word ≡ key
+      → IsLoad pairs words log (base + leaf_value_offset) least value
       → ReadsValue pairs words log key least (LeafAt base) (Some value.word)
 
 -- the search that began when the log had `began` events ended at a slot of the node with the value, or with none
@@ -88,6 +91,29 @@ pub record Searched (pairs : List Pair) (words : ℕ) (log : Log) (key began nod
   pub ref : Ref
   pub look : LooksAt pairs words log key least last node ref
   pub value_is : ReadsValue pairs words log key last ref value
+
+-- ---- in a longer log
+
+-- a look at a slot is one too where the log goes on
+abbrev pub LooksGoOn : Type 0
+LooksGoOn =
+    (pairs : List Pair) (words : ℕ) (log longer : Log) → GoesOn log longer
+    → (key least last node : ℕ) (ref : Ref) → LooksAt pairs words log key least last node ref
+    → LooksAt pairs words longer key least last node ref
+
+-- a search that came to a node came to it there too
+abbrev pub SearchesComeOn : Type 0
+SearchesComeOn =
+    (pairs : List Pair) (words : ℕ) (log longer : Log) → GoesOn log longer
+    → (key began last node : ℕ) → ComesTo pairs words log key began last node
+    → ComesTo pairs words longer key began last node
+
+-- and one that ended, ended so
+abbrev pub SearchesEndOn : Type 0
+SearchesEndOn =
+    (pairs : List Pair) (words : ℕ) (log longer : Log) → GoesOn log longer
+    → (key began node : ℕ) (value : Option ℕ) → Searched pairs words log key began node value
+    → Searched pairs words longer key began node value
 
 -- ---- what a search tells
 
@@ -135,7 +161,8 @@ SlotLoadsHold =
     (pairs : List Pair) (words : ℕ) (log : Log) → Lawful pairs words log
     → (key least node index : ℕ) (slot : Load)
     → IsChildFor (state_of pairs words (log_at log slot.length)) node key index
-    → IsLoad pairs words log (place_of_slot (state_of pairs words (log_at log slot.length)) node index) least slot
+    → IsLoad pairs words log
+    (place_of_slot (state_of pairs words (log_at log slot.length)) node index) least slot
     → SlotHolds (state_of pairs words (log_at log slot.length)) node index slot.word
 
 -- the node is one to which the search for the key was led at some moment, so that it was linked; and it is the anchor, or an

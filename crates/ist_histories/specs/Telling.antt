@@ -65,7 +65,11 @@ pub record IsEntryOf (pairs : List Pair) (words : ℕ) (log : Log) (position bas
   pub command : Command
   pub command_is : command_of change ≡ Some command
   pub entry : slice_get (changes_of pairs words log) position
-      ≡ Some record { owner = change.owner; command = command; reply = reply_of (state_of pairs words log).pieces change }
+      ≡ Some record {
+        owner = change.owner;
+        command = command;
+        reply = reply_of (state_of pairs words log).pieces change;
+      }
 
 -- each put or remove that was decided yes has an entry
 abbrev pub UpdatesHaveEntries : Type 0
@@ -93,10 +97,12 @@ EntriesAreOnce =
 abbrev pub EntriesAreOfOne : Type 0
 EntriesAreOfOne =
     (pairs : List Pair) (words : ℕ) (log : Log) → Lawful pairs words log → (position base other : ℕ)
-    → IsEntryOf pairs words log position base → IsEntryOf pairs words log position other → base ≡ other
+    → IsEntryOf pairs words log position base → IsEntryOf pairs words log position other
+    → base ≡ other
 
 -- each entry is one that changes the map: a put, or a remove that took a value away
 abbrev pub EntriesChangeTheMap : Type 0
 EntriesChangeTheMap =
     (pairs : List Pair) (words : ℕ) (log : Log) → Lawful pairs words log
-    → Each (λ entry. makes_entry entry.command entry.reply ≡ true) (changes_of pairs words log)
+    → Each (λ entry. makes_entry entry.command entry.reply ≡ true)
+    (changes_of pairs words log)

@@ -1,6 +1,5 @@
 -- That the calls of passes weave into one legal history, and that a call that was learnt of comes first.
-use Rattle.std.specs.Prelude.{ℕ, ◌+◌, ◌≤◌, List, [], ◌∷◌, ◌++◌, map}
-use Rattle.std.specs.List.Sorted.{IsPermutation}
+use Rattle.std.specs.Prelude.{ℕ, ◌+◌, ◌≤◌, List, [], ◌∷◌}
 use Rattle.ist_core.specs.declared.calls.Call.{Call}
 use Rattle.ist_core.specs.declared.pairs.Pair.{Pair}
 use Rattle.ist_core.specs.Map.{map_of}
@@ -9,7 +8,7 @@ use Rattle.ist_core.specs.Logs.{Log, GoesOn}
 use Rattle.ist_core.specs.Changes.{changes_of}
 use Rattle.ist_core.specs.Lawful.{Lawful}
 use Rattle.ist_core.specs.Standing.{Follows, IsFresh}
-use Rattle.ist_core.specs.Histories.{PassCalls, StandInPrefixes, readings, told_by_entry, told_by_reading, woven, IsLegal}
+use Rattle.ist_core.specs.Histories.{PassCalls, StandInPrefixes, woven, IsLegal}
 use Rattle.ist_core.specs.Resting.{AllStandIn}
 use Rattle.ist_histories.specs.Calls.{HasCalls}
 
@@ -21,18 +20,11 @@ WovenIsLegal =
     → (passes : List PassCalls) → StandInPrefixes pairs words log passes
     → IsLegal (map_of pairs) (woven (changes_of pairs words log) passes)
 
--- it has each change once, and each other call of the passes once, and nothing else
-abbrev pub WovenHasEachCall : Type 0
-WovenHasEachCall =
-    (pairs : List Pair) (words : ℕ) (log : Log) (passes : List PassCalls)
-    → StandInPrefixes pairs words log passes
-    → let entries = changes_of pairs words log in
-    IsPermutation (map told_by_entry entries ++ map told_by_reading (readings passes)) (woven entries passes)
-
 -- lists of calls as passes, numbered from this number on
 abbrev pub numbered : ℕ → List (List Call) → List PassCalls
 numbered number [] = []
-numbered number (calls ∷ more) = record { number = number; calls = calls } ∷ numbered (number + 1) more
+numbered number (calls ∷ more) =
+    record { number = number; calls = calls } ∷ numbered (number + 1) more
 
 -- so have the passes that were taken back, by their numbers
 abbrev pub TakenBackIsLegal : Type 0
