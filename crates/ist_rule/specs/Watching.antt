@@ -1,4 +1,5 @@
--- Loads that are events: of a status that shows a node open, of a slot of a marked node, and beside a pair row that is given up.
+-- Loads that are events: of a status that shows a node open, of a slot of a marked node, and beside
+-- a pair row that is given up.
 use Rattle.std.specs.Prelude.{◌≡◌, ℕ, ◌<◌, ◌==◌, ◌&&◌, not, Bool, true, false, if◌then◌else◌, [], ◌∷◌, Option, Some, None}
 use Rattle.ist_core.specs.declared.states.InnerRow.{InnerRow}
 use Rattle.ist_core.specs.declared.states.ChangeRow.{ChangeRow}
@@ -27,13 +28,15 @@ abbrev pub waits : Option ChangeRow → Bool
 waits (Some change) = change.decision == undecided
 waits None = false
 
--- the load of a status is an Okay of the change where it shows the node open and the change is undecided
+-- the load of a status is an Okay of the change where it shows the node open and the change is
+-- undecided
 abbrev pub okay_of : View → ℕ → Naming
 okay_of v change log word =
     if (word == open_word) && waits (as_change ((state_of v.start v.words log).pieces change))
     then Some (Okay (number_of v.who) change) else None
 
--- a caller may look whether the node of an installed change is open: at the place of the node's status
+-- a caller may look whether the node of an installed change is open: at the place of the node's
+-- status
 pub record CanLoadOkay (v : View) (change place : ℕ) : Type 0 where
   pub number : ℕ
   pub mine : v.who ≡ Caller number
@@ -56,7 +59,8 @@ is_change _ = false
 -- the load of a slot is a Pass where the node is marked and the word is neither a change nor Unset
 abbrev pub pass_of : View → ℕ → ℕ → Naming
 pass_of v node i log word =
-    if is_marked (as_inner ((state_of v.start v.words log).pieces node)) && (not (is_change (ref_of word)) && not (word == unset_word))
+    if is_marked (as_inner ((state_of v.start v.words log).pieces node))
+        && (not (is_change (ref_of word)) && not (word == unset_word))
     then Some (Pass (number_of v.who) node i word) else None
 
 -- a caller may pass a slot of a node that it has seen marked or finished: at the place of the slot
