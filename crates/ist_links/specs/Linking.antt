@@ -39,7 +39,8 @@ OpenRowsAreLinked =
 -- a row that isn't open was linked
 abbrev pub ClosedRowsWereLinked : Type 0
 ClosedRowsWereLinked =
-    (pairs : List Pair) (words : ℕ) (log : Log) → Lawful pairs words log → (node : ℕ) (row : InnerRow)
+    (pairs : List Pair) (words : ℕ) (log : Log) → Lawful pairs words log
+    → (node : ℕ) (row : InnerRow)
     → (state_of pairs words log).pieces node ≡ Some (Inner row) → row.status ≢ open_word
     → WasLinked (start pairs words) log node
 
@@ -55,21 +56,25 @@ ChildrenOfFinishedRows =
 -- the node of each change was linked
 abbrev pub NodesWereLinked : Type 0
 NodesWereLinked =
-    (pairs : List Pair) (words : ℕ) (log : Log) → Lawful pairs words log → (base : ℕ) (change : ChangeRow)
+    (pairs : List Pair) (words : ℕ) (log : Log) → Lawful pairs words log
+    → (base : ℕ) (change : ChangeRow)
     → (state_of pairs words log).pieces base ≡ Some (Change change)
     → WasLinked (start pairs words) log change.node
 
 -- a change that wasn't resolved stands in its slot
 abbrev pub UnresolvedChangesStand : Type 0
 UnresolvedChangesStand =
-    (pairs : List Pair) (words : ℕ) (log : Log) → Lawful pairs words log → (base : ℕ) (change : ChangeRow)
-    → (state_of pairs words log).pieces base ≡ Some (Change change) → ¬ (Happened (Resolves base) log)
+    (pairs : List Pair) (words : ℕ) (log : Log) → Lawful pairs words log
+    → (base : ℕ) (change : ChangeRow)
+    → (state_of pairs words log).pieces base ≡ Some (Change change)
+    → ¬ (Happened (Resolves base) log)
     → SlotHolds (state_of pairs words log) change.node change.index (word_of (ChangeAt base))
 
 -- an undecided change wasn't resolved
 abbrev pub UndecidedChangesAreUnresolved : Type 0
 UndecidedChangesAreUnresolved =
-    (pairs : List Pair) (words : ℕ) (log : Log) → Lawful pairs words log → (base : ℕ) (change : ChangeRow)
+    (pairs : List Pair) (words : ℕ) (log : Log) → Lawful pairs words log
+    → (base : ℕ) (change : ChangeRow)
     → (state_of pairs words log).pieces base ≡ Some (Change change) → change.decision ≡ undecided
     → ¬ (Happened (Resolves base) log)
 
@@ -83,8 +88,10 @@ ResolvedChangesAreGone =
 -- a change that has an Okay and wasn't resolved stands in a slot that wasn't passed
 abbrev pub OkayedSlotsAreUnpassed : Type 0
 OkayedSlotsAreUnpassed =
-    (pairs : List Pair) (words : ℕ) (log : Log) → Lawful pairs words log → (base : ℕ) (change : ChangeRow)
-    → (state_of pairs words log).pieces base ≡ Some (Change change) → ¬ (Happened (Resolves base) log)
+    (pairs : List Pair) (words : ℕ) (log : Log) → Lawful pairs words log
+    → (base : ℕ) (change : ChangeRow)
+    → (state_of pairs words log).pieces base ≡ Some (Change change)
+    → ¬ (Happened (Resolves base) log)
     → Happened (Okays base) log → (word : ℕ) → ¬ (IsFrozen log change.node change.index word)
 
 -- where a change is decided yes its node is linked, before and behind it
@@ -98,8 +105,10 @@ YesIsLinked =
 -- a change that is undecided while its node isn't linked is never decided yes
 abbrev pub UnlinkedChangesAreRefused : Type 0
 UnlinkedChangesAreRefused =
-    (pairs : List Pair) (words : ℕ) (earlier log : Log) → Lawful pairs words log → GoesOn earlier log
+    (pairs : List Pair) (words : ℕ) (earlier log : Log) → Lawful pairs words log
+    → GoesOn earlier log
     → (base : ℕ) (before change : ChangeRow)
-    → (state_of pairs words earlier).pieces base ≡ Some (Change before) → before.decision ≡ undecided
+    → (state_of pairs words earlier).pieces base ≡ Some (Change before)
+    → before.decision ≡ undecided
     → ¬ (Linked (state_of pairs words earlier) before.node)
     → (state_of pairs words log).pieces base ≡ Some (Change change) → change.decision ≢ decided_yes

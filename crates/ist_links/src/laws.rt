@@ -1,7 +1,9 @@
 //! Laws over lawful logs. The functions take no steps and answer nothing: contracts are laws.
-ghost use Rattle.ist_links.specs.Linking.{RowsStayLinked, OpenRowsAreLinked, ClosedRowsWereLinked, ChildrenOfFinishedRows};
-ghost use Rattle.ist_links.specs.Linking.{NodesWereLinked, UnresolvedChangesStand, ResolvedChangesAreGone, UndecidedChangesAreUnresolved};
-ghost use Rattle.ist_links.specs.Linking.{OkayedSlotsAreUnpassed, YesIsLinked, UnlinkedChangesAreRefused};
+ghost use Rattle.ist_links.specs.Linking.{RowsStayLinked, OpenRowsAreLinked};
+ghost use Rattle.ist_links.specs.Linking.{ClosedRowsWereLinked, ChildrenOfFinishedRows};
+ghost use Rattle.ist_links.specs.Linking.{UnresolvedChangesStand, ResolvedChangesAreGone};
+ghost use Rattle.ist_links.specs.Linking.{UndecidedChangesAreUnresolved, NodesWereLinked};
+ghost use Rattle.ist_links.specs.Linking.{YesIsLinked, OkayedSlotsAreUnpassed, UnlinkedChangesAreRefused};
 
 /// A row that was linked is linked or finished, so that one that is open still is linked. What hangs
 /// below a finished row is finished. Only a row that was linked is ever closed.
@@ -12,8 +14,8 @@ pub fn linked_rows_stay()
     ensures below { ChildrenOfFinishedRows }
 {}
 
-/// A change stands in its slot until it is resolved, which takes a decision, and in none from then on.
-/// Its node was linked when it was installed.
+/// A change stands in its slot until it is resolved, which takes a decision, and in none from then
+/// on. Its node was linked when it was installed.
 pub fn changes_stand()
     ensures stand { UnresolvedChangesStand }
     ensures gone { ResolvedChangesAreGone }
@@ -22,8 +24,8 @@ pub fn changes_stand()
 {}
 
 /// Where a change is decided yes its node is linked: an Okay and a Pass of one slot exclude each
-/// other, and a finished node has passed all its slots. Where the node isn't linked any more, all that
-/// can come is a no.
+/// other, and a finished node has passed all its slots. Where the node isn't linked any more, all
+/// that can come is a no.
 pub fn yes_is_linked()
     ensures linked { YesIsLinked }
     ensures unpassed { OkayedSlotsAreUnpassed }

@@ -33,10 +33,10 @@ use Rattle.ist_rebuilds.specs.Replacing.{LeavesContents}
 -- ---- leaves, from one table to another
 
 -- no leaves are reached from no reference, nor from a part that isn't built
-no_leaves : (ps : Pieces) (leaves : List PlacedLeaf) → HasLeaves ps None leaves → ⊥
+pub no_leaves : (ps : Pieces) (leaves : List PlacedLeaf) → HasLeaves ps None leaves → ⊥
 no_leaves ps leaves h = elim h [ ]
 
-unset_leaves : (ps : Pieces) (leaves : List PlacedLeaf) → HasLeaves ps (Some Unset) leaves → ⊥
+pub unset_leaves : (ps : Pieces) (leaves : List PlacedLeaf) → HasLeaves ps (Some Unset) leaves → ⊥
 unset_leaves ps leaves h = elim h [ ]
 
 -- two slots of a row, in the first table and in the second, have the same leaves: they read alike, or the second has them anyhow
@@ -77,7 +77,7 @@ module _ (ps qs : Pieces) (alike : Alike ps qs) where
 -- ---- one event
 
 -- what a reference reads as, if it leads anywhere, it reads as once rows grow
-past_rebuild_grows : (t u : Snapshot) → AllGrow t.pieces u.pieces
+pub past_rebuild_grows : (t u : Snapshot) → AllGrow t.pieces u.pieces
     → (ref : Ref) (leaves : List PlacedLeaf)
     → HasLeaves t.pieces (past_rebuild t.pieces (Some ref)) leaves
     → past_rebuild u.pieces (Some ref) ≡ past_rebuild t.pieces (Some ref)

@@ -7,6 +7,8 @@ pub mod WholeLemmas
 pub mod IdealLeafLemmas
 pub mod ReplacingLemmas
 pub mod KeepingContentLemmas
+pub mod ExistLemmas
+pub mod ContentLemmas
 pub mod NumberLemmas
 pub mod ReturnLemmas
 pub mod ReplacedLemmas

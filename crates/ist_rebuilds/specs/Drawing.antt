@@ -13,13 +13,16 @@ use Rattle.ist_core.specs.RowLayout.{place_limit}
 -- the target of a rebuild with a root is finished with no more keys than a table has places
 abbrev pub TargetsAreSmall : Type 0
 TargetsAreSmall =
-    (pairs : List Pair) (words : ℕ) (log : Log) → Lawful pairs words log → (rebuild : ℕ) (row : RebuildRow)
-    → (state_of pairs words log).pieces rebuild ≡ Some (Rebuild row) → row.root ≢ unset_word → (k : ℕ)
+    (pairs : List Pair) (words : ℕ) (log : Log) → Lawful pairs words log
+    → (rebuild : ℕ) (row : RebuildRow)
+    → (state_of pairs words log).pieces rebuild ≡ Some (Rebuild row) → row.root ≢ unset_word
+    → (k : ℕ)
     → IsFinishedWith (state_of pairs words log) row.target k → k ≤ place_limit
 
 -- a draw word is at most the number of places and that of callers, so that adding 1 to it never wraps
 abbrev pub DrawsStayLow : Type 0
 DrawsStayLow =
-    (pairs : List Pair) (words : ℕ) (log : Log) → Lawful pairs words log → (rebuild : ℕ) (row : RebuildRow)
+    (pairs : List Pair) (words : ℕ) (log : Log) → Lawful pairs words log
+    → (rebuild : ℕ) (row : RebuildRow)
     → (state_of pairs words log).pieces rebuild ≡ Some (Rebuild row)
     → row.draw ≤ place_limit + caller_limit

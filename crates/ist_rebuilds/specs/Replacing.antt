@@ -1,5 +1,5 @@
 -- The laws over lawful logs on rebuilds and on the contents. `src/laws.rt` lists them.
-use Rattle.std.specs.Prelude.{List, Some, length, true, ℕ, ◌∷◌, ◌≡◌, ◌≢◌}
+use Rattle.std.specs.Prelude.{List, Some, length, true, ℕ, ◌↔◌, ◌∷◌, ◌≡◌, ◌≢◌}
 use Rattle.ist_core.specs.declared.events.Event.{Event}
 use Rattle.ist_core.specs.declared.events.Event.TheVariants.{Decide}
 use Rattle.ist_core.specs.declared.pairs.Pair.{Pair}
@@ -12,8 +12,8 @@ use Rattle.ist_core.specs.Links.{Linked}
 use Rattle.ist_core.specs.Logs.{Log}
 use Rattle.ist_core.specs.Pieces.{Change, Rebuild}
 use Rattle.ist_core.specs.Rebuilding.{IsFinishedWith, IsReplaced, IsStarted, IsUpdate}
-use Rattle.ist_core.specs.References.{InnerAt, RebuildAt, Ref, ref_of, unset_word}
-use Rattle.ist_core.specs.Slots.{SlotHolds, past_change}
+use Rattle.ist_core.specs.References.{InnerAt, RebuildAt, Ref, Unset, ref_of, unset_word}
+use Rattle.ist_core.specs.Slots.{SlotHolds, logical, past_change}
 use Rattle.ist_core.specs.Snapshots.{Snapshot}
 use Rattle.ist_links.specs.Linking.{IsFinished}
 
@@ -28,29 +28,36 @@ pub record ReadsAsRebuild (t : Snapshot) (node i rebuild : ℕ) : Type 0 where
 -- a started rebuild stands in its slot until it is replaced
 abbrev pub StartedRebuildsStand : Type 0
 StartedRebuildsStand =
-    (pairs : List Pair) (words : ℕ) (log : Log) → Lawful pairs words log → (rebuild : ℕ) (row : RebuildRow)
-    → (state_of pairs words log).pieces rebuild ≡ Some (Rebuild row) → IsStarted (state_of pairs words log) rebuild
+    (pairs : List Pair) (words : ℕ) (log : Log) → Lawful pairs words log
+    → (rebuild : ℕ) (row : RebuildRow)
+    → (state_of pairs words log).pieces rebuild ≡ Some (Rebuild row)
+    → IsStarted (state_of pairs words log) rebuild
     → ¬ (IsReplaced (state_of pairs words log) rebuild)
     → ReadsAsRebuild (state_of pairs words log) row.parent row.index rebuild
 
 -- one that was replaced doesn't, ever again
 abbrev pub ReplacedRebuildsAreGone : Type 0
 ReplacedRebuildsAreGone =
-    (pairs : List Pair) (words : ℕ) (log : Log) → Lawful pairs words log → (rebuild : ℕ) (row : RebuildRow)
-    → (state_of pairs words log).pieces rebuild ≡ Some (Rebuild row) → IsReplaced (state_of pairs words log) rebuild
+    (pairs : List Pair) (words : ℕ) (log : Log) → Lawful pairs words log
+    → (rebuild : ℕ) (row : RebuildRow)
+    → (state_of pairs words log).pieces rebuild ≡ Some (Rebuild row)
+    → IsReplaced (state_of pairs words log) rebuild
     → ¬ (ReadsAsRebuild (state_of pairs words log) row.parent row.index rebuild)
 
 -- and its target isn't linked
 abbrev pub ReplacedTargetsAreOut : Type 0
 ReplacedTargetsAreOut =
-    (pairs : List Pair) (words : ℕ) (log : Log) → Lawful pairs words log → (rebuild : ℕ) (row : RebuildRow)
-    → (state_of pairs words log).pieces rebuild ≡ Some (Rebuild row) → IsReplaced (state_of pairs words log) rebuild
+    (pairs : List Pair) (words : ℕ) (log : Log) → Lawful pairs words log
+    → (rebuild : ℕ) (row : RebuildRow)
+    → (state_of pairs words log).pieces rebuild ≡ Some (Rebuild row)
+    → IsReplaced (state_of pairs words log) rebuild
     → ¬ (Linked (state_of pairs words log) row.target)
 
 -- the target of a rebuild with a root is finished
 abbrev pub RootsComeLate : Type 0
 RootsComeLate =
-    (pairs : List Pair) (words : ℕ) (log : Log) → Lawful pairs words log → (rebuild : ℕ) (row : RebuildRow)
+    (pairs : List Pair) (words : ℕ) (log : Log) → Lawful pairs words log
+    → (rebuild : ℕ) (row : RebuildRow)
     → (state_of pairs words log).pieces rebuild ≡ Some (Rebuild row) → row.root ≢ unset_word
     → IsFinished (state_of pairs words log) row.target
 
@@ -72,7 +79,8 @@ pub record PutsIdealRoot (t : Snapshot) (change : ChangeRow) (row : RebuildRow) 
 abbrev pub RootsAreIdeal : Type 0
 RootsAreIdeal =
     (pairs : List Pair) (words : ℕ) (log : Log) (caller base : ℕ)
-    → Lawful pairs words (Decide caller base true ∷ log) → (change : ChangeRow) (rebuild : ℕ) (row : RebuildRow)
+    → Lawful pairs words (Decide caller base true ∷ log)
+    → (change : ChangeRow) (rebuild : ℕ) (row : RebuildRow)
     → (state_of pairs words log).pieces base ≡ Some (Change change)
     → ref_of change.from ≡ Some (RebuildAt rebuild)
     → (state_of pairs words log).pieces rebuild ≡ Some (Rebuild row)
@@ -81,25 +89,39 @@ RootsAreIdeal =
 
 -- ---- contents
 
+-- contents exist behind each lawful log
+abbrev pub ContentsExist : Type 0
+ContentsExist =
+    (pairs : List Pair) (words : ℕ) (log : Log) → Lawful pairs words log
+    → (contents : List Pair) × HasContents (state_of pairs words log) contents
+
+-- each slot of a linked node is set
+abbrev pub LinkedSlotsAreSet : Type 0
+LinkedSlotsAreSet =
+    (pairs : List Pair) (words : ℕ) (log : Log) → Lawful pairs words log → (node i word : ℕ)
+    → Linked (state_of pairs words log) node → SlotHolds (state_of pairs words log) node i word
+    → logical (state_of pairs words log).pieces word ≢ Some Unset
+
 -- each event but a Decide with yes of a put or remove
 abbrev pub LeavesContents : Snapshot → Event → Type 0
 LeavesContents t (Decide caller base true) =
     (change : ChangeRow) → t.pieces base ≡ Some (Change change) → ¬ (IsUpdate change.kind)
 LeavesContents t _ = Unit {0}
 
--- such an event keeps the contents
+-- such an event leaves the contents: the same are there before it and behind it
 abbrev pub UpdatesAloneChange : Type 0
 UpdatesAloneChange =
     (pairs : List Pair) (words : ℕ) (log : Log) (event : Event) → Lawful pairs words (event ∷ log)
     → LeavesContents (state_of pairs words log) event → (contents : List Pair)
     → HasContents (state_of pairs words log) contents
-    → HasContents (state_of pairs words (event ∷ log)) contents
+    ↔ HasContents (state_of pairs words (event ∷ log)) contents
 
 -- ---- finished rows
 
 -- a finished row's number is the number of leaves below it
 abbrev pub NumbersCountLeaves : Type 0
 NumbersCountLeaves =
-    (pairs : List Pair) (words : ℕ) (log : Log) → Lawful pairs words log → (node k : ℕ) (leaves : List PlacedLeaf)
+    (pairs : List Pair) (words : ℕ) (log : Log) → Lawful pairs words log
+    → (node k : ℕ) (leaves : List PlacedLeaf)
     → IsFinishedWith (state_of pairs words log) node k
     → HasLeaves (state_of pairs words log).pieces (Some (InnerAt node)) leaves → length leaves ≡ k

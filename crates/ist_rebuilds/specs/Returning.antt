@@ -9,6 +9,8 @@ use Rattle.ist_core.specs.StartLayout.{start}
 -- a row that was linked and isn't any more is never linked again
 abbrev pub UnlinkedRowsStayOut : Type 0
 UnlinkedRowsStayOut =
-    (pairs : List Pair) (words : ℕ) (earlier log : Log) → Lawful pairs words log → GoesOn earlier log
-    → (node : ℕ) → WasLinked (start pairs words) earlier node → ¬ (Linked (state_of pairs words earlier) node)
+    (pairs : List Pair) (words : ℕ) (earlier log : Log) → Lawful pairs words log
+    → GoesOn earlier log
+    → (node : ℕ) → WasLinked (start pairs words) earlier node
+    → ¬ (Linked (state_of pairs words earlier) node)
     → ¬ (Linked (state_of pairs words log) node)

@@ -1,7 +1,9 @@
 //! Laws over lawful logs. The functions take no steps and answer nothing: contracts are laws.
 ghost use Rattle.ist_rebuilds.specs.Returning.{UnlinkedRowsStayOut};
-ghost use Rattle.ist_rebuilds.specs.Replacing.{StartedRebuildsStand, ReplacedRebuildsAreGone, ReplacedTargetsAreOut, RootsComeLate};
-ghost use Rattle.ist_rebuilds.specs.Replacing.{RootsAreIdeal, UpdatesAloneChange, NumbersCountLeaves};
+ghost use Rattle.ist_rebuilds.specs.Replacing.{StartedRebuildsStand, ReplacedRebuildsAreGone};
+ghost use Rattle.ist_rebuilds.specs.Replacing.{ReplacedTargetsAreOut, RootsComeLate};
+ghost use Rattle.ist_rebuilds.specs.Replacing.{RootsAreIdeal, NumbersCountLeaves};
+ghost use Rattle.ist_rebuilds.specs.Replacing.{ContentsExist, UpdatesAloneChange, LinkedSlotsAreSet};
 ghost use Rattle.ist_rebuilds.specs.Drawing.{TargetsAreSmall, DrawsStayLow};
 ghost use Rattle.ist_rebuilds.specs.Opening.{RowsAreOpenAtRest};
 
@@ -25,10 +27,13 @@ pub fn roots_are_ideal()
     ensures ideal { RootsAreIdeal }
 {}
 
-/// Only a Decide with yes of a put or remove changes the contents: behind any other event, a rebuild's
-/// among them, the same pairs are reached from the anchor.
+/// A table has contents behind each lawful log, so that each slot of a linked node is set. Only a
+/// Decide with yes of a put or remove changes them: before and behind any other event, those of a
+/// rebuild among them, the same pairs are reached from the anchor.
 pub fn updates_alone_change()
+    ensures exist { ContentsExist }
     ensures kept { UpdatesAloneChange }
+    ensures set { LinkedSlotsAreSet }
 {}
 
 /// The number with which a row is finished is the number of leaves below it.
@@ -36,15 +41,15 @@ pub fn numbers_count_leaves()
     ensures number { NumbersCountLeaves }
 {}
 
-/// A target has fewer leaves than a table has places, since they share no word; so the draw word of its
-/// rebuild stays far below where it would wrap.
+/// A target has no more leaves than a table has places, since no two share a word; so the draw word
+/// of its rebuild stays far below where it would wrap.
 pub fn draws_stay_low()
     ensures small { TargetsAreSmall }
     ensures low { DrawsStayLow }
 {}
 
-/// Where each started rebuild was replaced, or hangs in a node that isn't open, no linked row is marked
-/// or finished.
+/// Where each started rebuild was replaced, or hangs in a node that isn't open, no linked row is
+/// marked or finished.
 pub fn rows_are_open_at_rest()
     ensures all_open { RowsAreOpenAtRest }
 {}
