@@ -1,20 +1,18 @@
 -- Contents exist behind each lawful log, so that no slot of a linked row is left to be set. Serves `laws.contents_exist`.
-use Rattle.std.proofs.Common.{List, None, Option, Some, [], ap, arith, false, if◌then◌else◌, inl, inr, map, nat_lt, refl, slice_get, subst, sym, true, ℕ, ⊎_elim, ◌==◌, ◌↔◌, ◌∙◌, ◌∷◌, ◌≡◌, ◌≢◌, ◌≤◌, ◌⊎◌}
+use Rattle.std.proofs.Common.{List, None, Option, Some, [], ap, arith, false, inl, inr, map, refl, subst, sym, true, ℕ, ⊎_elim, ◌==◌, ◌↔◌, ◌∙◌, ◌∷◌, ◌≡◌, ◌≢◌, ◌≤◌, ◌⊎◌}
 use Rattle.std.proofs.lemmas.Bool.Decides.{eqb_tells}
 use Rattle.ist_core.specs.declared.events.Event.{Event}
 use Rattle.ist_core.specs.declared.events.Event.TheVariants.{Count, Decide, Draw, Enter, Finish, Install, Lose, Mark, Okay, Pass, Place, Reserve, Resolve, Root}
 use Rattle.ist_core.specs.declared.pairs.Pair.{Pair}
 use Rattle.ist_core.specs.declared.states.ChangeRow.{ChangeRow}
-use Rattle.ist_core.specs.declared.states.InnerRow.{InnerRow}
-use Rattle.ist_core.specs.declared.states.LeafRow.{LeafRow}
-use Rattle.ist_core.specs.Installing.{new_leaf, pair_over, pair_row}
+use Rattle.ist_core.specs.Installing.{new_leaf, pair_row}
 use Rattle.ist_core.specs.Lawful.{CanOpen, EachEnabled, state_of}
-use Rattle.ist_core.specs.Leaves.{HasContents, HasLeaves, PlacedLeaf, leaf_here, no_slot, none_here, one_slot, pair_of, row_here}
+use Rattle.ist_core.specs.Leaves.{HasContents, HasLeaves, leaf_here, none_here, pair_of}
 use Rattle.ist_core.specs.Links.{Linked, at_anchor, below}
 use Rattle.ist_core.specs.Logs.{Log}
-use Rattle.ist_core.specs.Pieces.{Change, Inner, Leaf, Pieces, with_decision}
+use Rattle.ist_core.specs.Pieces.{Change, Leaf, with_decision}
 use Rattle.ist_core.specs.Rebuilding.{IsUpdate}
-use Rattle.ist_core.specs.References.{ChangeAt, Empty, InnerAt, IsGoodBase, LeafAt, RebuildAt, Ref, Unset, ref_of, word_of}
+use Rattle.ist_core.specs.References.{Empty, InnerAt, LeafAt, Ref, Unset, ref_of}
 use Rattle.ist_core.specs.RowLayout.{anchor, first_row}
 use Rattle.ist_core.specs.Slots.{SlotHolds, in_anchor, in_row, logical, past_change, past_rebuild}
 use Rattle.ist_core.specs.StartLayout.{start, tree_at}
@@ -29,9 +27,8 @@ use Rattle.ist_core.proofs.NamingLemmas.{SideNames}
 use Rattle.ist_core.proofs.NamingStepLemmas.{changed_at-fixed}
 use Rattle.ist_core.proofs.OrderLemmas.{names}
 use Rattle.ist_core.proofs.PlaceLemmas.{anchor_free}
-use Rattle.ist_core.proofs.ReferenceLemmas.{ref_of-word_of}
 use Rattle.ist_core.proofs.RoomLemmas.{published_good}
-use Rattle.ist_core.proofs.SlotLemmas.{no_row, same_inner, slot_once}
+use Rattle.ist_core.proofs.SlotLemmas.{no_row, slot_once}
 use Rattle.ist_core.proofs.StartTreeLemmas.{start_anchor, start_hangs}
 use Rattle.ist_links.proofs.FormLemmas.{IsFormed, of_finish, of_leaf_put, of_pair_put, of_remove, of_start}
 use Rattle.ist_links.proofs.FormedLemmas.{changes_are_formed}
@@ -40,64 +37,11 @@ use Rattle.ist_links.proofs.PairLemmas.{pair_is_filled}
 use Rattle.ist_links.proofs.ReadLemmas.{ReadsAs, Turns, decide_reads, turned_by}
 use Rattle.ist_links.proofs.ReadStepLemmas.{reads_step}
 use Rattle.ist_links.proofs.UntouchedLemmas.{not_the_anchor}
-use Rattle.ist_rebuilds.proofs.ExistLemmas.{HasSome, IsAlikeEnough, slot_some, some_move, split_reads, split_some}
+use Rattle.ist_rebuilds.proofs.ExistLemmas.{HasSome, IsAlikeEnough, pair_some, plain_to, row_slot, some_move, split_reads, split_some}
 use Rattle.ist_rebuilds.proofs.IdealLeafLemmas.{decided_stands}
 use Rattle.ist_rebuilds.proofs.KeepingContentLemmas.{contents_kept, no_leaves, past_rebuild_grows, unset_leaves}
 use Rattle.ist_rebuilds.proofs.NewTreeLemmas.{StandsIn}
 use Rattle.ist_rebuilds.specs.Replacing.{LeavesContents}
-
--- a leaf's word at a good base reads as the leaf
-leaf_reads : (ps : Pieces) (base : ℕ) → IsGoodBase base
-    → logical ps (word_of (LeafAt base)) ≡ Some (LeafAt base)
-leaf_reads ps base good = ap (λ o. past_rebuild ps (past_change ps o)) (ref_of-word_of (LeafAt base) good)
-
--- an inner row over two leaves has them
-over_some : (ps : Pieces) (base key left right : ℕ) (l r : LeafRow)
-    → ps base ≡ Some (pair_over key left right)
-    → IsGoodBase left → IsGoodBase right → ps left ≡ Some (Leaf l) → ps right ≡ Some (Leaf r)
-    → HasSome ps (Some (InnerAt base))
-over_some ps base key left right l r e one two at_left at_right =
-    record {
-      leaves = _;
-      reached = row_here _ e
-          (one_slot (subst (λ o. HasLeaves ps o (record { base = left; row = l } ∷ [])) (sym (leaf_reads ps left one)) (leaf_here l at_left))
-          (one_slot (subst (λ o. HasLeaves ps o (record { base = right; row = r } ∷ [])) (sym (leaf_reads ps right two)) (leaf_here r at_right)) no_slot));
-    }
-
--- so has a pair row
-pair_some : (ps : Pieces) (base key leaf other_key other : ℕ) (l r : LeafRow)
-    → ps base ≡ Some (pair_row key leaf other_key other)
-    → IsGoodBase leaf → IsGoodBase other → ps leaf ≡ Some (Leaf l) → ps other ≡ Some (Leaf r)
-    → HasSome ps (Some (InnerAt base))
-pair_some ps base key leaf other_key other l r =
-    elim (nat_lt other_key key) as (λ v. ps base ≡ Some (if v then pair_over key other leaf else pair_over other_key leaf other) → IsGoodBase leaf → IsGoodBase other → ps leaf ≡ Some (Leaf l) → ps other ≡ Some (Leaf r) → HasSome ps (Some (InnerAt base))) [
-      | true ↦ λ e one two a b. over_some ps base key other leaf r l e two one b a
-      | false ↦ λ e one two a b. over_some ps base other_key leaf other l r e one two a b
-    ]
-
--- a reference that has leaves isn't a rebuild
-plain_to : (ps : Pieces) (ref : Ref) → HasSome ps (Some ref) → past_rebuild ps (Some ref) ≡ Some ref
-plain_to ps (RebuildAt base) h = absurd (none h.leaves h.reached)
-  where
-    none : (leaves : List PlacedLeaf) → HasLeaves ps (Some (RebuildAt base)) leaves → ⊥
-    none leaves k = elim k [ ]
-plain_to ps Empty h = refl
-plain_to ps Unset h = refl
-plain_to ps (LeafAt base) h = refl
-plain_to ps (InnerAt base) h = refl
-plain_to ps (ChangeAt base) h = refl
-
--- a slot of a row that has leaves has some
-row_slot : (ps : Pieces) (base : ℕ) (r : InnerRow) → ps base ≡ Some (Inner r)
-    → HasSome ps (Some (InnerAt base))
-    → (i word : ℕ) → slice_get r.slots i ≡ Some word → HasSome ps (logical ps word)
-row_slot ps base r e h i word at = by_leaves base h.leaves h.reached e
-  where
-    by_leaves : (base : ℕ) (leaves : List PlacedLeaf) → HasLeaves ps (Some (InnerAt base)) leaves
-        → ps base ≡ Some (Inner r) → HasSome ps (logical ps word)
-    by_leaves _ leaves (row_here {base = base} s f under) e =
-        let same = same_inner (ps base) s r f e in
-        slot_some ps s.slots leaves under i word (subst (λ x. slice_get x.slots i ≡ Some word) (sym same) at)
 
 module _ (pairs : List Pair) (words : ℕ) (opens : CanOpen pairs words) where
   -- what an undecided put or remove puts in has some leaves, behind its yes

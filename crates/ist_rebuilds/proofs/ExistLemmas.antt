@@ -1,12 +1,15 @@
 -- Contents exist: what has leaves has some behind each event. Serves `laws.contents_exist`.
-use Rattle.std.proofs.Common.{List, Option, Some, [], ap, arith, length, refl, slice_get, subst, suc, sym, zero, ℕ, ⊎_elim, ◌++◌, ◌∙◌, ◌∷◌, ◌≡◌, ◌⊎◌}
+use Rattle.std.proofs.Common.{List, Option, Some, [], ap, arith, false, if◌then◌else◌, length, nat_lt, refl, slice_get, subst, suc, sym, true, zero, ℕ, ⊎_elim, ◌++◌, ◌∙◌, ◌∷◌, ◌≡◌, ◌⊎◌}
 use Rattle.ist_core.specs.declared.states.InnerRow.{InnerRow}
 use Rattle.ist_core.specs.declared.states.LeafRow.{LeafRow}
+use Rattle.ist_core.specs.Installing.{pair_over, pair_row}
 use Rattle.ist_core.specs.Leaves.{HasLeaves, PlacedLeaf, SlotsHaveLeaves, leaf_here, no_slot, none_here, one_slot, row_here}
 use Rattle.ist_core.specs.Parts.{parts}
 use Rattle.ist_core.specs.Pieces.{Inner, Leaf, Pieces}
-use Rattle.ist_core.specs.References.{Ref}
+use Rattle.ist_core.specs.References.{ChangeAt, Empty, InnerAt, IsGoodBase, LeafAt, RebuildAt, Ref, Unset, word_of}
 use Rattle.ist_core.specs.Slots.{logical, past_change, past_rebuild}
+use Rattle.ist_core.proofs.ReferenceLemmas.{ref_of-word_of}
+use Rattle.ist_core.proofs.SlotLemmas.{same_inner}
 use Rattle.ist_core.proofs.SplitLemmas.{SplitAll, Splits, no_split, one_split, split_leaf, split_none, split_row}
 
 -- ---- some leaves
@@ -99,3 +102,58 @@ module _ {A : Type 0} (key : A → ℕ) (ps : Pieces) where
         let others = split_all_some words behind rest more in
         let read : logical ps word ≡ Some ref = ap (λ o. past_rebuild ps (past_change ps o)) is ∙ split_reads key ps ref part here first in
         record { leaves = one.leaves ++ others.leaves; reached = one_slot (subst (λ o. HasLeaves ps o one.leaves) (sym read) one.reached) others.reached }
+
+-- ---- pair rows, and slots of rows
+
+-- a leaf's word at a good base reads as the leaf
+leaf_reads : (ps : Pieces) (base : ℕ) → IsGoodBase base
+    → logical ps (word_of (LeafAt base)) ≡ Some (LeafAt base)
+leaf_reads ps base good = ap (λ o. past_rebuild ps (past_change ps o)) (ref_of-word_of (LeafAt base) good)
+
+-- an inner row over two leaves has them
+over_some : (ps : Pieces) (base key left right : ℕ) (l r : LeafRow)
+    → ps base ≡ Some (pair_over key left right)
+    → IsGoodBase left → IsGoodBase right → ps left ≡ Some (Leaf l) → ps right ≡ Some (Leaf r)
+    → HasSome ps (Some (InnerAt base))
+over_some ps base key left right l r e one two at_left at_right =
+    record {
+      leaves = _;
+      reached = row_here _ e
+          (one_slot (subst (λ o. HasLeaves ps o (record { base = left; row = l } ∷ [])) (sym (leaf_reads ps left one)) (leaf_here l at_left))
+          (one_slot (subst (λ o. HasLeaves ps o (record { base = right; row = r } ∷ [])) (sym (leaf_reads ps right two)) (leaf_here r at_right)) no_slot));
+    }
+
+-- so has a pair row
+pub pair_some : (ps : Pieces) (base key leaf other_key other : ℕ) (l r : LeafRow)
+    → ps base ≡ Some (pair_row key leaf other_key other)
+    → IsGoodBase leaf → IsGoodBase other → ps leaf ≡ Some (Leaf l) → ps other ≡ Some (Leaf r)
+    → HasSome ps (Some (InnerAt base))
+pair_some ps base key leaf other_key other l r =
+    elim (nat_lt other_key key) as (λ v. ps base ≡ Some (if v then pair_over key other leaf else pair_over other_key leaf other) → IsGoodBase leaf → IsGoodBase other → ps leaf ≡ Some (Leaf l) → ps other ≡ Some (Leaf r) → HasSome ps (Some (InnerAt base))) [
+      | true ↦ λ e one two a b. over_some ps base key other leaf r l e two one b a
+      | false ↦ λ e one two a b. over_some ps base other_key leaf other l r e one two a b
+    ]
+
+-- a reference that has leaves isn't a rebuild
+pub plain_to : (ps : Pieces) (ref : Ref) → HasSome ps (Some ref) → past_rebuild ps (Some ref) ≡ Some ref
+plain_to ps (RebuildAt base) h = absurd (none h.leaves h.reached)
+  where
+    none : (leaves : List PlacedLeaf) → HasLeaves ps (Some (RebuildAt base)) leaves → ⊥
+    none leaves k = elim k [ ]
+plain_to ps Empty h = refl
+plain_to ps Unset h = refl
+plain_to ps (LeafAt base) h = refl
+plain_to ps (InnerAt base) h = refl
+plain_to ps (ChangeAt base) h = refl
+
+-- a slot of a row that has leaves has some
+pub row_slot : (ps : Pieces) (base : ℕ) (r : InnerRow) → ps base ≡ Some (Inner r)
+    → HasSome ps (Some (InnerAt base))
+    → (i word : ℕ) → slice_get r.slots i ≡ Some word → HasSome ps (logical ps word)
+row_slot ps base r e h i word at = by_leaves base h.leaves h.reached e
+  where
+    by_leaves : (base : ℕ) (leaves : List PlacedLeaf) → HasLeaves ps (Some (InnerAt base)) leaves
+        → ps base ≡ Some (Inner r) → HasSome ps (logical ps word)
+    by_leaves _ leaves (row_here {base = base} s f under) e =
+        let same = same_inner (ps base) s r f e in
+        slot_some ps s.slots leaves under i word (subst (λ x. slice_get x.slots i ≡ Some word) (sym same) at)
