@@ -268,3 +268,11 @@ module _ (pairs : List Pair) (words : ℕ) (opens : CanOpen pairs words) where
       let t = state_of pairs words log in
       let some = subst (λ o. HasSome t.pieces o) unset (linked_slot log h node i word l slot) in
       unset_leaves t.pieces some.leaves some.reached
+
+  -- a linked row has some leaves
+  pub linked_some : (log : Log) → EachEnabled (start pairs words) log → (node : ℕ) → node ≢ anchor
+      → Linked (state_of pairs words log) node
+      → HasSome (state_of pairs words log).pieces (Some (InnerAt node))
+  linked_some log h _ apart at_anchor = absurd (apart refl)
+  linked_some log h _ apart (below {node = node} i l c) =
+      subst (λ o. HasSome (state_of pairs words log).pieces o) c.reads (linked_slot log h node i c.word l c.holds)

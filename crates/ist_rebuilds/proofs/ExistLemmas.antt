@@ -135,7 +135,8 @@ pair_some ps base key leaf other_key other l r =
     ]
 
 -- a reference that has leaves isn't a rebuild
-pub plain_to : (ps : Pieces) (ref : Ref) → HasSome ps (Some ref) → past_rebuild ps (Some ref) ≡ Some ref
+pub plain_to : (ps : Pieces) (ref : Ref) → HasSome ps (Some ref)
+    → past_rebuild ps (Some ref) ≡ Some ref
 plain_to ps (RebuildAt base) h = absurd (none h.leaves h.reached)
   where
     none : (leaves : List PlacedLeaf) → HasLeaves ps (Some (RebuildAt base)) leaves → ⊥

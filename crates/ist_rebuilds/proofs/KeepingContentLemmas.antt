@@ -171,6 +171,30 @@ module _ (pairs : List Pair) (words : ℕ) (opens : CanOpen pairs words) where
           (λ turn. ⊎_elim (λ same. inl (same ∙ back)) (λ anyhow. inr anyhow) (turned_leaves log event h keeps node i ref turn v now leaves k))
           (reads_step pairs words opens log event h node i ref set record { word = w; holds = old; reads = is })
 
+  -- each row behind an event that decides no update yes has the leaves that it had
+  rows_alike : (log : Log) (event : Event) → EachEnabled (start pairs words) (event ∷ log)
+      → LeavesContents (state_of pairs words log) event
+      → Alike (state_of pairs words log).pieces (state_of pairs words (event ∷ log)).pieces
+  rows_alike log event h keeps =
+      let t = state_of pairs words log in
+      let u = state_of pairs words (event ∷ log) in
+      let g = grow_behind pairs words log event h in
+      record {
+        leaf = λ base r e. leaf_there t.pieces u.pieces g base r e;
+        row = λ base r e.
+            let it = inner_there t.pieces u.pieces g base r e in
+            (it.0, it.1, it.2.slots, λ i w v at now leaves has. slot_leaves log event h keeps base i w v (in_row r e at) (in_row it.0 it.1 now) leaves has);
+      }
+
+  -- so has each reference
+  pub leaves_step : (log : Log) (event : Event) → EachEnabled (start pairs words) (event ∷ log)
+      → LeavesContents (state_of pairs words log) event
+      → (ref : Option Ref) (leaves : List PlacedLeaf)
+      → HasLeaves (state_of pairs words log).pieces ref leaves
+      → HasLeaves (state_of pairs words (event ∷ log)).pieces ref leaves
+  leaves_step log event h keeps ref leaves has =
+      leaves_move (state_of pairs words log).pieces (state_of pairs words (event ∷ log)).pieces (rows_alike log event h keeps) ref leaves has
+
   -- an event that decides no update yes keeps the contents
   pub contents_kept : (log : Log) (event : Event) → EachEnabled (start pairs words) (event ∷ log)
       → LeavesContents (state_of pairs words log) event → (contents : List Pair)
@@ -179,14 +203,7 @@ module _ (pairs : List Pair) (words : ℕ) (opens : CanOpen pairs words) where
   contents_kept log event h keeps contents c =
       let t = state_of pairs words log in
       let u = state_of pairs words (event ∷ log) in
-      let g = grow_behind pairs words log event h in
-      let alike : Alike t.pieces u.pieces = record {
-        leaf = λ base r e. leaf_there t.pieces u.pieces g base r e;
-        row = λ base r e.
-            let it = inner_there t.pieces u.pieces g base r e in
-            (it.0, it.1, it.2.slots, λ i w v at now leaves has. slot_leaves log event h keeps base i w v (in_row r e at) (in_row it.0 it.1 now) leaves has);
-      } in
-      let moved = leaves_move t.pieces u.pieces alike (logical t.pieces t.anchor) c.leaves c.reached in
+      let moved = leaves_step log event h keeps (logical t.pieces t.anchor) c.leaves c.reached in
       record {
         leaves = c.leaves;
         reached = ⊎_elim (λ same. subst (λ o. HasLeaves u.pieces o c.leaves) (sym same) moved) (λ anyhow. anyhow)

@@ -10,6 +10,8 @@ pub mod KeepingContentLemmas
 pub mod ExistLemmas
 pub mod ContentLemmas
 pub mod NumberLemmas
+pub mod FewLeafLemmas
+pub mod FinishedLeafLemmas
 pub mod ReturnLemmas
 pub mod ReplacedLemmas
 pub mod CalledLemmas

@@ -7,7 +7,7 @@ use Rattle.ist_core.specs.declared.pairs.Pair.{Pair}
 use Rattle.ist_core.specs.Lawful.{CanOpen, EachEnabled, state_of}
 use Rattle.ist_core.specs.Links.{IsChild, Linked, WasLinked, at_anchor, below}
 use Rattle.ist_core.specs.Logs.{GoesOn, Log, one_event, same_log}
-use Rattle.ist_core.specs.Pieces.{Inner, Pieces, Rebuild, with_inners}
+use Rattle.ist_core.specs.Pieces.{Inner, Rebuild, with_inners}
 use Rattle.ist_core.specs.References.{ChangeAt, Empty, InnerAt, LeafAt, RebuildAt, Ref, Unset, ref_of}
 use Rattle.ist_core.specs.RowLayout.{anchor}
 use Rattle.ist_core.specs.Slots.{SlotHolds, past_change, past_rebuild, rebuild_reads}
@@ -38,16 +38,6 @@ use Rattle.ist_rebuilds.proofs.UnlinkedLemmas.{ideal_among, root_never_linked}
 -- two references to inner rows are one
 one_inner : (a b : ℕ) → Some (InnerAt a) ≡ Some (InnerAt b) → a ≡ b
 one_inner a b e = cc
-
--- what a reference that isn't a rebuild reads as
-past_itself : (ps : Pieces) (ref : Ref) → ((base : ℕ) → ref ≢ RebuildAt base)
-    → past_rebuild ps (Some ref) ≡ Some ref
-past_itself ps (RebuildAt base) plain = absurd (plain base refl)
-past_itself ps Empty plain = refl
-past_itself ps Unset plain = refl
-past_itself ps (LeafAt base) plain = refl
-past_itself ps (InnerAt base) plain = refl
-past_itself ps (ChangeAt base) plain = refl
 
 module _ (pairs : List Pair) (words : ℕ) (opens : CanOpen pairs words) where
   -- what a slot reads as leads where it leads behind the event

@@ -1,5 +1,5 @@
 -- The laws over lawful logs on rebuilds and on the contents. `src/laws.rt` lists them.
-use Rattle.std.specs.Prelude.{List, Some, length, true, ℕ, ◌↔◌, ◌∷◌, ◌≡◌, ◌≢◌}
+use Rattle.std.specs.Prelude.{List, Some, length, true, ℕ, ◌↔◌, ◌∷◌, ◌≡◌, ◌≢◌, ◌≤◌}
 use Rattle.ist_core.specs.declared.events.Event.{Event}
 use Rattle.ist_core.specs.declared.events.Event.TheVariants.{Decide}
 use Rattle.ist_core.specs.declared.pairs.Pair.{Pair}
@@ -13,6 +13,7 @@ use Rattle.ist_core.specs.Logs.{Log}
 use Rattle.ist_core.specs.Pieces.{Change, Rebuild}
 use Rattle.ist_core.specs.Rebuilding.{IsFinishedWith, IsReplaced, IsStarted, IsUpdate}
 use Rattle.ist_core.specs.References.{InnerAt, RebuildAt, Ref, Unset, ref_of, unset_word}
+use Rattle.ist_core.specs.RowLayout.{place_limit}
 use Rattle.ist_core.specs.Slots.{SlotHolds, logical, past_change}
 use Rattle.ist_core.specs.Snapshots.{Snapshot}
 use Rattle.ist_links.specs.Linking.{IsFinished}
@@ -118,6 +119,13 @@ UpdatesAloneChange =
 
 -- ---- finished rows
 
+-- a finished row has leaves below it
+abbrev pub FinishedRowsHaveLeaves : Type 0
+FinishedRowsHaveLeaves =
+    (pairs : List Pair) (words : ℕ) (log : Log) → Lawful pairs words log → (node k : ℕ)
+    → IsFinishedWith (state_of pairs words log) node k
+    → (leaves : List PlacedLeaf) × HasLeaves (state_of pairs words log).pieces (Some (InnerAt node)) leaves
+
 -- a finished row's number is the number of leaves below it
 abbrev pub NumbersCountLeaves : Type 0
 NumbersCountLeaves =
@@ -125,3 +133,9 @@ NumbersCountLeaves =
     → (node k : ℕ) (leaves : List PlacedLeaf)
     → IsFinishedWith (state_of pairs words log) node k
     → HasLeaves (state_of pairs words log).pieces (Some (InnerAt node)) leaves → length leaves ≡ k
+
+-- it is no greater than the number of places, so that it fits into a status
+abbrev pub NumbersAreLow : Type 0
+NumbersAreLow =
+    (pairs : List Pair) (words : ℕ) (log : Log) → Lawful pairs words log → (node k : ℕ)
+    → IsFinishedWith (state_of pairs words log) node k → k ≤ place_limit

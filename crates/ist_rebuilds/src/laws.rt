@@ -2,9 +2,10 @@
 ghost use Rattle.ist_rebuilds.specs.Returning.{UnlinkedRowsStayOut};
 ghost use Rattle.ist_rebuilds.specs.Replacing.{StartedRebuildsStand, ReplacedRebuildsAreGone};
 ghost use Rattle.ist_rebuilds.specs.Replacing.{ReplacedTargetsAreOut, RootsComeLate};
-ghost use Rattle.ist_rebuilds.specs.Replacing.{RootsAreIdeal, NumbersCountLeaves};
+ghost use Rattle.ist_rebuilds.specs.Replacing.{RootsAreIdeal};
+ghost use Rattle.ist_rebuilds.specs.Replacing.{FinishedRowsHaveLeaves, NumbersCountLeaves, NumbersAreLow};
 ghost use Rattle.ist_rebuilds.specs.Replacing.{ContentsExist, UpdatesAloneChange, LinkedSlotsAreSet};
-ghost use Rattle.ist_rebuilds.specs.Drawing.{TargetsAreSmall, DrawsStayLow};
+ghost use Rattle.ist_rebuilds.specs.Drawing.{DrawsStayLow};
 ghost use Rattle.ist_rebuilds.specs.Opening.{RowsAreOpenAtRest};
 
 /// A row that was linked and isn't any more is never linked again: no change brings it back.
@@ -36,15 +37,17 @@ pub fn updates_alone_change()
     ensures set { LinkedSlotsAreSet }
 {}
 
-/// The number with which a row is finished is the number of leaves below it.
+/// A finished row has leaves below it, and its number is how many they are. No two leaves share a word,
+/// so that the number is no greater than that of a table's places.
 pub fn numbers_count_leaves()
+    ensures leaves { FinishedRowsHaveLeaves }
     ensures number { NumbersCountLeaves }
+    ensures low { NumbersAreLow }
 {}
 
-/// A target has no more leaves than a table has places, since no two share a word; so the draw word
-/// of its rebuild stays far below where it would wrap.
+/// The draw word of a rebuild is at most the number of places and that of callers, since its target
+/// has no more leaves than there are places. So it stays far below where it would wrap.
 pub fn draws_stay_low()
-    ensures small { TargetsAreSmall }
     ensures low { DrawsStayLow }
 {}
 
