@@ -23,7 +23,7 @@ use Rattle.ist_core.proofs.NamingStepLemmas.{side_names}
 use Rattle.ist_core.proofs.OrderLemmas.{names, past_change_names}
 use Rattle.ist_core.proofs.FreezingLemmas.{side_not_yes}
 use Rattle.ist_links.proofs.InductionLemmas.{grow_behind}
-use Rattle.ist_links.proofs.ReadLemmas.{decide_reads}
+use Rattle.ist_links.proofs.ReadEventLemmas.{decide_reads}
 use Rattle.ist_links.proofs.ReadLemmas as links
 use Rattle.ist_links.proofs.ReadStepLemmas as steps
 

@@ -85,7 +85,8 @@ pub install_free : (first : Snapshot) (log : Log) (caller base : ℕ) (rows : Li
     → CanInstall first log caller base rows → IsSound (state first log)
     → (state first log).pieces base ≡ None
 install_free first log caller base rows h s =
-    s.unpublished record { caller = caller; base = base; size = 9 } (holds_installed first log caller base rows h).0
+    s.unpublished record { caller = caller; base = base; size = 9 }
+    (holds_installed first log caller base rows h).0
 
 module _ (pairs : List Pair) (words : ℕ) (opens : CanOpen pairs words) where
   -- a change that stands in a slot stands there until it is resolved
@@ -103,24 +104,47 @@ module _ (pairs : List Pair) (words : ℕ) (opens : CanOpen pairs words) where
       (writes.others n i (word_of (ChangeAt base)) slot)
   change_slot_stays log (Resolve caller change) h base x e unresolved n i slot =
       let writes = resolve_writes (state_of pairs words log) caller change h.1 (anchor_free pairs words log h.0) in
-      ⊎_elim (λ w. absurd (unresolved (sym (same_change_word base change w.0)))) (λ stays. stays) (writes.others n i (word_of (ChangeAt base)) slot)
+      ⊎_elim (λ w. absurd (unresolved (sym (same_change_word base change w.0)))) (λ stays. stays)
+      (writes.others n i (word_of (ChangeAt base)) slot)
   change_slot_stays log (Place caller rebuild j word rows) h base x e unresolved n i slot =
       let writes = place_writes (state_of pairs words log) caller rebuild j word rows h.1 (sound_behind pairs words log h.0) (anchor_free pairs words log h.0) in
       ⊎_elim
       (λ w. absurd (let seven : base * 8 + 3 ≡ 7 = w.0 in omega arith))
       (λ stays. stays)
       (writes.others n i (word_of (ChangeAt base)) slot)
-  change_slot_stays log (Enter caller) h base x e unresolved n i slot = slot_stays (start pairs words) log (Enter caller) h.1 (sound_behind pairs words log h.0) tt n i (word_of (ChangeAt base)) slot
-  change_slot_stays log (Reserve caller b size) h base x e unresolved n i slot = slot_stays (start pairs words) log (Reserve caller b size) h.1 (sound_behind pairs words log h.0) tt n i (word_of (ChangeAt base)) slot
-  change_slot_stays log (Okay caller change) h base x e unresolved n i slot = slot_stays (start pairs words) log (Okay caller change) h.1 (sound_behind pairs words log h.0) tt n i (word_of (ChangeAt base)) slot
-  change_slot_stays log (Decide caller change said) h base x e unresolved n i slot = slot_stays (start pairs words) log (Decide caller change said) h.1 (sound_behind pairs words log h.0) tt n i (word_of (ChangeAt base)) slot
-  change_slot_stays log (Count caller node) h base x e unresolved n i slot = slot_stays (start pairs words) log (Count caller node) h.1 (sound_behind pairs words log h.0) tt n i (word_of (ChangeAt base)) slot
-  change_slot_stays log (Mark caller node) h base x e unresolved n i slot = slot_stays (start pairs words) log (Mark caller node) h.1 (sound_behind pairs words log h.0) tt n i (word_of (ChangeAt base)) slot
-  change_slot_stays log (Pass caller node j word) h base x e unresolved n i slot = slot_stays (start pairs words) log (Pass caller node j word) h.1 (sound_behind pairs words log h.0) tt n i (word_of (ChangeAt base)) slot
-  change_slot_stays log (Finish caller node keys) h base x e unresolved n i slot = slot_stays (start pairs words) log (Finish caller node keys) h.1 (sound_behind pairs words log h.0) tt n i (word_of (ChangeAt base)) slot
-  change_slot_stays log (Root caller rebuild word rows) h base x e unresolved n i slot = slot_stays (start pairs words) log (Root caller rebuild word rows) h.1 (sound_behind pairs words log h.0) tt n i (word_of (ChangeAt base)) slot
-  change_slot_stays log (Draw caller rebuild part) h base x e unresolved n i slot = slot_stays (start pairs words) log (Draw caller rebuild part) h.1 (sound_behind pairs words log h.0) tt n i (word_of (ChangeAt base)) slot
-  change_slot_stays log (Lose caller bases) h base x e unresolved n i slot = slot_stays (start pairs words) log (Lose caller bases) h.1 (sound_behind pairs words log h.0) tt n i (word_of (ChangeAt base)) slot
+  change_slot_stays log (Enter caller) h base x e unresolved n i slot =
+      slot_stays (start pairs words) log (Enter caller) h.1
+      (sound_behind pairs words log h.0) tt n i (word_of (ChangeAt base)) slot
+  change_slot_stays log (Reserve caller b size) h base x e unresolved n i slot =
+      slot_stays (start pairs words) log (Reserve caller b size) h.1
+      (sound_behind pairs words log h.0) tt n i (word_of (ChangeAt base)) slot
+  change_slot_stays log (Okay caller change) h base x e unresolved n i slot =
+      slot_stays (start pairs words) log (Okay caller change) h.1
+      (sound_behind pairs words log h.0) tt n i (word_of (ChangeAt base)) slot
+  change_slot_stays log (Decide caller change said) h base x e unresolved n i slot =
+      slot_stays (start pairs words) log (Decide caller change said) h.1
+      (sound_behind pairs words log h.0) tt n i (word_of (ChangeAt base)) slot
+  change_slot_stays log (Count caller node) h base x e unresolved n i slot =
+      slot_stays (start pairs words) log (Count caller node) h.1
+      (sound_behind pairs words log h.0) tt n i (word_of (ChangeAt base)) slot
+  change_slot_stays log (Mark caller node) h base x e unresolved n i slot =
+      slot_stays (start pairs words) log (Mark caller node) h.1
+      (sound_behind pairs words log h.0) tt n i (word_of (ChangeAt base)) slot
+  change_slot_stays log (Pass caller node j word) h base x e unresolved n i slot =
+      slot_stays (start pairs words) log (Pass caller node j word) h.1
+      (sound_behind pairs words log h.0) tt n i (word_of (ChangeAt base)) slot
+  change_slot_stays log (Finish caller node keys) h base x e unresolved n i slot =
+      slot_stays (start pairs words) log (Finish caller node keys) h.1
+      (sound_behind pairs words log h.0) tt n i (word_of (ChangeAt base)) slot
+  change_slot_stays log (Root caller rebuild word rows) h base x e unresolved n i slot =
+      slot_stays (start pairs words) log (Root caller rebuild word rows) h.1
+      (sound_behind pairs words log h.0) tt n i (word_of (ChangeAt base)) slot
+  change_slot_stays log (Draw caller rebuild part) h base x e unresolved n i slot =
+      slot_stays (start pairs words) log (Draw caller rebuild part) h.1
+      (sound_behind pairs words log h.0) tt n i (word_of (ChangeAt base)) slot
+  change_slot_stays log (Lose caller bases) h base x e unresolved n i slot =
+      slot_stays (start pairs words) log (Lose caller bases) h.1
+      (sound_behind pairs words log h.0) tt n i (word_of (ChangeAt base)) slot
 
   -- a change that wasn't resolved stands in its slot
   pub unresolved_stands : (log : Log) → EachEnabled (start pairs words) log
@@ -128,7 +152,8 @@ module _ (pairs : List Pair) (words : ℕ) (opens : CanOpen pairs words) where
       → (state_of pairs words log).pieces base ≡ Some (Change x) → ¬ (Happened (Resolves base) log)
       → SlotHolds (state_of pairs words log) x.node x.index (word_of (ChangeAt base))
   unresolved_stands =
-      changes_by pairs words (λ log base x. ¬ (Happened (Resolves base) log) → SlotHolds (state_of pairs words log) x.node x.index (word_of (ChangeAt base)))
+      changes_by pairs words
+      (λ log base x. ¬ (Happened (Resolves base) log) → SlotHolds (state_of pairs words log) x.node x.index (word_of (ChangeAt base)))
       (λ log event h base x old there stands unresolved.
       change_slot_stays log event h base x old (λ now. unresolved (inl now)) x.node x.index (stands (λ before. unresolved (inr before))))
       (λ log caller base rows h can unresolved.
@@ -142,7 +167,8 @@ module _ (pairs : List Pair) (words : ℕ) (opens : CanOpen pairs words) where
       → (state_of pairs words log).pieces base ≡ Some (Change x) → x.decision ≡ undecided
       → ¬ (Happened (Resolves base) log)
   undecided_unresolved =
-      changes_by pairs words (λ log base x. x.decision ≡ undecided → ¬ (Happened (Resolves base) log))
+      changes_by pairs words
+      (λ log base x. x.decision ≡ undecided → ¬ (Happened (Resolves base) log))
       (λ log event h base x old there before none happened.
       ⊎_elim
       (λ now.
@@ -162,7 +188,8 @@ module _ (pairs : List Pair) (words : ℕ) (opens : CanOpen pairs words) where
       → (base : ℕ) (x : ChangeRow)
       → (state_of pairs words log).pieces base ≡ Some (Change x) → x.decision ≡ undecided
       → SlotHolds (state_of pairs words log) x.node x.index (word_of (ChangeAt base))
-  undecided_stands log h base x e none = unresolved_stands log h base x e (undecided_unresolved log h base x e none)
+  undecided_stands log h base x e none =
+      unresolved_stands log h base x e (undecided_unresolved log h base x e none)
 
   -- the node of each change was linked
   pub node_was_linked : (log : Log) → EachEnabled (start pairs words) log

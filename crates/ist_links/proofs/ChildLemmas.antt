@@ -20,13 +20,15 @@ use Rattle.ist_core.proofs.GrowingLemmas.{rebuild_there}
 use Rattle.ist_links.proofs.FormLemmas.{IsFormed, of_finish, of_leaf_put, of_pair_put, of_remove, of_start}
 use Rattle.ist_links.proofs.FormedLemmas.{changes_are_formed}
 use Rattle.ist_links.proofs.InductionLemmas.{grow_behind}
-use Rattle.ist_links.proofs.ReadLemmas.{ReadsAs, Turns, decide_reads, turned_by}
+use Rattle.ist_links.proofs.ReadEventLemmas.{decide_reads}
+use Rattle.ist_links.proofs.ReadLemmas.{ReadsAs, Turns, turned_by}
 use Rattle.ist_links.proofs.ReadStepLemmas.{reads_step}
 
 -- what a slot reads as, and its child
 pub read_child : (t : Snapshot) (node i child : ℕ) (ref : Ref) → ReadsAs t node i ref
     → past_rebuild t.pieces (Some ref) ≡ Some (InnerAt child) → IsChild t node i child
-read_child t node i child ref r e = record { word = r.word; holds = r.holds; reads = ap (past_rebuild t.pieces) r.reads ∙ e }
+read_child t node i child ref r e =
+    record { word = r.word; holds = r.holds; reads = ap (past_rebuild t.pieces) r.reads ∙ e }
 
 -- a child is read by a reference, which is set
 pub record IsReadBy (t : Snapshot) (node i child : ℕ) : Type 0 where
@@ -42,7 +44,8 @@ child_read t node i child c = at (past_change t.pieces (ref_of c.word)) refl c.r
     at : (o : Option Ref) → past_change t.pieces (ref_of c.word) ≡ o
         → past_rebuild t.pieces o ≡ Some (InnerAt child) → IsReadBy t node i child
     at None is e = absurd (cc)
-    at (Some ref) is e = record { ref = ref; read = record { word = c.word; holds = c.holds; reads = is }; set = λ unset. clash (subst (λ r. past_rebuild t.pieces (Some r) ≡ Some (InnerAt child)) unset e); leads = e }
+    at (Some ref) is e =
+        record { ref = ref; read = record { word = c.word; holds = c.holds; reads = is }; set = λ unset. clash (subst (λ r. past_rebuild t.pieces (Some r) ≡ Some (InnerAt child)) unset e); leads = e }
       where
         clash : Some Unset ≡ Some (InnerAt child) → ⊥
         clash k = cc
@@ -93,18 +96,22 @@ takes t x ref child (of_leaf_put h) e leads = absurd (room h.from)
       where
         clash : Some (LeafAt leaf) ≡ Some (InnerAt child) → ⊥
         clash q = cc
-takes t x ref child (of_pair_put h) e leads = absurd (clash (ap (past_rebuild t.pieces) (sym h.from ∙ e) ∙ leads))
+takes t x ref child (of_pair_put h) e leads =
+    absurd (clash (ap (past_rebuild t.pieces) (sym h.from ∙ e) ∙ leads))
   where
     clash : Some (LeafAt h.other) ≡ Some (InnerAt child) → ⊥
     clash q = cc
-takes t x ref child (of_remove h) e leads = absurd (clash (ap (past_rebuild t.pieces) (sym h.from ∙ e) ∙ leads))
+takes t x ref child (of_remove h) e leads =
+    absurd (clash (ap (past_rebuild t.pieces) (sym h.from ∙ e) ∙ leads))
   where
     clash : Some (LeafAt h.leaf) ≡ Some (InnerAt child) → ⊥
     clash q = cc
 takes t x ref child (of_start h) e leads =
-    takes_none_away (RebuildAt h.rebuild) h.to (leads_rebuild t.pieces h.rebuild h.row h.published ∙ ap (past_rebuild t.pieces) (sym h.from ∙ e) ∙ leads)
+    takes_none_away (RebuildAt h.rebuild) h.to
+    (leads_rebuild t.pieces h.rebuild h.row h.published ∙ ap (past_rebuild t.pieces) (sym h.from ∙ e) ∙ leads)
 takes t x ref child (of_finish h) e leads =
-    takes_finished (subst (λ n. IsFinished t n) (one_inner h.row.target child (sym (leads_rebuild t.pieces h.rebuild h.row h.published) ∙ ap (past_rebuild t.pieces) (sym h.from ∙ e) ∙ leads)) h.finished)
+    takes_finished
+    (subst (λ n. IsFinished t n) (one_inner h.row.target child (sym (leads_rebuild t.pieces h.rebuild h.row h.published) ∙ ap (past_rebuild t.pieces) (sym h.from ∙ e) ∙ leads)) h.finished)
   where
     one_inner : (a b : ℕ) → Some (InnerAt a) ≡ Some (InnerAt b) → a ≡ b
     one_inner a b q = cc
@@ -127,14 +134,17 @@ module _ (pairs : List Pair) (words : ℕ) (opens : CanOpen pairs words) where
           → Turns (start pairs words) log node i ref event
           → IsChild (state_of pairs words (event ∷ log)) node i child ⊎ IsFinished (state_of pairs words log) child
       turned _ h ref leads (turned_by {caller = caller} {base = base} can n j from) =
-          by_form (takes (state_of pairs words log) can.change ref child (changes_are_formed pairs words log h.0 base can.change can.pending.published) from leads)
+          by_form
+          (takes (state_of pairs words log) can.change ref child (changes_are_formed pairs words log h.0 base can.change can.pending.published) from leads)
         where
           by_form : Takes (state_of pairs words log) can.change child
               → IsChild (state_of pairs words (Decide caller base true ∷ log)) node i child ⊎ IsFinished (state_of pairs words log) child
           by_form (takes_none_away to is on) =
               let u = state_of pairs words (Decide caller base true ∷ log) in
               let r = decide_reads pairs words opens log caller base h can.change can.pending.published to is in
-              let here : IsChild u can.change.node can.change.index child = read_child u can.change.node can.change.index child to r
+              let here : IsChild u can.change.node can.change.index child =
+              read_child u can.change.node can.change.index child to r
               (leads_grows (state_of pairs words log) u (grow_behind pairs words log (Decide caller base true) h) to child on) in
-              inl (subst (λ m. IsChild u m i child) n (subst (λ m. IsChild u can.change.node m child) j here))
+              inl
+              (subst (λ m. IsChild u m i child) n (subst (λ m. IsChild u can.change.node m child) j here))
           by_form (takes_finished f) = inr f

@@ -33,7 +33,8 @@ use Rattle.ist_links.proofs.LinkLemmas.{linked_or_finished, okayed_linked}
 use Rattle.ist_links.proofs.OriginLemmas.{StatusComes, finished_now, is_new, marked_now, status_was}
 use Rattle.ist_links.proofs.PassLemmas.{passing}
 use Rattle.ist_links.proofs.QuietLemmas.{start_quiet}
-use Rattle.ist_links.proofs.ReadLemmas.{change_past, past_plain, side_undecided}
+use Rattle.ist_links.proofs.ReadEventLemmas.{change_past}
+use Rattle.ist_links.proofs.ReadLemmas.{past_plain, side_undecided}
 
 -- what is linked behind a log was linked
 pub linked_now : (first : Snapshot) (log : Log) (node : ℕ) → Linked (state first log) node
@@ -66,7 +67,8 @@ module _ (pairs : List Pair) (words : ℕ) (opens : CanOpen pairs words) where
       → (state_of pairs words log).pieces base ≡ Some (Change x) → x.decision ≡ decided_yes
       → (child : ℕ) → ref_of x.from ≡ Some (InnerAt child) → WasLinked (start pairs words) log child
   yes_from_linked =
-      changes_by pairs words (λ log base x. x.decision ≡ decided_yes → (child : ℕ) → ref_of x.from ≡ Some (InnerAt child) → WasLinked (start pairs words) log child)
+      changes_by pairs words
+      (λ log base x. x.decision ≡ decided_yes → (child : ℕ) → ref_of x.from ≡ Some (InnerAt child) → WasLinked (start pairs words) log child)
       (λ log event h base x old there before said child from. inr (before said child from))
       (λ log caller base rows h can said child from. let none = can.unset in absurd (omega arith))
       (λ log caller base said h can before is child from. inr (linked_now (start pairs words) log child (at log caller base said h can (said_yes said is) child from)))
@@ -80,11 +82,14 @@ module _ (pairs : List Pair) (words : ℕ) (opens : CanOpen pairs words) where
           let t = state_of pairs words log in
           let x = can.change in
           let okay : Happened (Okays base) log = subst (λ v. MayBe t log base x v) is can.outcome in
-          below x.index (okayed_linked pairs words opens log h.0 base x can.pending.published can.pending.unset okay)
+          below x.index
+          (okayed_linked pairs words opens log h.0 base x can.pending.published can.pending.unset okay)
           record {
             word = word_of (ChangeAt base);
-            holds = undecided_stands pairs words opens log h.0 base x can.pending.published can.pending.unset;
-            reads = ap (past_rebuild t.pieces) (change_past pairs words opens log h.0 base x can.pending.published ∙ ap ref_of (side_undecided x can.pending.unset) ∙ from);
+            holds =
+                undecided_stands pairs words opens log h.0 base x can.pending.published can.pending.unset;
+            reads =
+                ap (past_rebuild t.pieces) (change_past pairs words opens log h.0 base x can.pending.published ∙ ap ref_of (side_undecided x can.pending.unset) ∙ from);
           }
 
   -- the target of a started rebuild was linked
@@ -93,20 +98,26 @@ module _ (pairs : List Pair) (words : ℕ) (opens : CanOpen pairs words) where
       → (state_of pairs words log).pieces rebuild ≡ Some (Rebuild r)
       → IsStarted (state_of pairs words log) rebuild
       → WasLinked (start pairs words) log r.target
-  started_target_linked log h rebuild r e s = at (changes_are_formed pairs words log h s.base s.change s.published)
+  started_target_linked log h rebuild r e s =
+      at (changes_are_formed pairs words log h s.base s.change s.published)
     where
       kinds : (a b : ℕ) → s.change.kind ≡ a → s.change.kind ≡ b → a ≡ b
       kinds a b x y = sym x ∙ y
 
       at : IsFormed (state_of pairs words log) s.change → WasLinked (start pairs words) log r.target
-      at (of_leaf_put f) = let one : ◌≡◌ {A = ℕ} 1 3 = kinds put_kind start_kind f.kind s.kind in absurd (omega arith)
-      at (of_pair_put f) = let one : ◌≡◌ {A = ℕ} 1 3 = kinds put_kind start_kind f.kind s.kind in absurd (omega arith)
-      at (of_remove f) = let one : ◌≡◌ {A = ℕ} 2 3 = kinds remove_kind start_kind f.kind s.kind in absurd (omega arith)
-      at (of_finish f) = let one : ◌≡◌ {A = ℕ} 4 3 = kinds finish_kind start_kind f.kind s.kind in absurd (omega arith)
+      at (of_leaf_put f) =
+          let one : ◌≡◌ {A = ℕ} 1 3 = kinds put_kind start_kind f.kind s.kind in absurd (omega arith)
+      at (of_pair_put f) =
+          let one : ◌≡◌ {A = ℕ} 1 3 = kinds put_kind start_kind f.kind s.kind in absurd (omega arith)
+      at (of_remove f) =
+          let one : ◌≡◌ {A = ℕ} 2 3 = kinds remove_kind start_kind f.kind s.kind in absurd (omega arith)
+      at (of_finish f) =
+          let one : ◌≡◌ {A = ℕ} 4 3 = kinds finish_kind start_kind f.kind s.kind in absurd (omega arith)
       at (of_start f) =
           let same : f.rebuild ≡ rebuild = one_rebuild f.rebuild rebuild (sym f.to ∙ s.to) in
           let row : f.row ≡ r = same_rebuild ((state_of pairs words log).pieces rebuild) f.row r (subst (λ b. (state_of pairs words log).pieces b ≡ Some (Rebuild f.row)) same f.published) e in
-          subst (λ x. WasLinked (start pairs words) log x.target) row (yes_from_linked log h s.base s.change s.published s.decision f.row.target f.from)
+          subst (λ x. WasLinked (start pairs words) log x.target) row
+          (yes_from_linked log h s.base s.change s.published s.decision f.row.target f.from)
         where
           one_rebuild : (a b : ℕ) → Some (RebuildAt a) ≡ Some (RebuildAt b) → a ≡ b
           one_rebuild a b k = cc
@@ -132,7 +143,8 @@ module _ (pairs : List Pair) (words : ℕ) (opens : CanOpen pairs words) where
   pass_behind log h caller node i word can was =
       record {
         inner = λ child is. child_was child (ap (past_rebuild t.pieces) is);
-        target = λ rebuild is. by_rebuild rebuild is (subst (λ o. SlotNames t.pieces node i o) is (slot_names t node i word (names pairs words opens log h) slot));
+        target =
+            λ rebuild is. by_rebuild rebuild is (subst (λ o. SlotNames t.pieces node i o) is (slot_names t node i word (names pairs words opens log h) slot));
       }
     where
       t : Snapshot
@@ -142,7 +154,9 @@ module _ (pairs : List Pair) (words : ℕ) (opens : CanOpen pairs words) where
       slot = in_row can.row can.published can.in_slot
 
       here : Linked (state_of pairs words log) node
-      here = ⊎_elim (λ l. l) (λ f. absurd (unfinished f)) (linked_or_finished pairs words opens log h node was)
+      here =
+          ⊎_elim (λ l. l) (λ f. absurd (unfinished f))
+          (linked_or_finished pairs words opens log h node was)
         where
           unfinished : IsFinished (state_of pairs words log) node → ⊥
           unfinished f =
@@ -165,7 +179,8 @@ module _ (pairs : List Pair) (words : ℕ) (opens : CanOpen pairs words) where
           record {
             row = r.row;
             published = r.published;
-            linked = child_was r.row.target (ap (past_rebuild (state_of pairs words log).pieces) is ∙ ap rebuild_reads r.published);
+            linked =
+                child_was r.row.target (ap (past_rebuild (state_of pairs words log).pieces) is ∙ ap rebuild_reads r.published);
           }
 
   -- a row that may be marked was linked, where the rows behind passed words were
@@ -175,12 +190,15 @@ module _ (pairs : List Pair) (words : ℕ) (opens : CanOpen pairs words) where
   mark_linked log h caller node passed can = cause can.called
     where
       cause : IsCalled (state_of pairs words log) log node → WasLinked (start pairs words) log node
-      cause (as_target rebuild target started) = subst (λ n. WasLinked (start pairs words) log n) target.target_is (started_target_linked log h rebuild target.row target.published started)
+      cause (as_target rebuild target started) =
+          subst (λ n. WasLinked (start pairs words) log n) target.target_is
+          (started_target_linked log h rebuild target.row target.published started)
       cause (as_child above i word p is) = (passed above i word p).inner node is
       cause (behind_rebuild above i word rebuild p is target) =
           let it = (passed above i word p).target rebuild is in
           let row = same_rebuild ((state_of pairs words log).pieces rebuild) it.row target.row it.published target.published in
-          subst (λ n. WasLinked (start pairs words) log n) (ap (λ r. r.target) row ∙ target.target_is) it.linked
+          subst (λ n. WasLinked (start pairs words) log n)
+          (ap (λ r. r.target) row ∙ target.target_is) it.linked
 
   mutual
     -- a row that isn't open was linked
@@ -188,7 +206,8 @@ module _ (pairs : List Pair) (words : ℕ) (opens : CanOpen pairs words) where
         → (node : ℕ) (r : InnerRow)
         → (state_of pairs words log).pieces node ≡ Some (Inner r) → r.status ≢ open_word
         → WasLinked (start pairs words) log node
-    closed_was_linked [] h node r e closed = absurd (closed (start_quiet pairs words node (Inner r) e))
+    closed_was_linked [] h node r e closed =
+        absurd (closed (start_quiet pairs words node (Inner r) e))
     closed_was_linked (event ∷ log) h node r e closed =
         closed_by event h (status_comes pairs words log event h node r e)
         (λ s old shut. closed_was_linked log h.0 node s old shut) (λ at i word p. passed_was_linked log h.0 at i word p)
@@ -200,10 +219,13 @@ module _ (pairs : List Pair) (words : ℕ) (opens : CanOpen pairs words) where
             → ((at i word : ℕ) → Happened (Passes at i word) log
             → IsLinkedBehind pairs words log word)
             → WasLinked (start pairs words) (event ∷ log) node
-        closed_by event all (status_was s old same) before passed = inr (before s old (λ o. closed (same ∙ o)))
+        closed_by event all (status_was s old same) before passed =
+            inr (before s old (λ o. closed (same ∙ o)))
         closed_by event all (is_new none same) before passed = absurd (closed same)
-        closed_by _ all (marked_now {caller = caller} can same) before passed = inr (mark_linked log all.0 caller node passed can)
-        closed_by _ all (finished_now can same) before passed = inr (before can.row can.published (λ o. let one = can.marked in omega arith))
+        closed_by _ all (marked_now {caller = caller} can same) before passed =
+            inr (mark_linked log all.0 caller node passed can)
+        closed_by _ all (finished_now can same) before passed =
+            inr (before can.row can.published (λ o. let one = can.marked in omega arith))
 
     -- the row behind a passed word was linked
     pub passed_was_linked : (log : Log) → EachEnabled (start pairs words) log → (node i word : ℕ)
@@ -213,4 +235,5 @@ module _ (pairs : List Pair) (words : ℕ) (opens : CanOpen pairs words) where
         let it = passing (start pairs words) log event node i word h.1 now in
         behind_later log event h word
         (pass_behind log h.0 it.0 node i word it.1 (closed_was_linked log h.0 node it.1.row it.1.published (λ o. let one = it.1.marked in omega arith)))
-    passed_was_linked (event ∷ log) h node i word (inr before) = behind_later log event h word (passed_was_linked log h.0 node i word before)
+    passed_was_linked (event ∷ log) h node i word (inr before) =
+        behind_later log event h word (passed_was_linked log h.0 node i word before)

@@ -40,7 +40,8 @@ counts_grows : (t u : Snapshot) → AllGrow t.pieces u.pieces → (o : Option Re
     → CountsFor u o k
 counts_grows t u g _ _ no_key = no_key
 counts_grows t u g _ _ one_key = one_key
-counts_grows t u g _ _ (of_child {child = child} {k = k} f) = of_child (finished_with_grows t u g child k f)
+counts_grows t u g _ _ (of_child {child = child} {k = k} f) =
+    of_child (finished_with_grows t u g child k f)
 counts_grows t u g _ _ (of_target {rebuild = rebuild} {target = target} {k = k} h f) =
     of_target (target_grows t u g rebuild target h) (finished_with_grows t u g target k f)
 
@@ -52,8 +53,10 @@ passed_grows : (t u : Snapshot) → AllGrow t.pieces u.pieces → (log : Log) (e
 passed_grows t u g log event node i _ _ [] same past_end = past_end
 passed_grows t u g log event node i _ _ (w ∷ ws) same past_end = absurd (omega arith)
 passed_grows t u g log event node i _ _ [] same (one_passed word p c more) = absurd (omega arith)
-passed_grows t u g log event node i _ _ (w ∷ ws) same (one_passed {here = here} {rest = rest} {slots = slots} word p c more) =
-    one_passed word (inr p) (counts_grows t u g (ref_of word) here c) (passed_grows t u g log event node (i + 1) rest slots ws (omega arith) more)
+passed_grows t u g log event node i _ _ (w ∷ ws) same
+    (one_passed {here = here} {rest = rest} {slots = slots} word p c more) =
+    one_passed word (inr p) (counts_grows t u g (ref_of word) here c)
+    (passed_grows t u g log event node (i + 1) rest slots ws (omega arith) more)
 
 -- a slot was passed with some word
 pub record IsPassed (t : Snapshot) (log : Log) (node i : ℕ) : Type 0 where
@@ -79,9 +82,11 @@ passed_finished : (t : Snapshot) (o : Option Ref) (k child : ℕ) → CountsFor 
     → past_rebuild t.pieces o ≡ Some (InnerAt child) → IsFinished t child
 passed_finished t _ _ child no_key e = absurd (cc)
 passed_finished t _ _ child one_key e = absurd (cc)
-passed_finished t _ _ child (of_child {child = m} {k = k} f) e = let same : m ≡ child = cc in (k, subst (λ n. IsFinishedWith t n k) same f)
+passed_finished t _ _ child (of_child {child = m} {k = k} f) e =
+    let same : m ≡ child = cc in (k, subst (λ n. IsFinishedWith t n k) same f)
 passed_finished t _ _ child (of_target {target = target} {k = k} h f) e =
-    let read : Some (InnerAt h.row.target) ≡ Some (InnerAt child) = sym (ap rebuild_reads h.published) ∙ e in
+    let read : Some (InnerAt h.row.target) ≡ Some (InnerAt child) =
+    sym (ap rebuild_reads h.published) ∙ e in
     let same : h.row.target ≡ child = one_inner h.row.target child read in
     (k, subst (λ n. IsFinishedWith t n k) (sym h.target_is ∙ same) f)
   where
@@ -118,16 +123,22 @@ module _ (pairs : List Pair) (words : ℕ) where
           → ArePassed (state_of pairs words (event ∷ log)) (event ∷ log) node 0 r.slots k
       at event all there (status_was s old same) before =
           let g = grow_behind pairs words log event all in
-          passed_grows (state_of pairs words log) (state_of pairs words (event ∷ log)) g log event node 0 k s.slots r.slots
-          (same_length (state_of pairs words log).pieces (state_of pairs words (event ∷ log)).pieces g node s r old there) (before s old (sym same ∙ is))
-      at event all there (is_new none same) before = let odd : r.status ≡ 4 * k + 3 = is in absurd (omega arith)
-      at _ all there (marked_now can same) before = let odd : r.status ≡ 4 * k + 3 = is in absurd (omega arith)
+          passed_grows (state_of pairs words log)
+          (state_of pairs words (event ∷ log)) g log event node 0 k s.slots r.slots
+          (same_length (state_of pairs words log).pieces (state_of pairs words (event ∷ log)).pieces g node s r old there)
+          (before s old (sym same ∙ is))
+      at event all there (is_new none same) before =
+          let odd : r.status ≡ 4 * k + 3 = is in absurd (omega arith)
+      at _ all there (marked_now can same) before =
+          let odd : r.status ≡ 4 * k + 3 = is in absurd (omega arith)
       at _ all there (finished_now {caller = caller} {keys = keys} can same) before =
           let g = grow_behind pairs words log (Finish caller node keys) all in
           let odd : r.status ≡ 4 * k + 3 = is in
           let also : r.status ≡ 4 * keys + 3 = same in
           let one : keys ≡ k = omega arith in
-          passed_grows (state_of pairs words log) (state_of pairs words (Finish caller node keys ∷ log)) g log (Finish caller node keys) node 0 k can.row.slots r.slots
+          passed_grows (state_of pairs words log)
+          (state_of pairs words (Finish caller node keys ∷ log)) g log
+          (Finish caller node keys) node 0 k can.row.slots r.slots
           (same_length (state_of pairs words log).pieces (state_of pairs words (Finish caller node keys ∷ log)).pieces g node can.row r can.published there)
           (subst (λ n. ArePassed (state_of pairs words log) log node 0 can.row.slots n) one can.passed)
 
@@ -136,12 +147,15 @@ module _ (pairs : List Pair) (words : ℕ) where
       → IsFinished (state_of pairs words log) node
       → SlotHolds (state_of pairs words log) node i word
       → IsPassed (state_of pairs words log) log node i
-  finished_slot log h node i word f (in_anchor a b e) = absurd (no_row (state_of pairs words log).pieces node f.1.row (anchor_free pairs words log h) a f.1.published)
+  finished_slot log h node i word f (in_anchor a b e) =
+      absurd
+      (no_row (state_of pairs words log).pieces node f.1.row (anchor_free pairs words log h) a f.1.published)
   finished_slot log h node i word f (in_row r e g) =
       let t = state_of pairs words log in
       let same = same_inner (t.pieces node) f.1.row r f.1.published e in
       let first : 0 + i ≡ i = omega arith in
-      subst (λ j. IsPassed t log node j) first (passed_at t log node 0 f.0 r.slots (finished_passed log h node f.0 r e (ap (λ x. x.status) (sym same) ∙ f.1.status)) i word g)
+      subst (λ j. IsPassed t log node j) first
+      (passed_at t log node 0 f.0 r.slots (finished_passed log h node f.0 r e (ap (λ x. x.status) (sym same) ∙ f.1.status)) i word g)
 
   -- each logical child of a finished row is finished
   pub finished_down : CanOpen pairs words → (log : Log) → EachEnabled (start pairs words) log
@@ -151,4 +165,5 @@ module _ (pairs : List Pair) (words : ℕ) where
   finished_down opens log h node i child f c =
       let t = state_of pairs words log in
       let p = finished_slot log h node i c.word f c.holds in
-      passed_finished t (ref_of p.word) p.k child p.counts (sym (frozen_reads pairs words opens log h node i p.word c.word p.passed c.holds) ∙ c.reads)
+      passed_finished t (ref_of p.word) p.k child p.counts
+      (sym (frozen_reads pairs words opens log h node i p.word c.word p.passed c.holds) ∙ c.reads)

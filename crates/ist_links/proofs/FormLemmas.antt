@@ -35,7 +35,8 @@ finished_grows t u g node h = (h.0, finished_with_grows t u g node h.0 h.1)
 pub leaf_of_grows : (t u : Snapshot) → AllGrow t.pieces u.pieces → (base key : ℕ)
     → IsLeafOf t base key
     → IsLeafOf u base key
-leaf_of_grows t u g base key h = record { row = h.row; published = leaf_there t.pieces u.pieces g base h.row h.published; key_is = h.key_is }
+leaf_of_grows t u g base key h =
+    record { row = h.row; published = leaf_there t.pieces u.pieces g base h.row h.published; key_is = h.key_is }
 
 pub room_grows : (t u : Snapshot) → AllGrow t.pieces u.pieces → (key word : ℕ)
     → HasRoomFor t key word
@@ -153,7 +154,8 @@ formed_grows t u g change (of_leaf_put h) =
       from = room_grows t u g change.key change.from h.from;
       leaf = h.leaf;
       to = h.to;
-      new = leaf_there t.pieces u.pieces g h.leaf record { key = change.key; value = change.value } h.new;
+      new =
+          leaf_there t.pieces u.pieces g h.leaf record { key = change.key; value = change.value } h.new;
     }
 formed_grows t u g change (of_pair_put h) =
     let it = inner_there t.pieces u.pieces g h.pair h.row h.published in
@@ -165,16 +167,19 @@ formed_grows t u g change (of_pair_put h) =
       stands = leaf_of_grows t u g h.other h.other_key h.stands;
       differs = h.differs;
       leaf = h.leaf;
-      new = leaf_there t.pieces u.pieces g h.leaf record { key = change.key; value = change.value } h.new;
+      new =
+          leaf_there t.pieces u.pieces g h.leaf record { key = change.key; value = change.value } h.new;
       pair = h.pair;
       to = h.to;
       above = h.above;
       row = it.0;
       published = it.1;
-      grew = grows_on (pair_row change.key h.leaf h.other_key h.other) (Inner h.row) (Inner it.0) h.grew (inner_grows it.2);
+      grew =
+          grows_on (pair_row change.key h.leaf h.other_key h.other) (Inner h.row) (Inner it.0) h.grew (inner_grows it.2);
     }
 formed_grows t u g change (of_remove h) =
-    of_remove record { kind = h.kind; leaf = h.leaf; from = h.from; stands = leaf_of_grows t u g h.leaf change.key h.stands; to = h.to }
+    of_remove
+    record { kind = h.kind; leaf = h.leaf; from = h.from; stands = leaf_of_grows t u g h.leaf change.key h.stands; to = h.to }
 formed_grows t u g change (of_start h) =
     let it = rebuild_there t.pieces u.pieces g h.rebuild h.row h.published in
     of_start record {
@@ -201,12 +206,14 @@ formed_grows t u g change (of_finish h) =
       parent = it.2.parent ∙ h.parent;
       index = it.2.index ∙ h.index;
       started = started_grows t u g h.rebuild h.started;
-      finished = subst (λ n. IsFinished u n) (sym it.2.target) (finished_grows t u g h.row.target h.finished);
+      finished =
+          subst (λ n. IsFinished u n) (sym it.2.target) (finished_grows t u g h.row.target h.finished);
     }
 
 pub formed_decided : (t : Snapshot) (change : ChangeRow) (word : ℕ) → IsFormed t change
     → IsFormed t record change { decision = word }
-formed_decided t change word (of_leaf_put h) = of_leaf_put record { kind = h.kind; from = h.from; leaf = h.leaf; to = h.to; new = h.new }
+formed_decided t change word (of_leaf_put h) =
+    of_leaf_put record { kind = h.kind; from = h.from; leaf = h.leaf; to = h.to; new = h.new }
 formed_decided t change word (of_pair_put h) =
     of_pair_put record {
       kind = h.kind;
@@ -224,9 +231,11 @@ formed_decided t change word (of_pair_put h) =
       published = h.published;
       grew = h.grew;
     }
-formed_decided t change word (of_remove h) = of_remove record { kind = h.kind; leaf = h.leaf; from = h.from; stands = h.stands; to = h.to }
+formed_decided t change word (of_remove h) =
+    of_remove record { kind = h.kind; leaf = h.leaf; from = h.from; stands = h.stands; to = h.to }
 formed_decided t change word (of_start h) =
-    of_start record { kind = h.kind; rebuild = h.rebuild; row = h.row; from = h.from; to = h.to; published = h.published; parent = h.parent; index = h.index }
+    of_start
+    record { kind = h.kind; rebuild = h.rebuild; row = h.row; from = h.from; to = h.to; published = h.published; parent = h.parent; index = h.index }
 formed_decided t change word (of_finish h) =
     of_finish record {
       kind = h.kind;

@@ -41,7 +41,8 @@ fresh_behind first log caller base rows h s at p is =
     let qs = with_installed t.pieces base h.change h.fresh in
     let f = with_slot h.change.index (word_of (ChangeAt base)) in
     let there = fresh_stands first log caller base h.change h.fresh s t.pieces h.fits (holds_installed first log caller base rows h) at p is in
-    subst (λ xs. (q : Piece) × ((after t (Install caller base xs)).pieces at ≡ Some q) × Grows p q) (sym h.rows_are)
+    subst (λ xs. (q : Piece) × ((after t (Install caller base xs)).pieces at ≡ Some q) × Grows p q)
+    (sym h.rows_are)
     (all_grow-changed_at qs h.change.node f (λ x _. grows-with_slot h.change.index (word_of (ChangeAt base)) x) at p there)
 
 -- a leaf doesn't grow
@@ -78,7 +79,8 @@ formed_installed first log caller base rows done g change fresh (kinds.a_put h) 
       from = room_grows (state first log) u g change.key change.from h.from;
       leaf = h.leaf;
       to = h.to;
-      new = it.1 ∙ ap (λ x. Some x) (leaf_grown record { key = change.key; value = change.value } it.0 it.2);
+      new =
+          it.1 ∙ ap (λ x. Some x) (leaf_grown record { key = change.key; value = change.value } it.0 it.2);
     }
 formed_installed first log caller base rows done g change fresh (kinds.a_pair h) behind =
     let u = state first (Install caller base rows ∷ log) in
@@ -95,7 +97,8 @@ formed_installed first log caller base rows done g change fresh (kinds.a_pair h)
       stands = leaf_of_grows (state first log) u g h.other h.other_key h.stands;
       differs = h.differs;
       leaf = h.leaf;
-      new = leaf.1 ∙ ap (λ x. Some x) (leaf_grown record { key = change.key; value = change.value } leaf.0 leaf.2);
+      new =
+          leaf.1 ∙ ap (λ x. Some x) (leaf_grown record { key = change.key; value = change.value } leaf.0 leaf.2);
       pair = h.pair;
       to = h.to;
       above = h.above;
@@ -108,7 +111,8 @@ formed_installed first log caller base rows done g change fresh (kinds.a_remove 
       kind = h.kind;
       leaf = h.leaf;
       from = h.from;
-      stands = leaf_of_grows (state first log) (state first (Install caller base rows ∷ log)) g h.leaf change.key h.stands;
+      stands =
+          leaf_of_grows (state first log) (state first (Install caller base rows ∷ log)) g h.leaf change.key h.stands;
       to = h.to;
     }
 formed_installed first log caller base rows done g change fresh (kinds.a_start h) behind =
@@ -145,7 +149,9 @@ module _ (pairs : List Pair) (words : ℕ) where
   pub finished_step : (log : Log) (event : Event) → EachEnabled (start pairs words) (event ∷ log)
       → (node : ℕ) → IsFinished (state_of pairs words log) node
       → IsFinished (state_of pairs words (event ∷ log)) node
-  finished_step log event h node f = finished_grows (state_of pairs words log) (state_of pairs words (event ∷ log)) (grow_behind pairs words log event h) node f
+  finished_step log event h node f =
+      finished_grows (state_of pairs words log) (state_of pairs words (event ∷ log))
+      (grow_behind pairs words log event h) node f
 
   -- a rebuild with a root has a finished target
   pub rooted_is_finished : (log : Log) → EachEnabled (start pairs words) log
@@ -153,7 +159,8 @@ module _ (pairs : List Pair) (words : ℕ) where
       → (state_of pairs words log).pieces base ≡ Some (Rebuild r) → r.root ≢ unset_word
       → IsFinished (state_of pairs words log) r.target
   rooted_is_finished =
-      rebuilds_by pairs words (λ log base r. r.root ≢ unset_word → IsFinished (state_of pairs words log) r.target)
+      rebuilds_by pairs words
+      (λ log base r. r.root ≢ unset_word → IsFinished (state_of pairs words log) r.target)
       (λ log event h base r old there before set. finished_step log event h r.target (before set))
       (λ log caller change rows h can s set. absurd (set refl))
       (λ log caller base word rows h can before set. finished_step log (Root caller base word rows) h can.row.target (can.k, can.finished))
@@ -168,8 +175,10 @@ module _ (pairs : List Pair) (words : ℕ) where
       changes_by pairs words (λ log base x. IsFormed (state_of pairs words log) x)
       (λ log event h base x old there formed. formed_grows (state_of pairs words log) (state_of pairs words (event ∷ log)) (grow_behind pairs words log event h) x formed)
       (λ log caller base rows h can.
-      formed_installed (start pairs words) log caller base rows (rooted_is_finished log h.0) (grow_behind pairs words log (Install caller base rows) h) can.change can.fresh can.fits
+      formed_installed (start pairs words) log caller base rows (rooted_is_finished log h.0)
+      (grow_behind pairs words log (Install caller base rows) h) can.change can.fresh can.fits
       (fresh_behind (start pairs words) log caller base rows can (sound_behind pairs words log h.0)))
       (λ log caller base said h can formed.
-      formed_decided (state_of pairs words (Decide caller base said ∷ log)) can.change (decision_word said)
+      formed_decided (state_of pairs words (Decide caller base said ∷ log)) can.change
+      (decision_word said)
       (formed_grows (state_of pairs words log) (state_of pairs words (Decide caller base said ∷ log)) (grow_behind pairs words log (Decide caller base said) h) can.change formed))

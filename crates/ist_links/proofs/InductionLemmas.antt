@@ -65,7 +65,8 @@ module _ (pairs : List Pair) (words : ℕ) where
       → (state_of pairs words log).pieces base ≡ Some (Change x) → P log base x
   changes_by P keep new decide [] h base x e = absurd (no_change_first base x e)
   changes_by P keep new decide (event ∷ log) h base x e =
-      at event h e (change_comes pairs words log event h base x e) (changes_by P keep new decide log h.0)
+      at event h e (change_comes pairs words log event h base x e)
+      (changes_by P keep new decide log h.0)
     where
       at : (event : Event) → EachEnabled (start pairs words) (event ∷ log)
           → (state_of pairs words (event ∷ log)).pieces base ≡ Some (Change x)
@@ -73,9 +74,14 @@ module _ (pairs : List Pair) (words : ℕ) where
           → ((b : ℕ) (y : ChangeRow) → (state_of pairs words log).pieces b ≡ Some (Change y)
           → P log b y)
           → P (event ∷ log) base x
-      at event all there (change_was old) before = keep log event all base x old there (before base x old)
-      at _ all there (is_installed {caller = caller} {rows = rows} k is) before = subst (λ y. P (Install caller base rows ∷ log) base y) (sym is) (new log caller base rows all k)
-      at _ all there (is_decided {caller = caller} {said = said} k is) before = subst (λ y. P (Decide caller base said ∷ log) base y) (sym is) (decide log caller base said all k (before base k.change k.pending.published))
+      at event all there (change_was old) before =
+          keep log event all base x old there (before base x old)
+      at _ all there (is_installed {caller = caller} {rows = rows} k is) before =
+          subst (λ y. P (Install caller base rows ∷ log) base y) (sym is)
+          (new log caller base rows all k)
+      at _ all there (is_decided {caller = caller} {said = said} k is) before =
+          subst (λ y. P (Decide caller base said ∷ log) base y) (sym is)
+          (decide log caller base said all k (before base k.change k.pending.published))
 
   -- what holds of each published rebuild: it holds where one is begun, and a root, a Draw and each other event keep it
   pub rebuilds_by : (P : Log → ℕ → RebuildRow → Type 0)
@@ -100,7 +106,8 @@ module _ (pairs : List Pair) (words : ℕ) where
       → (state_of pairs words log).pieces base ≡ Some (Rebuild x) → P log base x
   rebuilds_by P keep new root draw [] h base x e = absurd (no_rebuild_first base x e)
   rebuilds_by P keep new root draw (event ∷ log) h base x e =
-      at event h e (rebuild_comes pairs words log event h base x e) (rebuilds_by P keep new root draw log h.0)
+      at event h e (rebuild_comes pairs words log event h base x e)
+      (rebuilds_by P keep new root draw log h.0)
     where
       at : (event : Event) → EachEnabled (start pairs words) (event ∷ log)
           → (state_of pairs words (event ∷ log)).pieces base ≡ Some (Rebuild x)
@@ -108,9 +115,15 @@ module _ (pairs : List Pair) (words : ℕ) where
           → ((b : ℕ) (y : RebuildRow) → (state_of pairs words log).pieces b ≡ Some (Rebuild y)
           → P log b y)
           → P (event ∷ log) base x
-      at event all there (rebuild_was old) before = keep log event all base x old there (before base x old)
-      at _ all there (is_begun {caller = caller} {change = change} {rows = rows} k s here is) before =
+      at event all there (rebuild_was old) before =
+          keep log event all base x old there (before base x old)
+      at _ all there
+          (is_begun {caller = caller} {change = change} {rows = rows} k s here is) before =
           subst (λ y. P (Install caller change rows ∷ log) base y) (sym is)
           (subst (λ b. P (Install caller change rows ∷ log) b (new_rebuild_row k.change s.target)) (sym here) (new log caller change rows all k s))
-      at _ all there (is_rooted {caller = caller} {word = word} {rows = rows} k is) before = subst (λ y. P (Root caller base word rows ∷ log) base y) (sym is) (root log caller base word rows all k (before base k.row k.published))
-      at _ all there (is_drawn {caller = caller} {part = part} k is) before = subst (λ y. P (Draw caller base part ∷ log) base y) (sym is) (draw log caller base part all k (before base k.row k.published))
+      at _ all there (is_rooted {caller = caller} {word = word} {rows = rows} k is) before =
+          subst (λ y. P (Root caller base word rows ∷ log) base y) (sym is)
+          (root log caller base word rows all k (before base k.row k.published))
+      at _ all there (is_drawn {caller = caller} {part = part} k is) before =
+          subst (λ y. P (Draw caller base part ∷ log) base y) (sym is)
+          (draw log caller base part all k (before base k.row k.published))

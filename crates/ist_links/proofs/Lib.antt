@@ -9,6 +9,7 @@ pub mod ChangeLemmas
 pub mod FormLemmas
 pub mod FormedLemmas
 pub mod ReadLemmas
+pub mod ReadEventLemmas
 pub mod ReadStepLemmas
 pub mod PassLemmas
 pub mod FinishedLemmas

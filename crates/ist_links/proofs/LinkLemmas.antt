@@ -37,11 +37,14 @@ module _ (pairs : List Pair) (words : ℕ) (opens : CanOpen pairs words) where
       → (node : ℕ) → Linked (state_of pairs words log) node
       → Linked (state_of pairs words (event ∷ log)) node ⊎ IsFinished (state_of pairs words log) node
   linked_step log event h _ at_anchor = inl at_anchor
-  linked_step log event h _ (below {node = node} {child = child} i l c) = at (linked_step log event h node l)
+  linked_step log event h _ (below {node = node} {child = child} i l c) =
+      at (linked_step log event h node l)
     where
       at : Linked (state_of pairs words (event ∷ log)) node ⊎ IsFinished (state_of pairs words log) node
           → Linked (state_of pairs words (event ∷ log)) child ⊎ IsFinished (state_of pairs words log) child
-      at (inl on) = ⊎_elim (λ d. inl (below i on d)) (λ f. inr f) (child_step pairs words opens log event h node i child c)
+      at (inl on) =
+          ⊎_elim (λ d. inl (below i on d)) (λ f. inr f)
+          (child_step pairs words opens log event h node i child c)
       at (inr f) = inr (finished_down pairs words opens log h.0 node i child f c)
 
   -- a row that was linked is linked or finished
@@ -59,7 +62,9 @@ module _ (pairs : List Pair) (words : ℕ) (opens : CanOpen pairs words) where
   -- an open row isn't finished
   pub open_unfinished : (log : Log) → EachEnabled (start pairs words) log → (node : ℕ)
       → IsOpen (state_of pairs words log) node → IsFinished (state_of pairs words log) node → ⊥
-  open_unfinished log h node (anchor_is a) f = no_row (state_of pairs words log).pieces node f.1.row (anchor_free pairs words log h) a f.1.published
+  open_unfinished log h node (anchor_is a) f =
+      no_row (state_of pairs words log).pieces node f.1.row
+      (anchor_free pairs words log h) a f.1.published
   open_unfinished log h node (row_is r e o) f =
       let same = same_inner ((state_of pairs words log).pieces node) f.1.row r f.1.published e in
       let odd : f.1.row.status ≡ 4 * f.0 + 3 = f.1.status in
@@ -70,7 +75,9 @@ module _ (pairs : List Pair) (words : ℕ) (opens : CanOpen pairs words) where
   pub open_linked : (log : Log) → EachEnabled (start pairs words) log → (node : ℕ)
       → WasLinked (start pairs words) log node → IsOpen (state_of pairs words log) node
       → Linked (state_of pairs words log) node
-  open_linked log h node was o = ⊎_elim (λ l. l) (λ f. absurd (open_unfinished log h node o f)) (linked_or_finished log h node was)
+  open_linked log h node was o =
+      ⊎_elim (λ l. l) (λ f. absurd (open_unfinished log h node o f))
+      (linked_or_finished log h node was)
 
   -- a slot in which an unresolved change with an Okay stands wasn't passed
   pub okayed_unpassed : (log : Log) → EachEnabled (start pairs words) log
@@ -83,11 +90,18 @@ module _ (pairs : List Pair) (words : ℕ) (opens : CanOpen pairs words) where
       -- the word of the change is all that the slot holds
       alone : (w : ℕ) → SlotHolds (state_of pairs words log) x.node x.index w
           → w ≡ word_of (ChangeAt base)
-      alone w slot = slot_once (state_of pairs words log) x.node x.index w (word_of (ChangeAt base)) (anchor_free pairs words log h) slot (unresolved_stands pairs words opens log h base x e unresolved)
+      alone w slot =
+          slot_once (state_of pairs words log) x.node x.index w (word_of (ChangeAt base))
+          (anchor_free pairs words log h) slot
+          (unresolved_stands pairs words opens log h base x e unresolved)
 
       keeps : KeepsWord (state_of pairs words log) log x.node x.index word → ⊥
-      keeps (holds_it slot) = passed_no_change (start pairs words) log x.node x.index word h passed base (ap ref_of (alone word slot) ∙ change_read pairs words opens log h base x e)
-      keeps (holds_change v) = v.unseen (subst (λ b. Happened (Okays b) log) (sym (same_change_word v.base base (alone (word_of (ChangeAt v.base)) v.in_slot))) okay)
+      keeps (holds_it slot) =
+          passed_no_change (start pairs words) log x.node x.index word h passed base
+          (ap ref_of (alone word slot) ∙ change_read pairs words opens log h base x e)
+      keeps (holds_change v) =
+          v.unseen
+          (subst (λ b. Happened (Okays b) log) (sym (same_change_word v.base base (alone (word_of (ChangeAt v.base)) v.in_slot))) okay)
 
   -- the node of an undecided change with an Okay isn't finished
   pub okayed_unfinished : (log : Log) → EachEnabled (start pairs words) log
@@ -96,14 +110,16 @@ module _ (pairs : List Pair) (words : ℕ) (opens : CanOpen pairs words) where
       → Happened (Okays base) log → ¬ (IsFinished (state_of pairs words log) x.node)
   okayed_unfinished log h base x e none okay f =
       let p = finished_slot pairs words log h x.node x.index (word_of (ChangeAt base)) f (undecided_stands pairs words opens log h base x e none) in
-      okayed_unpassed log h base x e (undecided_unresolved pairs words opens log h base x e none) okay p.word p.passed
+      okayed_unpassed log h base x e
+      (undecided_unresolved pairs words opens log h base x e none) okay p.word p.passed
 
   -- it is linked
   pub okayed_linked : (log : Log) → EachEnabled (start pairs words) log → (base : ℕ) (x : ChangeRow)
       → (state_of pairs words log).pieces base ≡ Some (Change x) → x.decision ≡ undecided
       → Happened (Okays base) log → Linked (state_of pairs words log) x.node
   okayed_linked log h base x e none okay =
-      ⊎_elim (λ l. l) (λ f. absurd (okayed_unfinished log h base x e none okay f)) (linked_or_finished log h x.node (node_was_linked pairs words opens log h base x e))
+      ⊎_elim (λ l. l) (λ f. absurd (okayed_unfinished log h base x e none okay f))
+      (linked_or_finished log h x.node (node_was_linked pairs words opens log h base x e))
 
   -- ---- a yes
 
@@ -113,14 +129,17 @@ module _ (pairs : List Pair) (words : ℕ) (opens : CanOpen pairs words) where
       → (x : ChangeRow) → (state_of pairs words log).pieces base ≡ Some (Change x)
       → x.decision ≡ undecided
   deciding log caller base said h x e =
-      ap (λ c. c.decision) (sym (same_change ((state_of pairs words log).pieces base) h.1.change x h.1.pending.published e)) ∙ h.1.pending.unset
+      ap (λ c. c.decision)
+      (sym (same_change ((state_of pairs words log).pieces base) h.1.change x h.1.pending.published e))
+      ∙ h.1.pending.unset
 
   -- at a yes the node of the change is linked
   pub yes_linked : (log : Log) (caller base : ℕ)
       → EachEnabled (start pairs words) (Decide caller base true ∷ log)
       → (x : ChangeRow) → (state_of pairs words log).pieces base ≡ Some (Change x)
       → Linked (state_of pairs words log) x.node
-  yes_linked log caller base h x e = okayed_linked log h.0 base x e (deciding log caller base true h x e) h.1.outcome
+  yes_linked log caller base h x e =
+      okayed_linked log h.0 base x e (deciding log caller base true h x e) h.1.outcome
 
   -- and it is linked behind it
   pub yes_linked_behind : (log : Log) (caller base : ℕ)
@@ -143,17 +162,21 @@ module _ (pairs : List Pair) (words : ℕ) (opens : CanOpen pairs words) where
   refused_on earlier _ same_log h base x e none f y there =
       let same = same_change ((state_of pairs words earlier).pieces base) x y e there in
       (λ said. let zero_word : y.decision ≡ 0 = ap (λ c. c.decision) (sym same) ∙ none in absurd (omega arith), subst (λ c. IsFinished (state_of pairs words earlier) c.node) same f)
-  refused_on earlier _ (one_event {log = log} event on) h base x e none f y there = at event h (change_comes pairs words log event h base y there) (refused_on earlier log on h.0 base x e none f)
+  refused_on earlier _ (one_event {log = log} event on) h base x e none f y there =
+      at event h (change_comes pairs words log event h base y there)
+      (refused_on earlier log on h.0 base x e none f)
     where
       at : (event : Event) → EachEnabled (start pairs words) (event ∷ log)
           → ChangeComes (start pairs words) log base y event
           → ((z : ChangeRow) → (state_of pairs words log).pieces base ≡ Some (Change z)
           → (z.decision ≢ decided_yes) × IsFinished (state_of pairs words log) z.node)
           → (y.decision ≢ decided_yes) × IsFinished (state_of pairs words (event ∷ log)) y.node
-      at event all (change_was old) before = let it = before y old in (it.0, finished_step pairs words log event all y.node it.1)
+      at event all (change_was old) before =
+          let it = before y old in (it.0, finished_step pairs words log event all y.node it.1)
       at _ all (is_installed {caller = caller} {rows = rows} can same) before =
           let stood = change_there (state_of pairs words earlier).pieces (state_of pairs words log).pieces (grow_between pairs words earlier log h.0 on) base x e in
-          absurd (no_piece ((state_of pairs words log).pieces base) (Change stood.0) (install_free (start pairs words) log caller base rows can (sound_behind pairs words log h.0)) stood.1)
+          absurd
+          (no_piece ((state_of pairs words log).pieces base) (Change stood.0) (install_free (start pairs words) log caller base rows can (sound_behind pairs words log h.0)) stood.1)
       at _ all (is_decided {caller = caller} {said = said} can same) before =
           let it = before can.change can.pending.published in (
             λ yes_word. okayed_unfinished log h.0 base can.change can.pending.published can.pending.unset

@@ -127,7 +127,8 @@ inner_is r x e = cc
 -- the row was an inner one with this status, where the change of a row leaves statuses
 abbrev pub KeepsStatuses : (Piece → Piece) → Type 0
 KeepsStatuses f =
-    (p : Piece) (x : InnerRow) → f p ≡ Inner x → (r : InnerRow) × (p ≡ Inner r) × (x.status ≡ r.status)
+    (p : Piece) (x : InnerRow) → f p ≡ Inner x → (r : InnerRow) × (p ≡ Inner r) ×
+    (x.status ≡ r.status)
 
 pub status-with_slot : (i word : ℕ) → KeepsStatuses (with_slot i word)
 status-with_slot i word (Inner r) x e = (r, refl, ap (λ y. y.status) (inner_is _ x e))

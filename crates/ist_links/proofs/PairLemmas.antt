@@ -36,7 +36,8 @@ use Rattle.ist_links.proofs.ChangeLemmas.{said_something, undecided_stands}
 use Rattle.ist_links.proofs.FormLemmas.{leaf_of_grows}
 use Rattle.ist_links.proofs.FormedLemmas.{fresh_behind, leaf_grown}
 use Rattle.ist_links.proofs.InductionLemmas.{changes_by, grow_behind, sound_behind}
-use Rattle.ist_links.proofs.ReadLemmas.{change_past, side_undecided}
+use Rattle.ist_links.proofs.ReadEventLemmas.{change_past}
+use Rattle.ist_links.proofs.ReadLemmas.{side_undecided}
 use Rattle.ist_links.proofs.TurnLemmas.{slot_stood}
 use Rattle.ist_links.proofs.UntouchedLemmas.{inner_row, not_the_anchor, stays_whole, untouched, was_linked_here}
 use Rattle.ist_core.specs.Installing as kinds
@@ -60,7 +61,8 @@ module _ (pairs : List Pair) (words : ℕ) (opens : CanOpen pairs words) where
       let stands = undecided_stands pairs words opens log h base x e none in
       let slot = subst (λ n. SlotHolds t n i c.word) home.0 c.holds in
       let same = slot_once t x.node x.index c.word (word_of (ChangeAt base)) (anchor_free pairs words log h) (subst (λ j. SlotHolds t x.node j c.word) home.1 slot) stands in
-      ne (sym (ap (past_rebuild t.pieces) (change_past pairs words opens log h base x e ∙ ap ref_of (side_undecided x none))) ∙ ap (logical t.pieces) (sym same) ∙ c.reads)
+      ne
+      (sym (ap (past_rebuild t.pieces) (change_past pairs words opens log h base x e ∙ ap ref_of (side_undecided x none))) ∙ ap (logical t.pieces) (sym same) ∙ c.reads)
 
 -- ---- pair rows
 
@@ -83,7 +85,8 @@ leaf_set base e = let seven : base * 8 + 1 ≡ 7 = e in omega arith
 -- no slot of a pair row is left to be set
 over_set : (key left right i : ℕ) (r : InnerRow) → pair_over key left right ≡ Inner r
     → slice_get r.slots i ≢ Some unset_word
-over_set key left right i r e k = at i (subst (λ x. slice_get x.slots i ≡ Some unset_word) (sym (inner_row _ r e)) k)
+over_set key left right i r e k =
+    at i (subst (λ x. slice_get x.slots i ≡ Some unset_word) (sym (inner_row _ r e)) k)
   where
     word : (a b : ℕ) → Some a ≡ Some b → a ≡ b
     word a b q = cc
@@ -127,7 +130,8 @@ module _ (pairs : List Pair) (words : ℕ) (opens : CanOpen pairs words) where
         stands = now;
         differs = f.differs;
         new = leaf_there t.pieces u.pieces g f.leaf record { key = x.key; value = x.value } f.new;
-        published = on.1 ∙ ap (λ r. Some (Inner r)) (stays_whole (start pairs words) log event pair row.0 on.0 e (λ i. pair_set x.key f.leaf f.other_key f.other i row.0 row.1) on.2) ∙ ap (λ p. Some p) (sym row.1);
+        published =
+            on.1 ∙ ap (λ r. Some (Inner r)) (stays_whole (start pairs words) log event pair row.0 on.0 e (λ i. pair_set x.key f.leaf f.other_key f.other i row.0 row.1) on.2) ∙ ap (λ p. Some p) (sym row.1);
         never = λ was. ⊎_elim
             (λ linked. to_unlinked pairs words opens (event ∷ log) h base x there none pair to
             (λ k. leads k)
@@ -137,7 +141,8 @@ module _ (pairs : List Pair) (words : ℕ) (opens : CanOpen pairs words) where
       }
     where
       leads : past_rebuild (state_of pairs words (event ∷ log)).pieces (ref_of x.from) ≡ Some (InnerAt pair) → ⊥
-      leads k = clash (ap (past_rebuild (state_of pairs words (event ∷ log)).pieces) (sym f.from) ∙ k)
+      leads k =
+          clash (ap (past_rebuild (state_of pairs words (event ∷ log)).pieces) (sym f.from) ∙ k)
         where
           clash : Some (LeafAt f.other) ≡ Some (InnerAt pair) → ⊥
           clash q = cc
@@ -149,7 +154,9 @@ module _ (pairs : List Pair) (words : ℕ) (opens : CanOpen pairs words) where
       → (pair : ℕ)
       → ref_of can.change.to ≡ Some (InnerAt pair)
       → IsFilledPair pairs words (Install caller base rows ∷ log) can.change pair
-  filled_install log caller base rows h can kind pair to = at can.fits (fresh_behind (start pairs words) log caller base rows can s) (fresh_stands (start pairs words) log caller base can.change can.fresh s (state_of pairs words log).pieces can.fits holds)
+  filled_install log caller base rows h can kind pair to =
+      at can.fits (fresh_behind (start pairs words) log caller base rows can s)
+      (fresh_stands (start pairs words) log caller base can.change can.fresh s (state_of pairs words log).pieces can.fits holds)
     where
       s : IsSound (state_of pairs words log)
       s = sound_behind pairs words log h.0
@@ -168,10 +175,15 @@ module _ (pairs : List Pair) (words : ℕ) (opens : CanOpen pairs words) where
         where
           clash : Some (LeafAt f.leaf) ≡ Some (InnerAt pair) → ⊥
           clash q = cc
-      at (kinds.a_remove f) behind stands = absurd (let one : ◌≡◌ {A = ℕ} 1 2 = sym kind ∙ f.kind in omega arith)
-      at (kinds.a_start f) behind stands = absurd (let one : ◌≡◌ {A = ℕ} 1 3 = sym kind ∙ f.kind in omega arith)
-      at (kinds.a_finish f) behind stands = absurd (let one : ◌≡◌ {A = ℕ} 1 4 = sym kind ∙ f.kind in omega arith)
-      at (kinds.a_pair f) behind stands = subst (λ n. IsFilledPair pairs words (Install caller base rows ∷ log) can.change n) (one_inner f.pair pair (sym f.to ∙ to)) filled
+      at (kinds.a_remove f) behind stands =
+          absurd (let one : ◌≡◌ {A = ℕ} 1 2 = sym kind ∙ f.kind in omega arith)
+      at (kinds.a_start f) behind stands =
+          absurd (let one : ◌≡◌ {A = ℕ} 1 3 = sym kind ∙ f.kind in omega arith)
+      at (kinds.a_finish f) behind stands =
+          absurd (let one : ◌≡◌ {A = ℕ} 1 4 = sym kind ∙ f.kind in omega arith)
+      at (kinds.a_pair f) behind stands =
+          subst (λ n. IsFilledPair pairs words (Install caller base rows ∷ log) can.change n)
+          (one_inner f.pair pair (sym f.to ∙ to)) filled
         where
           one_inner : (a b : ℕ) → Some (InnerAt a) ≡ Some (InnerAt b) → a ≡ b
           one_inner a b q = cc
@@ -179,26 +191,39 @@ module _ (pairs : List Pair) (words : ℕ) (opens : CanOpen pairs words) where
           none : (state_of pairs words log).pieces f.pair ≡ None
           none =
               let held = subst (λ xs. HoldsRows (state_of pairs words log) caller (row_at base (Change can.change) ∷ xs)) f.fresh_are holds in
-              s.unpublished record { caller = caller; base = f.pair; size = length (words_of (pair_row can.change.key f.leaf f.other_key f.other)) } held.1.0
+              s.unpublished
+              record { caller = caller; base = f.pair; size = length (words_of (pair_row can.change.key f.leaf f.other_key f.other)) } held.1.0
 
           grown : (q : Piece)
-              × ((state_of pairs words (Install caller base rows ∷ log)).pieces f.pair ≡ Some q) × Grows (pair_row can.change.key f.leaf f.other_key f.other) q
-          grown = behind f.pair (pair_row can.change.key f.leaf f.other_key f.other) (inl (refl, refl))
+              ×
+              ((state_of pairs words (Install caller base rows ∷ log)).pieces f.pair ≡ Some q) × Grows
+              (pair_row can.change.key f.leaf f.other_key f.other) q
+          grown =
+              behind f.pair (pair_row can.change.key f.leaf f.other_key f.other) (inl (refl, refl))
 
           apart : f.pair ≢ can.change.node
-          apart e = slot_stood pairs words log (Install caller base rows) h can.change.node can.change.index can.change.from can.in_slot f.pair grown.0 grown.1 e none
+          apart e =
+              slot_stood pairs words log
+              (Install caller base rows) h can.change.node can.change.index can.change.from can.in_slot f.pair grown.0 grown.1 e none
 
           there : (state_of pairs words (Install caller base rows ∷ log)).pieces f.pair ≡ Some (pair_row can.change.key f.leaf f.other_key f.other)
           there =
               let qs = with_installed (state_of pairs words log).pieces base can.change can.fresh in
-              subst (λ xs. (after (state_of pairs words log) (Install caller base xs)).pieces f.pair ≡ Some (pair_row can.change.key f.leaf f.other_key f.other)) (sym can.rows_are)
+              subst
+              (λ xs. (after (state_of pairs words log) (Install caller base xs)).pieces f.pair ≡ Some (pair_row can.change.key f.leaf f.other_key f.other))
+              (sym can.rows_are)
               (changed_at-other qs can.change.node f.pair (with_slot can.change.index (word_of (ChangeAt base))) apart ∙ stands f.pair (pair_row can.change.key f.leaf f.other_key f.other) (inl (refl, refl)))
 
           ne : f.pair ≢ anchor
-          ne e = no_piece ((state_of pairs words (Install caller base rows ∷ log)).pieces f.pair) grown.0 (subst (λ n. (state_of pairs words (Install caller base rows ∷ log)).pieces n ≡ None) (sym e) (anchor_free pairs words (Install caller base rows ∷ log) h)) grown.1
+          ne e =
+              no_piece
+              ((state_of pairs words (Install caller base rows ∷ log)).pieces f.pair) grown.0
+              (subst (λ n. (state_of pairs words (Install caller base rows ∷ log)).pieces n ≡ None) (sym e) (anchor_free pairs words (Install caller base rows ∷ log) h)) grown.1
 
           leads : past_rebuild (state_of pairs words (Install caller base rows ∷ log)).pieces (ref_of can.change.from) ≡ Some (InnerAt f.pair) → ⊥
-          leads k = clash (ap (past_rebuild (state_of pairs words (Install caller base rows ∷ log)).pieces) (sym f.from) ∙ k)
+          leads k =
+              clash
+              (ap (past_rebuild (state_of pairs words (Install caller base rows ∷ log)).pieces) (sym f.from) ∙ k)
             where
               clash : Some (LeafAt f.other) ≡ Some (InnerAt f.pair) → ⊥
               clash q = cc
@@ -215,7 +240,8 @@ module _ (pairs : List Pair) (words : ℕ) (opens : CanOpen pairs words) where
                 from = f.from;
                 stands = stood;
                 differs = f.differs;
-                new = leaf.1 ∙ ap (λ x. Some x) (leaf_grown record { key = can.change.key; value = can.change.value } leaf.0 leaf.2);
+                new =
+                    leaf.1 ∙ ap (λ x. Some x) (leaf_grown record { key = can.change.key; value = can.change.value } leaf.0 leaf.2);
                 published = there;
                 never = λ was.
                     ⊎_elim
@@ -231,7 +257,8 @@ module _ (pairs : List Pair) (words : ℕ) (opens : CanOpen pairs words) where
       → x.kind ≡ put_kind
       → (pair : ℕ) → ref_of x.to ≡ Some (InnerAt pair) → IsFilledPair pairs words log x pair
   pair_is_filled =
-      changes_by pairs words (λ log base x. x.decision ≡ undecided → x.kind ≡ put_kind → (pair : ℕ) → ref_of x.to ≡ Some (InnerAt pair) → IsFilledPair pairs words log x pair)
+      changes_by pairs words
+      (λ log base x. x.decision ≡ undecided → x.kind ≡ put_kind → (pair : ℕ) → ref_of x.to ≡ Some (InnerAt pair) → IsFilledPair pairs words log x pair)
       (λ log event h base x old there before none kind pair to. filled_step log event h base x there none pair to (before none kind pair to))
       (λ log caller base rows h can none kind pair to. filled_install log caller base rows h can kind pair to)
       (λ log caller base said h can before none kind pair to. absurd (said_something said none))

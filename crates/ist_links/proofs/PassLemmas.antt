@@ -33,5 +33,7 @@ passing first log (Lose caller bases) node i word h is = absurd is
 pub passed_no_change : (first : Snapshot) (log : Log) (node i word : ℕ) → EachEnabled first log
     → Happened (Passes node i word) log → (change : ℕ) → ref_of word ≢ Some (ChangeAt change)
 passed_no_change first [] node i word h p = absurd p
-passed_no_change first (event ∷ log) node i word h (inl now) = (passing first log event node i word h.1 now).1.no_change
-passed_no_change first (event ∷ log) node i word h (inr before) = passed_no_change first log node i word h.0 before
+passed_no_change first (event ∷ log) node i word h (inl now) =
+    (passing first log event node i word h.1 now).1.no_change
+passed_no_change first (event ∷ log) node i word h (inr before) =
+    passed_no_change first log node i word h.0 before

@@ -37,7 +37,9 @@ inner_only (a ∷ b ∷ c ∷ d ∷ rest) p e =
 -- where inner rows are published, each other row stood there
 pub published_inner : (ps : Pieces) (rows : List Row) (base : ℕ) (p : Piece)
     → with_inners ps rows base ≡ Some p → ((r : InnerRow) × (p ≡ Inner r)) ⊎ (ps base ≡ Some p)
-published_inner ps rows base p e = ⊎_elim (λ w. inl (inner_only w.0.words p w.3)) (λ old. inr old) (with_inners-some ps rows base p e)
+published_inner ps rows base p e =
+    ⊎_elim (λ w. inl (inner_only w.0.words p w.3)) (λ old. inr old)
+    (with_inners-some ps rows base p e)
 
 -- a pair row is open
 pair_open : (key base other_key other : ℕ) (x : InnerRow)
@@ -72,7 +74,8 @@ pub installed_change : (first : Snapshot) (log : Log) (at : ℕ) (change : Chang
     → IsInstalled first log at change fresh fits base (Change x) → (base ≡ at) × (x ≡ change)
 installed_change first log at change fresh fits base x (inl (here, is)) = (here, (cc))
 installed_change first log at change fresh (a_put f) base x (inr (here, is)) = absurd (cc)
-installed_change first log at change fresh (a_pair f) base x (inr (inl (here, is))) = absurd (pair_no_change change.key f.leaf f.other_key f.other x is)
+installed_change first log at change fresh (a_pair f) base x (inr (inl (here, is))) =
+    absurd (pair_no_change change.key f.leaf f.other_key f.other x is)
 installed_change first log at change fresh (a_pair f) base x (inr (inr (here, is))) = absurd (cc)
 installed_change first log at change fresh (a_remove f) base x (inr is) = absurd is
 installed_change first log at change fresh (a_start f) base x (inr (here, is)) = absurd (cc)
@@ -91,10 +94,12 @@ pub installed_rebuild : (first : Snapshot) (log : Log) (at : ℕ) (change : Chan
     → IsStartOf first log change fresh base x
 installed_rebuild first log at change fresh fits base x (inl (here, is)) = absurd (cc)
 installed_rebuild first log at change fresh (a_put f) base x (inr (here, is)) = absurd (cc)
-installed_rebuild first log at change fresh (a_pair f) base x (inr (inl (here, is))) = absurd (pair_no_rebuild change.key f.leaf f.other_key f.other x is)
+installed_rebuild first log at change fresh (a_pair f) base x (inr (inl (here, is))) =
+    absurd (pair_no_rebuild change.key f.leaf f.other_key f.other x is)
 installed_rebuild first log at change fresh (a_pair f) base x (inr (inr (here, is))) = absurd (cc)
 installed_rebuild first log at change fresh (a_remove f) base x (inr is) = absurd is
-installed_rebuild first log at change fresh (a_start f) base x (inr (here, is)) = record { starts = f; here = here; is = is }
+installed_rebuild first log at change fresh (a_start f) base x (inr (here, is)) =
+    record { starts = f; here = here; is = is }
 installed_rebuild first log at change fresh (a_finish f) base x (inr is) = absurd is
 
 -- an inner row that an Install publishes is open
@@ -103,7 +108,8 @@ pub installed_open : (first : Snapshot) (log : Log) (at : ℕ) (change : ChangeR
     → IsInstalled first log at change fresh fits base (Inner x) → x.status ≡ open_word
 installed_open first log at change fresh fits base x (inl (here, is)) = absurd (cc)
 installed_open first log at change fresh (a_put f) base x (inr (here, is)) = absurd (cc)
-installed_open first log at change fresh (a_pair f) base x (inr (inl (here, is))) = pair_open change.key f.leaf f.other_key f.other x is
+installed_open first log at change fresh (a_pair f) base x (inr (inl (here, is))) =
+    pair_open change.key f.leaf f.other_key f.other x is
 installed_open first log at change fresh (a_pair f) base x (inr (inr (here, is))) = absurd (cc)
 installed_open first log at change fresh (a_remove f) base x (inr is) = absurd is
 installed_open first log at change fresh (a_start f) base x (inr (here, is)) = absurd (cc)
@@ -111,7 +117,8 @@ installed_open first log at change fresh (a_finish f) base x (inr is) = absurd i
 
 -- the row that a start publishes
 abbrev pub new_rebuild_row : ChangeRow → ℕ → RebuildRow
-new_rebuild_row change target = record { target = target; parent = change.node; index = change.index; root = unset_word; draw = 0 }
+new_rebuild_row change target =
+    record { target = target; parent = change.node; index = change.index; root = unset_word; draw = 0 }
 
 -- a row among those of a tree is the top of an ideal subtree
 pub top_among : (ps : Pieces) (rows : List ℕ) (base : ℕ) (x : InnerRow) → Each (StandsAsTop ps) rows
@@ -125,7 +132,8 @@ top_among ps rows base x all i e =
 -- each inner row that an event publishes is open
 pub born_open : (first : Snapshot) (log : Log) (event : Event) (base : ℕ) (x : InnerRow)
     → Enabled first log event → Born first log base (Inner x) event → x.status ≡ open_word
-born_open first log _ base x can (by_install {change = at} h new) = installed_open first log at h.change h.fresh h.fits base x new
+born_open first log _ base x can (by_install {change = at} h new) =
+    installed_open first log at h.change h.fresh h.fits base x new
 born_open first log _ base x can (by_root {word = word} {rows = rows} i e) =
     let qs = with_inners (state first log).pieces rows in
     (top_among qs (bases_of rows) base x (root_tops qs word can.k can.leaves can.row.target (bases_of rows) can.root) i e).2.status

@@ -31,4 +31,6 @@ rows_quiet (suc fuel) base (pair ∷ more ∷ pairs) =
 pub start_quiet : (pairs : List Pair) (words base : ℕ) (p : Piece)
     → (start pairs words).pieces base ≡ Some p → IsQuiet p
 start_quiet pairs words base p e =
-    each-among (λ row. IsQuiet row.1) (base, p) (rows_from first_row pairs) (rows_quiet (length pairs) first_row pairs) (among-pieces_of (rows_from first_row pairs) base p e)
+    each-among (λ row. IsQuiet row.1) (base, p) (rows_from first_row pairs)
+    (rows_quiet (length pairs) first_row pairs)
+    (among-pieces_of (rows_from first_row pairs) base p e)

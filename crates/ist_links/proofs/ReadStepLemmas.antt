@@ -17,7 +17,8 @@ use Rattle.ist_core.proofs.PlaceLemmas.{anchor_free}
 use Rattle.ist_core.proofs.SlotLemmas.{no_row}
 use Rattle.ist_links.proofs.FinishedLemmas.{same_length}
 use Rattle.ist_links.proofs.InductionLemmas.{grow_behind}
-use Rattle.ist_links.proofs.ReadLemmas.{Fills, Reading, ReadsAs, Turns, filled_by, reads_decide, reads_install, reads_once, reads_place, reads_quiet, reads_resolve}
+use Rattle.ist_links.proofs.ReadEventLemmas.{Reading, reads_decide, reads_install, reads_place, reads_quiet, reads_resolve}
+use Rattle.ist_links.proofs.ReadLemmas.{Fills, ReadsAs, Turns, filled_by, reads_once}
 
 -- a list of the same length has an element where the other has one
 get_alike : (xs ys : List ℕ) (i x : ℕ) → length xs ≡ length ys → slice_get xs i ≡ Some x
@@ -32,26 +33,41 @@ module _ (pairs : List Pair) (words : ℕ) (opens : CanOpen pairs words) where
   pub reads_any : (log : Log) (event : Event) → EachEnabled (start pairs words) (event ∷ log)
       → (node i : ℕ) (ref : Ref) → ReadsAs (state_of pairs words log) node i ref
       → Reading pairs words log node i ref event ⊎ Fills (start pairs words) log node i ref event
-  reads_any log (Install caller base rows) h node i ref r = inl (reads_install pairs words opens log caller base rows h node i ref r)
-  reads_any log (Resolve caller base) h node i ref r = inl (reads_resolve pairs words opens log caller base h node i ref r)
-  reads_any log (Place caller rebuild j word rows) h node i ref r = reads_place pairs words opens log caller rebuild j word rows h node i ref r
-  reads_any log (Decide caller base said) h node i ref r = inl (reads_decide pairs words opens log caller base said h node i ref r)
-  reads_any log (Enter caller) h node i ref r = inl (reads_quiet pairs words opens log (Enter caller) h tt tt node i ref r)
-  reads_any log (Reserve caller b size) h node i ref r = inl (reads_quiet pairs words opens log (Reserve caller b size) h tt tt node i ref r)
-  reads_any log (Okay caller change) h node i ref r = inl (reads_quiet pairs words opens log (Okay caller change) h tt tt node i ref r)
-  reads_any log (Count caller n) h node i ref r = inl (reads_quiet pairs words opens log (Count caller n) h tt tt node i ref r)
-  reads_any log (Mark caller n) h node i ref r = inl (reads_quiet pairs words opens log (Mark caller n) h tt tt node i ref r)
-  reads_any log (Pass caller n j word) h node i ref r = inl (reads_quiet pairs words opens log (Pass caller n j word) h tt tt node i ref r)
-  reads_any log (Finish caller n keys) h node i ref r = inl (reads_quiet pairs words opens log (Finish caller n keys) h tt tt node i ref r)
-  reads_any log (Root caller rebuild word rows) h node i ref r = inl (reads_quiet pairs words opens log (Root caller rebuild word rows) h tt tt node i ref r)
-  reads_any log (Draw caller rebuild part) h node i ref r = inl (reads_quiet pairs words opens log (Draw caller rebuild part) h tt tt node i ref r)
-  reads_any log (Lose caller bases) h node i ref r = inl (reads_quiet pairs words opens log (Lose caller bases) h tt tt node i ref r)
+  reads_any log (Install caller base rows) h node i ref r =
+      inl (reads_install pairs words opens log caller base rows h node i ref r)
+  reads_any log (Resolve caller base) h node i ref r =
+      inl (reads_resolve pairs words opens log caller base h node i ref r)
+  reads_any log (Place caller rebuild j word rows) h node i ref r =
+      reads_place pairs words opens log caller rebuild j word rows h node i ref r
+  reads_any log (Decide caller base said) h node i ref r =
+      inl (reads_decide pairs words opens log caller base said h node i ref r)
+  reads_any log (Enter caller) h node i ref r =
+      inl (reads_quiet pairs words opens log (Enter caller) h tt tt node i ref r)
+  reads_any log (Reserve caller b size) h node i ref r =
+      inl (reads_quiet pairs words opens log (Reserve caller b size) h tt tt node i ref r)
+  reads_any log (Okay caller change) h node i ref r =
+      inl (reads_quiet pairs words opens log (Okay caller change) h tt tt node i ref r)
+  reads_any log (Count caller n) h node i ref r =
+      inl (reads_quiet pairs words opens log (Count caller n) h tt tt node i ref r)
+  reads_any log (Mark caller n) h node i ref r =
+      inl (reads_quiet pairs words opens log (Mark caller n) h tt tt node i ref r)
+  reads_any log (Pass caller n j word) h node i ref r =
+      inl (reads_quiet pairs words opens log (Pass caller n j word) h tt tt node i ref r)
+  reads_any log (Finish caller n keys) h node i ref r =
+      inl (reads_quiet pairs words opens log (Finish caller n keys) h tt tt node i ref r)
+  reads_any log (Root caller rebuild word rows) h node i ref r =
+      inl (reads_quiet pairs words opens log (Root caller rebuild word rows) h tt tt node i ref r)
+  reads_any log (Draw caller rebuild part) h node i ref r =
+      inl (reads_quiet pairs words opens log (Draw caller rebuild part) h tt tt node i ref r)
+  reads_any log (Lose caller bases) h node i ref r =
+      inl (reads_quiet pairs words opens log (Lose caller bases) h tt tt node i ref r)
 
   -- a slot that is set isn't filled
   pub reads_step : (log : Log) (event : Event) → EachEnabled (start pairs words) (event ∷ log)
       → (node i : ℕ) (ref : Ref) → ref ≢ Unset → ReadsAs (state_of pairs words log) node i ref
       → Reading pairs words log node i ref event
-  reads_step log event h node i ref set r = ⊎_elim (λ k. k) (λ f. absurd (unset event f)) (reads_any log event h node i ref r)
+  reads_step log event h node i ref set r =
+      ⊎_elim (λ k. k) (λ f. absurd (unset event f)) (reads_any log event h node i ref r)
     where
       unset : (event : Event) → Fills (start pairs words) log node i ref event → ⊥
       unset _ (filled_by can here at is) = set is
@@ -68,7 +84,8 @@ module _ (pairs : List Pair) (words : ℕ) (opens : CanOpen pairs words) where
       → SlotHolds (state_of pairs words log) node i word
       → (ref : Ref) × ReadsAs (state_of pairs words log) node i ref
   slot_reads log h node i word slot =
-      at (past_change t.pieces (ref_of word)) refl (past_change_names t node i (ref_of word) o (slot_names t node i word o slot))
+      at (past_change t.pieces (ref_of word)) refl
+      (past_change_names t node i (ref_of word) o (slot_names t node i word o slot))
     where
       t : Snapshot
       t = state_of pairs words log
@@ -80,8 +97,10 @@ module _ (pairs : List Pair) (words : ℕ) (opens : CanOpen pairs words) where
           → SideNames (state_of pairs words log).pieces node i (past_change (state_of pairs words log).pieces (ref_of word)) ⊎ (past_change (state_of pairs words log).pieces (ref_of word) ≡ Some Unset)
           → (ref : Ref) × ReadsAs (state_of pairs words log) node i ref
       at (Some ref) is k = (ref, record { word = word; holds = slot; reads = is })
-      at None is (inl side) = absurd (subst (λ r. SideNames (state_of pairs words log).pieces node i r) is side)
-      at None is (inr unset) = absurd (clash (past_change (state_of pairs words log).pieces (ref_of word)) is unset)
+      at None is (inl side) =
+          absurd (subst (λ r. SideNames (state_of pairs words log).pieces node i r) is side)
+      at None is (inr unset) =
+          absurd (clash (past_change (state_of pairs words log).pieces (ref_of word)) is unset)
         where
           clash : (x : Option Ref) → x ≡ None → x ≡ Some Unset → ⊥
           clash x a b = cc
@@ -91,9 +110,11 @@ module _ (pairs : List Pair) (words : ℕ) (opens : CanOpen pairs words) where
       → (node i word : ℕ)
       → Stood log node → SlotHolds (state_of pairs words (event ∷ log)) node i word
       → (old : ℕ) × SlotHolds (state_of pairs words log) node i old
-  slot_held log event h node i word stood (in_anchor a b e) = ((state_of pairs words log).anchor, in_anchor a b refl)
+  slot_held log event h node i word stood (in_anchor a b e) =
+      ((state_of pairs words log).anchor, in_anchor a b refl)
   slot_held log event h node i word (was_anchor a) (in_row r p e) =
-      absurd (no_row (state_of pairs words (event ∷ log)).pieces node r (anchor_free pairs words (event ∷ log) h) a p)
+      absurd
+      (no_row (state_of pairs words (event ∷ log)).pieces node r (anchor_free pairs words (event ∷ log) h) a p)
   slot_held log event h node i word (was_row k) (in_row r p e) =
       let long = same_length (state_of pairs words log).pieces (state_of pairs words (event ∷ log)).pieces (grow_behind pairs words log event h) node k.0 r k.1 p in
       let it = get_alike r.slots k.0.slots i word long e in
@@ -126,7 +147,9 @@ module _ (pairs : List Pair) (words : ℕ) (opens : CanOpen pairs words) where
     where
       filled : (event : Event) (was : Ref) → Fills (start pairs words) log node i was event
           → Turning log node i ref event
-      filled event was f = filled_now (subst (λ x. Fills (start pairs words) log node i x event) (unset event was f) f)
+      filled event was f =
+          filled_now
+          (subst (λ x. Fills (start pairs words) log node i x event) (unset event was f) f)
         where
           unset : (event : Event) (was : Ref) → Fills (start pairs words) log node i was event
               → was ≡ Unset

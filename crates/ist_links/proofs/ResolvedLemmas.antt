@@ -47,7 +47,8 @@ module _ (pairs : List Pair) (words : ℕ) (opens : CanOpen pairs words) where
       → SlotHolds (state_of pairs words log) node i old
       → SlotHolds (state_of pairs words log) node i word
   kept_word log event h node i old word stays now was =
-      subst (λ w. SlotHolds (state_of pairs words log) node i w) (slot_once (state_of pairs words (event ∷ log)) node i old word (anchor_free pairs words (event ∷ log) h) stays now) was
+      subst (λ w. SlotHolds (state_of pairs words log) node i w)
+      (slot_once (state_of pairs words (event ∷ log)) node i old word (anchor_free pairs words (event ∷ log) h) stays now) was
 
   -- what a change leaves behind is no change
   side_no_change : (log : Log) → EachEnabled (start pairs words) log → (at : ℕ) (x : ChangeRow)
@@ -56,7 +57,8 @@ module _ (pairs : List Pair) (words : ℕ) (opens : CanOpen pairs words) where
   side_no_change log h at x e =
       let t = state_of pairs words log in
       let row = (names pairs words opens log h).rows at (Change x) e in
-      side_plain t.pieces x.node x.index (ref_of (side_of x)) (side_names t.pieces x.node x.index x row.0 row.1)
+      side_plain t.pieces x.node x.index (ref_of (side_of x))
+      (side_names t.pieces x.node x.index x row.0 row.1)
 
   -- a change that was published stood in its slot before the event, if it does behind it
   stood_before : (log : Log) (event : Event) → EachEnabled (start pairs words) (event ∷ log)
@@ -98,21 +100,44 @@ module _ (pairs : List Pair) (words : ℕ) (opens : CanOpen pairs words) where
       (λ w.
       let here = subst (λ m. SlotHolds u m j (word_of (ChangeAt base))) w.1 (subst (λ k. SlotHolds u node k (word_of (ChangeAt base))) w.2 now) in
       let same = slot_once u can.root j (word_of (ChangeAt base)) word (anchor_free pairs words (Place caller rebuild j word rows ∷ log) h) here writes.now in
-      let read : Some can.ref ≡ Some (ChangeAt base) = sym can.ref_is ∙ ap ref_of (sym same) ∙ change_read pairs words opens log h.0 base x e in
+      let read : Some can.ref ≡ Some (ChangeAt base) =
+      sym can.ref_is ∙ ap ref_of (sym same) ∙ change_read pairs words opens log h.0 base x e in
       absurd (ideal_no_change (with_inners t.pieces rows) can.ref can.part can.root (bases_of rows) can.ideal base read))
       (λ stays. kept_word log (Place caller rebuild j word rows) h node i old (word_of (ChangeAt base)) stays now was)
       (writes.others node i old was)
-  stood_before log (Enter caller) h base x e node i old was now = kept_word log (Enter caller) h node i old (word_of (ChangeAt base)) (slot_stays (start pairs words) log (Enter caller) h.1 (sound_behind pairs words log h.0) tt node i old was) now was
-  stood_before log (Reserve caller b size) h base x e node i old was now = kept_word log (Reserve caller b size) h node i old (word_of (ChangeAt base)) (slot_stays (start pairs words) log (Reserve caller b size) h.1 (sound_behind pairs words log h.0) tt node i old was) now was
-  stood_before log (Okay caller change) h base x e node i old was now = kept_word log (Okay caller change) h node i old (word_of (ChangeAt base)) (slot_stays (start pairs words) log (Okay caller change) h.1 (sound_behind pairs words log h.0) tt node i old was) now was
-  stood_before log (Decide caller change said) h base x e node i old was now = kept_word log (Decide caller change said) h node i old (word_of (ChangeAt base)) (slot_stays (start pairs words) log (Decide caller change said) h.1 (sound_behind pairs words log h.0) tt node i old was) now was
-  stood_before log (Count caller n) h base x e node i old was now = kept_word log (Count caller n) h node i old (word_of (ChangeAt base)) (slot_stays (start pairs words) log (Count caller n) h.1 (sound_behind pairs words log h.0) tt node i old was) now was
-  stood_before log (Mark caller n) h base x e node i old was now = kept_word log (Mark caller n) h node i old (word_of (ChangeAt base)) (slot_stays (start pairs words) log (Mark caller n) h.1 (sound_behind pairs words log h.0) tt node i old was) now was
-  stood_before log (Pass caller n j word) h base x e node i old was now = kept_word log (Pass caller n j word) h node i old (word_of (ChangeAt base)) (slot_stays (start pairs words) log (Pass caller n j word) h.1 (sound_behind pairs words log h.0) tt node i old was) now was
-  stood_before log (Finish caller n keys) h base x e node i old was now = kept_word log (Finish caller n keys) h node i old (word_of (ChangeAt base)) (slot_stays (start pairs words) log (Finish caller n keys) h.1 (sound_behind pairs words log h.0) tt node i old was) now was
-  stood_before log (Root caller rebuild word rows) h base x e node i old was now = kept_word log (Root caller rebuild word rows) h node i old (word_of (ChangeAt base)) (slot_stays (start pairs words) log (Root caller rebuild word rows) h.1 (sound_behind pairs words log h.0) tt node i old was) now was
-  stood_before log (Draw caller rebuild part) h base x e node i old was now = kept_word log (Draw caller rebuild part) h node i old (word_of (ChangeAt base)) (slot_stays (start pairs words) log (Draw caller rebuild part) h.1 (sound_behind pairs words log h.0) tt node i old was) now was
-  stood_before log (Lose caller bases) h base x e node i old was now = kept_word log (Lose caller bases) h node i old (word_of (ChangeAt base)) (slot_stays (start pairs words) log (Lose caller bases) h.1 (sound_behind pairs words log h.0) tt node i old was) now was
+  stood_before log (Enter caller) h base x e node i old was now =
+      kept_word log (Enter caller) h node i old (word_of (ChangeAt base))
+      (slot_stays (start pairs words) log (Enter caller) h.1 (sound_behind pairs words log h.0) tt node i old was) now was
+  stood_before log (Reserve caller b size) h base x e node i old was now =
+      kept_word log (Reserve caller b size) h node i old (word_of (ChangeAt base))
+      (slot_stays (start pairs words) log (Reserve caller b size) h.1 (sound_behind pairs words log h.0) tt node i old was) now was
+  stood_before log (Okay caller change) h base x e node i old was now =
+      kept_word log (Okay caller change) h node i old (word_of (ChangeAt base))
+      (slot_stays (start pairs words) log (Okay caller change) h.1 (sound_behind pairs words log h.0) tt node i old was) now was
+  stood_before log (Decide caller change said) h base x e node i old was now =
+      kept_word log (Decide caller change said) h node i old (word_of (ChangeAt base))
+      (slot_stays (start pairs words) log (Decide caller change said) h.1 (sound_behind pairs words log h.0) tt node i old was) now was
+  stood_before log (Count caller n) h base x e node i old was now =
+      kept_word log (Count caller n) h node i old (word_of (ChangeAt base))
+      (slot_stays (start pairs words) log (Count caller n) h.1 (sound_behind pairs words log h.0) tt node i old was) now was
+  stood_before log (Mark caller n) h base x e node i old was now =
+      kept_word log (Mark caller n) h node i old (word_of (ChangeAt base))
+      (slot_stays (start pairs words) log (Mark caller n) h.1 (sound_behind pairs words log h.0) tt node i old was) now was
+  stood_before log (Pass caller n j word) h base x e node i old was now =
+      kept_word log (Pass caller n j word) h node i old (word_of (ChangeAt base))
+      (slot_stays (start pairs words) log (Pass caller n j word) h.1 (sound_behind pairs words log h.0) tt node i old was) now was
+  stood_before log (Finish caller n keys) h base x e node i old was now =
+      kept_word log (Finish caller n keys) h node i old (word_of (ChangeAt base))
+      (slot_stays (start pairs words) log (Finish caller n keys) h.1 (sound_behind pairs words log h.0) tt node i old was) now was
+  stood_before log (Root caller rebuild word rows) h base x e node i old was now =
+      kept_word log (Root caller rebuild word rows) h node i old (word_of (ChangeAt base))
+      (slot_stays (start pairs words) log (Root caller rebuild word rows) h.1 (sound_behind pairs words log h.0) tt node i old was) now was
+  stood_before log (Draw caller rebuild part) h base x e node i old was now =
+      kept_word log (Draw caller rebuild part) h node i old (word_of (ChangeAt base))
+      (slot_stays (start pairs words) log (Draw caller rebuild part) h.1 (sound_behind pairs words log h.0) tt node i old was) now was
+  stood_before log (Lose caller bases) h base x e node i old was now =
+      kept_word log (Lose caller bases) h node i old (word_of (ChangeAt base))
+      (slot_stays (start pairs words) log (Lose caller bases) h.1 (sound_behind pairs words log h.0) tt node i old was) now was
 
   -- a change that was resolved is published
   resolved_published : (log : Log) → EachEnabled (start pairs words) log → (base : ℕ)
@@ -139,11 +164,14 @@ module _ (pairs : List Pair) (words : ℕ) (opens : CanOpen pairs words) where
       let can = h.1 in
       let on = change_there t.pieces u.pieces (grow_behind pairs words log (Resolve caller at) h) at can.change can.published in
       let named : SlotNames u.pieces node i (Some (ChangeAt at)) =
-      subst (λ o. SlotNames u.pieces node i o) (ap (λ b. ref_of (word_of (ChangeAt b))) (sym is) ∙ change_read pairs words opens (Resolve caller at ∷ log) h at on.0 on.1)
+      subst (λ o. SlotNames u.pieces node i o)
+      (ap (λ b. ref_of (word_of (ChangeAt b))) (sym is) ∙ change_read pairs words opens (Resolve caller at ∷ log) h at on.0 on.1)
       (slot_names u node i (word_of (ChangeAt base)) (names pairs words opens (Resolve caller at ∷ log) h) slot) in
       let row = same_change (u.pieces at) on.0 named.row on.1 named.published in
-      let n : node ≡ can.change.node = sym named.node_is ∙ ap (λ c. c.node) (sym row) ∙ ap (λ c. c.node) on.2.others in
-      let j : i ≡ can.change.index = sym named.index ∙ ap (λ c. c.index) (sym row) ∙ ap (λ c. c.index) on.2.others in
+      let n : node ≡ can.change.node =
+      sym named.node_is ∙ ap (λ c. c.node) (sym row) ∙ ap (λ c. c.node) on.2.others in
+      let j : i ≡ can.change.index =
+      sym named.index ∙ ap (λ c. c.index) (sym row) ∙ ap (λ c. c.index) on.2.others in
       let here = subst (λ m. SlotHolds u m can.change.index (word_of (ChangeAt base))) n (subst (λ k. SlotHolds u node k (word_of (ChangeAt base))) j slot) in
       let writes = resolve_writes t caller at can (anchor_free pairs words log h.0) in
       let same = slot_once u can.change.node can.change.index (word_of (ChangeAt base)) (side_of can.change) (anchor_free pairs words (Resolve caller at ∷ log) h) here writes.now in
@@ -168,7 +196,8 @@ module _ (pairs : List Pair) (words : ℕ) (opens : CanOpen pairs words) where
       → Happened (Resolves base) log
       → (node i : ℕ) → ¬ (SlotHolds (state_of pairs words log) node i (word_of (ChangeAt base)))
   resolved_gone [] h base happened node i slot = absurd happened
-  resolved_gone (event ∷ log) h base (inl now) node i slot = left_now log event h base now node i slot
+  resolved_gone (event ∷ log) h base (inl now) node i slot =
+      left_now log event h base now node i slot
   resolved_gone (event ∷ log) h base (inr before) node i slot =
       let t = state_of pairs words log in
       let u = state_of pairs words (event ∷ log) in
@@ -177,10 +206,12 @@ module _ (pairs : List Pair) (words : ℕ) (opens : CanOpen pairs words) where
       let named : SlotNames u.pieces node i (Some (ChangeAt base)) =
       subst (λ o. SlotNames u.pieces node i o) (change_read pairs words opens (event ∷ log) h base on.0 on.1) (slot_names u node i (word_of (ChangeAt base)) (names pairs words opens (event ∷ log) h) slot) in
       let row = same_change (u.pieces base) on.0 named.row on.1 named.published in
-      let n : x.0.node ≡ node = sym (ap (λ c. c.node) on.2.others) ∙ ap (λ c. c.node) row ∙ named.node_is in
+      let n : x.0.node ≡ node =
+      sym (ap (λ c. c.node) on.2.others) ∙ ap (λ c. c.node) row ∙ named.node_is in
       let was = subst (λ m. WasLinked (start pairs words) log m) n (node_was_linked pairs words opens log h.0 base x.0 x.1) in
       let old = slot_held pairs words opens log event h node i (word_of (ChangeAt base)) (stood log h.0 node was (eqb_tells node anchor)) slot in
-      resolved_gone log h.0 base before node i (stood_before log event h base x.0 x.1 node i old.0 old.1 slot)
+      resolved_gone log h.0 base before node i
+      (stood_before log event h base x.0 x.1 node i old.0 old.1 slot)
     where
       stood : (log : Log) → EachEnabled (start pairs words) log → (node : ℕ)
           → WasLinked (start pairs words) log node

@@ -31,12 +31,16 @@ mutual
       (rows : List ℕ)
       → AreIdeal ps words behind above rows → Each (StandsAsTop ps) rows
   parts_tops ps _ _ _ _ no_part = tt
-  parts_tops ps _ _ above _ (one_part {words = words} {here = here} {rest = rest} {part = part} {behind = behind} ref e first more) =
-      each_append (StandsAsTop ps) here rest (ideal_tops ps ref part above here first) (parts_tops ps words behind above rest more)
+  parts_tops ps _ _ above _
+      (one_part {words = words} {here = here} {rest = rest} {part = part} {behind = behind} ref e first more) =
+      each_append (StandsAsTop ps) here rest (ideal_tops ps ref part above here first)
+      (parts_tops ps words behind above rest more)
 
 -- so is each row of a root
 pub root_tops : (ps : Pieces) (word k : ℕ) (leaves : List PlacedLeaf) (target : ℕ) (rows : List ℕ)
     → IsRoot ps word k leaves target rows → Each (StandsAsTop ps) rows
-root_tops ps word k leaves target rows (root_whole ref few e ideal) = ideal_tops ps ref leaves target rows ideal
+root_tops ps word k leaves target rows (root_whole ref few e ideal) =
+    ideal_tops ps ref leaves target rows ideal
 root_tops ps word k leaves target rows (root_top base row many e top unset one) =
-    subst (λ bs. Each (StandsAsTop ps) bs) (sym one) (record { row = row; leaves = leaves; above = target; top = top }, tt)
+    subst (λ bs. Each (StandsAsTop ps) bs) (sym one)
+    (record { row = row; leaves = leaves; above = target; top = top }, tt)

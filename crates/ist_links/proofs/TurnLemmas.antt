@@ -107,13 +107,15 @@ turned_one : (first : Snapshot) (log : Log) (event : Event) (at : ℕ) (f : Piec
     → Came first log event base q
 turned_one first log event at f pieces turned base q e =
     let it = changed_at-some (state first log).pieces at base f q (subst (λ ps. ps base ≡ Some q) pieces e) in
-    from_old it.0 it.1 (⊎_elim (λ same. as_it_was same) (λ now. turned base it.0 q now.0 now.1) it.2)
+    from_old it.0 it.1
+    (⊎_elim (λ same. as_it_was same) (λ now. turned base it.0 q now.0 now.1) it.2)
 
 -- an event that writes no row
 turned_none : (first : Snapshot) (log : Log) (event : Event)
     → (state first (event ∷ log)).pieces ≡ (state first log).pieces → (base : ℕ) (q : Piece)
     → (state first (event ∷ log)).pieces base ≡ Some q → Came first log event base q
-turned_none first log event pieces base q e = from_old q (subst (λ ps. ps base ≡ Some q) pieces e) (as_it_was refl)
+turned_none first log event pieces base q e =
+    from_old q (subst (λ ps. ps base ≡ Some q) pieces e) (as_it_was refl)
 
 -- an event that publishes rows and writes one that stood there
 turned_added : (first : Snapshot) (log : Log) (event : Event) (qs : Pieces)
@@ -143,7 +145,8 @@ module _ (pairs : List Pair) (words : ℕ) where
       no_piece ((state_of pairs words (event ∷ log)).pieces base) q
       (subst (λ n. (state_of pairs words (event ∷ log)).pieces n ≡ None) (sym (same ∙ a)) (anchor_free pairs words (event ∷ log) h)) e
   slot_stood log event h node i word (in_row r p g) base q e same none =
-      no_piece ((state_of pairs words log).pieces base) (Inner r) none (subst (λ n. (state_of pairs words log).pieces n ≡ Some (Inner r)) (sym same) p)
+      no_piece ((state_of pairs words log).pieces base) (Inner r) none
+      (subst (λ n. (state_of pairs words log).pieces n ≡ Some (Inner r)) (sym same) p)
 
   -- each row behind an enabled event came so
   pub came : (log : Log) (event : Event) → EachEnabled (start pairs words) (event ∷ log)
@@ -161,7 +164,8 @@ module _ (pairs : List Pair) (words : ℕ) where
       at (Install caller change rows) all k there =
           let t = state_of pairs words log in
           let holds = holds_installed (start pairs words) log caller change rows k in
-          turned_added (start pairs words) log (Install caller change rows) (with_installed t.pieces change k.change k.fresh)
+          turned_added (start pairs words) log (Install caller change rows)
+          (with_installed t.pieces change k.change k.fresh)
           (IsInstalled (start pairs words) log change k.change k.fresh k.fits)
           k.change.node (with_slot k.change.index (word_of (ChangeAt change)))
           (adds_install (start pairs words) log caller change k.change k.fresh k.fits holds s)
@@ -169,22 +173,27 @@ module _ (pairs : List Pair) (words : ℕ) where
           (λ b p x here is. by_install k here is) (λ b p new there. born.by_install k new) base q there
           (slot_stood log (Install caller change rows) all k.change.node k.change.index k.change.from k.in_slot base q there)
       at (Resolve caller change) all k there =
-          turned_one (start pairs words) log (Resolve caller change) k.change.node (with_slot k.change.index (side_of k.change))
-          (ap (λ u. u.pieces) (rows_resolved (state_of pairs words log) caller change k)) (λ b p x here is. by_resolve k here is) base q there
+          turned_one (start pairs words) log (Resolve caller change) k.change.node
+          (with_slot k.change.index (side_of k.change))
+          (ap (λ u. u.pieces) (rows_resolved (state_of pairs words log) caller change k))
+          (λ b p x here is. by_resolve k here is) base q there
       at (Place caller rebuild i word rows) all k there =
           let t = state_of pairs words log in
-          turned_added (start pairs words) log (Place caller rebuild i word rows) (with_inners t.pieces rows) (λ b p. Among b (bases_of rows)) k.root (with_slot i word)
+          turned_added (start pairs words) log (Place caller rebuild i word rows)
+          (with_inners t.pieces rows) (λ b p. Among b (bases_of rows)) k.root (with_slot i word)
           (adds-with_inners t caller rows k.held s) (rows_placed t caller rebuild i word rows k)
           (λ b p x here is. by_place k here is) (λ b p new there. born.by_place new there) base q there
           (slot_stood log (Place caller rebuild i word rows) all k.root i unset_word (in_row k.root_row k.root_published k.free) base q there)
       at (Root caller rebuild word rows) all k there =
           let t = state_of pairs words log in
-          turned_added (start pairs words) log (Root caller rebuild word rows) (with_inners t.pieces rows) (λ b p. Among b (bases_of rows)) rebuild (with_root word)
+          turned_added (start pairs words) log (Root caller rebuild word rows)
+          (with_inners t.pieces rows) (λ b p. Among b (bases_of rows)) rebuild (with_root word)
           (adds-with_inners t caller rows k.held s) refl
           (λ b p x here is. subst (λ n. Turned (start pairs words) log n p x (Root caller rebuild word rows)) (sym here) (by_root k is)) (λ b p new there. born.by_root new there) base q there
           (λ here none. no_piece (t.pieces base) (Rebuild k.row) none (subst (λ n. t.pieces n ≡ Some (Rebuild k.row)) (sym here) k.published))
       at (Decide caller change said) all k there =
-          turned_one (start pairs words) log (Decide caller change said) change (with_decision (decision_word said)) refl
+          turned_one (start pairs words) log (Decide caller change said) change
+          (with_decision (decision_word said)) refl
           (λ b p x here is. subst (λ n. Turned (start pairs words) log n p x (Decide caller change said)) (sym here) (by_decide k is)) base q there
       at (Count caller node) all k there =
           turned_one (start pairs words) log (Count caller node) node counted refl
@@ -193,13 +202,19 @@ module _ (pairs : List Pair) (words : ℕ) where
           turned_one (start pairs words) log (Mark caller node) node (with_status marked_word) refl
           (λ b p x here is. subst (λ n. Turned (start pairs words) log n p x (Mark caller node)) (sym here) (by_mark k is)) base q there
       at (Finish caller node keys) all k there =
-          turned_one (start pairs words) log (Finish caller node keys) node (with_status (finished_word keys)) refl
+          turned_one (start pairs words) log (Finish caller node keys) node
+          (with_status (finished_word keys)) refl
           (λ b p x here is. subst (λ n. Turned (start pairs words) log n p x (Finish caller node keys)) (sym here) (by_finish k is)) base q there
       at (Draw caller rebuild part) all k there =
           turned_one (start pairs words) log (Draw caller rebuild part) rebuild drawn refl
           (λ b p x here is. subst (λ n. Turned (start pairs words) log n p x (Draw caller rebuild part)) (sym here) (by_draw k is)) base q there
-      at (Enter caller) all k there = turned_none (start pairs words) log (Enter caller) refl base q there
-      at (Reserve caller b size) all k there = turned_none (start pairs words) log (Reserve caller b size) refl base q there
-      at (Okay caller change) all k there = turned_none (start pairs words) log (Okay caller change) refl base q there
-      at (Pass caller node i word) all k there = turned_none (start pairs words) log (Pass caller node i word) refl base q there
-      at (Lose caller bases) all k there = turned_none (start pairs words) log (Lose caller bases) refl base q there
+      at (Enter caller) all k there =
+          turned_none (start pairs words) log (Enter caller) refl base q there
+      at (Reserve caller b size) all k there =
+          turned_none (start pairs words) log (Reserve caller b size) refl base q there
+      at (Okay caller change) all k there =
+          turned_none (start pairs words) log (Okay caller change) refl base q there
+      at (Pass caller node i word) all k there =
+          turned_none (start pairs words) log (Pass caller node i word) refl base q there
+      at (Lose caller bases) all k there =
+          turned_none (start pairs words) log (Lose caller bases) refl base q there

@@ -34,7 +34,8 @@ use Rattle.ist_core.specs.Links as chains
 -- a node with a chain is linked
 chain_linked : (t : Snapshot) (node : ℕ) (rows : List ℕ) → Chain t node rows → Linked t node
 chain_linked t _ _ chains.no_row = at_anchor
-chain_linked t _ _ (one_row {node = node} {rows = rows} i chain is) = below i (chain_linked t node rows chain) is
+chain_linked t _ _ (one_row {node = node} {rows = rows} i chain is) =
+    below i (chain_linked t node rows chain) is
 
 -- so is each row of the chain
 on_chain_linked : (t : Snapshot) (node : ℕ) (rows : List ℕ) → Chain t node rows → (row : ℕ)
@@ -50,8 +51,10 @@ on_chain_linked t _ _ (one_row {node = node} {child = child} {rows = rows} i cha
 pub on_chain_was_linked : (first : Snapshot) (log : Log) (node row : ℕ)
     → WasOnChain first log node row → WasLinked first log row
 on_chain_was_linked first [] node row was = on_chain_linked first node was.0 was.1 row was.2
-on_chain_was_linked first (event ∷ log) node row (inl now) = inl (on_chain_linked (state first (event ∷ log)) node now.0 now.1 row now.2)
-on_chain_was_linked first (event ∷ log) node row (inr before) = inr (on_chain_was_linked first log node row before)
+on_chain_was_linked first (event ∷ log) node row (inl now) =
+    inl (on_chain_linked (state first (event ∷ log)) node now.0 now.1 row now.2)
+on_chain_was_linked first (event ∷ log) node row (inr before) =
+    inr (on_chain_was_linked first log node row before)
 
 -- ---- what becomes of a row that was never linked
 
@@ -72,20 +75,33 @@ module _ (pairs : List Pair) (words : ℕ) (opens : CanOpen pairs words) where
       → ¬ (WasLinked (start pairs words) log node)
       → Turned (start pairs words) log node (Inner r) (Inner s) event
       → Stays (start pairs words) log node r s event
-  untouched_turned log event h node r s never (as_it_was is) = subst (λ x. Stays (start pairs words) log node r x event) (inner_row r s (sym is)) stays_so
-  untouched_turned log _ h node r s never (by_install can here is) = absurd (never (subst (λ n. WasLinked (start pairs words) log n) (sym here) can.linked))
+  untouched_turned log event h node r s never (as_it_was is) =
+      subst (λ x. Stays (start pairs words) log node r x event) (inner_row r s (sym is)) stays_so
+  untouched_turned log _ h node r s never (by_install can here is) =
+      absurd (never (subst (λ n. WasLinked (start pairs words) log n) (sym here) can.linked))
   untouched_turned log _ h node r s never (by_resolve {change = change} can here is) =
-      absurd (never (subst (λ n. WasLinked (start pairs words) log n) (sym here) (node_was_linked pairs words opens log h.0 change can.change can.published)))
-  untouched_turned log _ h node r s never (by_place {caller = caller} {rebuild = rebuild} {i = i} {word = word} {rows = rows} can here is) =
-      subst (λ x. Stays (start pairs words) log node r x (Place caller rebuild i word rows)) (inner_row (record r { slots = slice_set r.slots i word }) s (sym is)) (is_filled can here)
-  untouched_turned log _ h node r s never (by_decide {caller = caller} {said = said} can is) = subst (λ x. Stays (start pairs words) log node r x (Decide caller node said)) (inner_row r s (sym is)) stays_so
-  untouched_turned log _ h node r s never (by_count can is) = absurd (never (on_chain_was_linked (start pairs words) log can.update.change.node node can.on_chain))
+      absurd
+      (never (subst (λ n. WasLinked (start pairs words) log n) (sym here) (node_was_linked pairs words opens log h.0 change can.change can.published)))
+  untouched_turned log _ h node r s never
+      (by_place {caller = caller} {rebuild = rebuild} {i = i} {word = word} {rows = rows} can here is) =
+      subst (λ x. Stays (start pairs words) log node r x (Place caller rebuild i word rows))
+      (inner_row (record r { slots = slice_set r.slots i word }) s (sym is)) (is_filled can here)
+  untouched_turned log _ h node r s never (by_decide {caller = caller} {said = said} can is) =
+      subst (λ x. Stays (start pairs words) log node r x (Decide caller node said))
+      (inner_row r s (sym is)) stays_so
+  untouched_turned log _ h node r s never (by_count can is) =
+      absurd
+      (never (on_chain_was_linked (start pairs words) log can.update.change.node node can.on_chain))
   untouched_turned log _ h node r s never (by_mark {caller = caller} can is) =
-      absurd (never (mark_linked pairs words opens log h.0 caller node (λ at i word p. passed_was_linked pairs words opens log h.0 at i word p) can))
+      absurd
+      (never (mark_linked pairs words opens log h.0 caller node (λ at i word p. passed_was_linked pairs words opens log h.0 at i word p) can))
   untouched_turned log _ h node r s never (by_finish can is) =
-      absurd (never (closed_was_linked pairs words opens log h.0 node can.row can.published (λ o. let one = can.marked in omega arith)))
+      absurd
+      (never (closed_was_linked pairs words opens log h.0 node can.row can.published (λ o. let one = can.marked in omega arith)))
   untouched_turned log _ h node r s never (by_root {caller = caller} {word = word} {rows = rows} can is) = subst (λ x. Stays (start pairs words) log node r x (Root caller node word rows)) (inner_row r s (sym is)) stays_so
-  untouched_turned log _ h node r s never (by_draw {caller = caller} {part = part} can is) = subst (λ x. Stays (start pairs words) log node r x (Draw caller node part)) (inner_row r s (sym is)) stays_so
+  untouched_turned log _ h node r s never (by_draw {caller = caller} {part = part} can is) =
+      subst (λ x. Stays (start pairs words) log node r x (Draw caller node part))
+      (inner_row r s (sym is)) stays_so
 
   -- a row that was never linked stays so, but for what a Place puts in
   pub untouched : (log : Log) (event : Event) → EachEnabled (start pairs words) (event ∷ log)
@@ -93,7 +109,8 @@ module _ (pairs : List Pair) (words : ℕ) (opens : CanOpen pairs words) where
       → (state_of pairs words log).pieces node ≡ Some (Inner r)
       → ¬ (WasLinked (start pairs words) log node)
       → (s : InnerRow)
-      × ((state_of pairs words (event ∷ log)).pieces node ≡ Some (Inner s)) × Stays (start pairs words) log node r s event
+      × ((state_of pairs words (event ∷ log)).pieces node ≡ Some (Inner s)) × Stays
+      (start pairs words) log node r s event
   untouched log event h node r e never =
       let it = inner_there (state_of pairs words log).pieces (state_of pairs words (event ∷ log)).pieces (grow_behind pairs words log event h) node r e in
       (it.0, it.1, at it.0 (came pairs words log event h node (Inner it.0) it.1))
@@ -102,8 +119,10 @@ module _ (pairs : List Pair) (words : ℕ) (opens : CanOpen pairs words) where
           → Stays (start pairs words) log node r s event
       at s (from_old p old turned) =
           let same = one_piece ((state_of pairs words log).pieces node) p (Inner r) old e in
-          untouched_turned log event h node r s never (subst (λ x. Turned (start pairs words) log node x (Inner s) event) same turned)
-      at s (from_new new none) = absurd (no_piece ((state_of pairs words log).pieces node) (Inner r) none e)
+          untouched_turned log event h node r s never
+          (subst (λ x. Turned (start pairs words) log node x (Inner s) event) same turned)
+      at s (from_new new none) =
+          absurd (no_piece ((state_of pairs words log).pieces node) (Inner r) none e)
 
 -- a row without an Unset slot stays as it is
 pub stays_whole : (first : Snapshot) (log : Log) (event : Event) (node : ℕ) (r s : InnerRow)
@@ -133,7 +152,8 @@ module _ (pairs : List Pair) (words : ℕ) (opens : CanOpen pairs words) where
         parent = node;
         i = i;
         linked = linked_now (start pairs words) log node l;
-        named = child_mentioned (state_of pairs words log) node i child (names pairs words opens log h) c;
+        named =
+            child_mentioned (state_of pairs words log) node i child (names pairs words opens log h) c;
       }
 
   pub was_linked_parent : (log : Log) → EachEnabled (start pairs words) log → (child : ℕ)
@@ -147,7 +167,8 @@ module _ (pairs : List Pair) (words : ℕ) (opens : CanOpen pairs words) where
         parent = it.parent;
         i = it.i;
         linked = inr it.linked;
-        named = mentions_step pairs words opens log event h it.parent it.i (InnerAt child) (λ base e. cc) (λ e. cc) it.named;
+        named =
+            mentions_step pairs words opens log event h it.parent it.i (InnerAt child) (λ base e. cc) (λ e. cc) it.named;
       }
 
   -- a row that was linked is published
@@ -156,9 +177,11 @@ module _ (pairs : List Pair) (words : ℕ) (opens : CanOpen pairs words) where
       → WasLinked (start pairs words) log child → InnerHere (state_of pairs words log).pieces child
   was_linked_here log h child ne was =
       let it = was_linked_parent log h child ne was in
-      mentioned_here (state_of pairs words log) it.parent it.i child (names pairs words opens log h) it.named
+      mentioned_here (state_of pairs words log) it.parent it.i child
+      (names pairs words opens log h) it.named
 
   -- no inner row lies at the anchor
   pub not_the_anchor : (log : Log) → EachEnabled (start pairs words) log → (node : ℕ) (r : InnerRow)
       → (state_of pairs words log).pieces node ≡ Some (Inner r) → node ≢ anchor
-  not_the_anchor log h node r e is = no_row (state_of pairs words log).pieces node r (anchor_free pairs words log h) is e
+  not_the_anchor log h node r e is =
+      no_row (state_of pairs words log).pieces node r (anchor_free pairs words log h) is e

@@ -100,7 +100,8 @@ YesIsLinked =
     (pairs : List Pair) (words : ℕ) (log : Log) (caller base : ℕ)
     → Lawful pairs words (Decide caller base true ∷ log) → (change : ChangeRow)
     → (state_of pairs words log).pieces base ≡ Some (Change change)
-    → Linked (state_of pairs words log) change.node × Linked (state_of pairs words (Decide caller base true ∷ log)) change.node
+    → Linked (state_of pairs words log) change.node
+    × Linked (state_of pairs words (Decide caller base true ∷ log)) change.node
 
 -- a change that is undecided while its node isn't linked is never decided yes
 abbrev pub UnlinkedChangesAreRefused : Type 0

@@ -3,10 +3,11 @@ ghost use Rattle.ist_links.specs.Linking.{RowsStayLinked, OpenRowsAreLinked};
 ghost use Rattle.ist_links.specs.Linking.{ClosedRowsWereLinked, ChildrenOfFinishedRows};
 ghost use Rattle.ist_links.specs.Linking.{UnresolvedChangesStand, ResolvedChangesAreGone};
 ghost use Rattle.ist_links.specs.Linking.{UndecidedChangesAreUnresolved, NodesWereLinked};
-ghost use Rattle.ist_links.specs.Linking.{YesIsLinked, OkayedSlotsAreUnpassed, UnlinkedChangesAreRefused};
+ghost use Rattle.ist_links.specs.Linking.{YesIsLinked, OkayedSlotsAreUnpassed};
+ghost use Rattle.ist_links.specs.Linking.{UnlinkedChangesAreRefused};
 
-/// A row that was linked is linked or finished, so that one that is open still is linked. What hangs
-/// below a finished row is finished. Only a row that was linked is ever closed.
+/// A row that was linked is linked or finished, so that one that is open still is linked. What
+/// hangs below a finished row is finished. Only a row that was linked is ever closed.
 pub fn linked_rows_stay()
     ensures linked { RowsStayLinked }
     ensures still_open { OpenRowsAreLinked }

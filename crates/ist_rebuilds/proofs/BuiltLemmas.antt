@@ -57,13 +57,17 @@ module _ (pairs : List Pair) (words : ℕ) (opens : CanOpen pairs words) where
       → ref_of r.root ≡ Some (InnerAt base) → RebuildComes (start pairs words) log rebuild r event
       → RootCame pairs words log event rebuild base
   root_came log event h rebuild base r is (rebuild_was old) = root_was r old is
-  root_came log _ h rebuild base r is (is_begun can s here same) = absurd (inner_set pairs words opens r.root base is (ap (λ x. x.root) same))
-  root_came log _ h rebuild base r is (is_rooted {caller = caller} {word = word} {rows = rows} can same) =
+  root_came log _ h rebuild base r is (is_begun can s here same) =
+      absurd (inner_set pairs words opens r.root base is (ap (λ x. x.root) same))
+  root_came log _ h rebuild base r is
+      (is_rooted {caller = caller} {word = word} {rows = rows} can same) =
       let t = state_of pairs words log in
       let named : ref_of word ≡ Some (InnerAt base) = ap (λ x. ref_of x.root) (sym same) ∙ is in
       let among = root_among (with_inners t.pieces rows) word can.k can.leaves can.row.target (bases_of rows) base can.root named in
-      root_new caller word rows refl (held_free t caller rows can.held (sound_behind pairs words log h.0) base among)
-  root_came log _ h rebuild base r is (is_drawn can same) = root_was can.row can.published (ap (λ x. ref_of x.root) (sym same) ∙ is)
+      root_new caller word rows refl
+      (held_free t caller rows can.held (sound_behind pairs words log h.0) base among)
+  root_came log _ h rebuild base r is (is_drawn can same) =
+      root_was can.row can.published (ap (λ x. ref_of x.root) (sym same) ∙ is)
 
   -- two rebuilds have two roots
   pub root_once : (log : Log) → EachEnabled (start pairs words) log
@@ -73,7 +77,8 @@ module _ (pairs : List Pair) (words : ℕ) (opens : CanOpen pairs words) where
       → ref_of r.root ≡ Some (InnerAt base) → ref_of s.root ≡ Some (InnerAt base) → a ≡ b
   root_once [] h a b base r s e f x y = absurd (start_quiet pairs words a (Rebuild r) e)
   root_once (event ∷ log) h a b base r s e f x y =
-      both (root_came log event h a base r x (rebuild_comes pairs words log event h a r e)) (root_came log event h b base s y (rebuild_comes pairs words log event h b s f))
+      both (root_came log event h a base r x (rebuild_comes pairs words log event h a r e))
+      (root_came log event h b base s y (rebuild_comes pairs words log event h b s f))
       (λ p q i j k l. root_once log h.0 a b base p q i j k l)
     where
       clash : (rebuild : ℕ) (q : RebuildRow)
@@ -91,7 +96,8 @@ module _ (pairs : List Pair) (words : ℕ) (opens : CanOpen pairs words) where
       both (root_was p i k) (root_was q j l) before = before p q i j k l
       both (root_was p i k) (root_new c w rows is none) before = absurd (clash a p i k none)
       both (root_new c w rows is none) (root_was q j l) before = absurd (clash b q j l none)
-      both (root_new c w rows is none) (root_new d v more also free) before = same_root c a d b w v rows more event is also
+      both (root_new c w rows is none) (root_new d v more also free) before =
+          same_root c a d b w v rows more event is also
 
 -- ---- what is built
 
@@ -107,7 +113,8 @@ pub record IsBuiltOver (t : Snapshot) (r : RebuildRow) : Type 0 where
 -- a root that is built in part is set
 pub partly_set : (ps : Pieces) (ref : Ref) (leaves : List PlacedLeaf) (above : ℕ) (rows : List ℕ)
     → IsPartly ps ref leaves above rows → ref ≢ Unset
-partly_set ps _ leaves above rows (whole {ref = ref} ideal) e = ideal_set ps ref leaves above rows ideal e
+partly_set ps _ leaves above rows (whole {ref = ref} ideal) e =
+    ideal_set ps ref leaves above rows ideal e
 partly_set ps _ _ _ _ (in_parts r top under) e = cc
 
 -- some rows with which a reference is partly built
@@ -150,17 +157,20 @@ module _ (pairs : List Pair) (words : ℕ) (opens : CanOpen pairs words) where
       let one : rebuild ≡ at = root_once pairs words opens log h.0 rebuild at can.root can.row r can.published e can.root_is is in
       let same = same_rebuild (t.pieces at) can.row r (subst (λ b. t.pieces b ≡ Some (Rebuild can.row)) one can.published) e in
       let all : can.leaves ≡ leaves = same_leaves t.pieces (Some (InnerAt r.target)) can.leaves leaves (subst (λ x. HasLeaves t.pieces (Some (InnerAt x.target)) can.leaves) same can.reached) reached in
-      let part : slice_get (parts leaves) i ≡ Some can.part = subst (λ ls. slice_get (parts ls) i ≡ Some can.part) all can.part_is in
+      let part : slice_get (parts leaves) i ≡ Some can.part =
+      subst (λ ls. slice_get (parts ls) i ≡ Some can.part) all can.part_is in
       let free : slice_get row.slots i ≡ Some unset_word = subst (λ x. slice_get x.slots i ≡ Some unset_word) (same_inner (t.pieces can.root) can.root_row row can.root_published top.published) can.free in
       let written = rows_placed t caller rebuild i word rows can in
       let stand : StandsIn qs u.pieces (bases_of rows) = record {
-        leaf = λ b x k. subst (λ ps. ps b ≡ Some (Leaf x)) (sym written) (changed_at-fixed qs can.root b (with_slot i word) (Leaf x) k refl);
+        leaf =
+            λ b x k. subst (λ ps. ps b ≡ Some (Leaf x)) (sym written) (changed_at-fixed qs can.root b (with_slot i word) (Leaf x) k refl);
         inner = λ b x among k.
             subst (λ ps. ps b ≡ Some (Inner x)) (sym written)
             (changed_at-other qs can.root b (with_slot i word)
             (λ z. no_piece (t.pieces can.root) (Inner can.root_row) (subst (λ n. t.pieces n ≡ None) z (held_free t caller rows can.held (sound_behind pairs words log h.0) b among)) can.root_published) ∙ k);
       } in
-      let ideal = ideal_kept qs u.pieces can.ref can.part can.root (bases_of rows) can.ideal stand in
+      let ideal =
+      ideal_kept qs u.pieces can.ref can.part can.root (bases_of rows) can.ideal stand in
       let it = partly_placed u.pieces row.slots (parts leaves) can.root built under i word can.part can.ref (bases_of rows) free part can.ref_is ideal in (
         it.0,
         in_parts {rows = it.0} (record row { slots = slice_set row.slots i word })
@@ -189,7 +199,8 @@ module _ (pairs : List Pair) (words : ℕ) (opens : CanOpen pairs words) where
       → SomeBuilt (state_of pairs words (event ∷ log)).pieces (InnerAt base) leaves r.target
   top_step log event h at r e leaves reached base is row _ top built under there stays_so =
       (built, in_parts row (top_kept (state_of pairs words log).pieces (state_of pairs words (event ∷ log)).pieces base row leaves r.target top there) under)
-  top_step log _ h at r e leaves reached base is row _ top built under there (is_filled {caller = caller} {rebuild = rebuild} {i = i} {word = word} {rows = rows} can here) =
+  top_step log _ h at r e leaves reached base is row _ top built under there
+      (is_filled {caller = caller} {rebuild = rebuild} {i = i} {word = word} {rows = rows} can here) =
       let u = state_of pairs words (Place caller rebuild i word rows ∷ log) in
       subst (λ b. SomeBuilt u.pieces (InnerAt b) leaves r.target) (sym here)
       (fill log caller rebuild i word rows h can at r e leaves reached (subst (λ b. ref_of r.root ≡ Some (InnerAt b)) here is) row
@@ -207,7 +218,8 @@ module _ (pairs : List Pair) (words : ℕ) (opens : CanOpen pairs words) where
       → SomeBuilt (state_of pairs words (event ∷ log)).pieces ref leaves r.target
   partly_step log event h at r e unr leaves reached _ is rows (whole {ref = ref} ideal) =
       (rows, whole (whole_step log event h at r e unr leaves ref is rows ideal))
-  partly_step log event h at r e unr leaves reached _ is rows (in_parts {base = base} row top under) =
+  partly_step log event h at r e unr leaves reached _ is rows
+      (in_parts {base = base} row top under) =
       let t = state_of pairs words log in
       let u = state_of pairs words (event ∷ log) in
       let never = root_never_linked pairs words opens log h.0 at base r e is unr in
@@ -215,4 +227,5 @@ module _ (pairs : List Pair) (words : ℕ) (opens : CanOpen pairs words) where
       (λ k word child at_k named. never_down pairs words opens log h.0 base row never top.published k word child at_k named) in
       let stand = never_stand pairs words opens log event h rows all (partly_whole t.pieces row.slots (parts leaves) base rows under) in
       let on = untouched pairs words opens log event h base row top.published never in
-      top_step log event h at r e leaves reached base is row on.0 top rows (partly_kept t.pieces u.pieces row.slots (parts leaves) base rows under stand) on.1 on.2
+      top_step log event h at r e leaves reached base is row on.0 top rows
+      (partly_kept t.pieces u.pieces row.slots (parts leaves) base rows under stand) on.1 on.2

@@ -25,9 +25,11 @@ use Rattle.ist_links.proofs.QuietLemmas.{start_quiet}
 called_grows : (t u : Snapshot) → AllGrow t.pieces u.pieces → (log : Log) (event : Event) (node : ℕ)
     → IsCalled t log node
     → IsCalled u (event ∷ log) node
-called_grows t u g log event node (as_target rebuild target started) = as_target rebuild (target_grows t u g rebuild node target) (started_grows t u g rebuild started)
+called_grows t u g log event node (as_target rebuild target started) =
+    as_target rebuild (target_grows t u g rebuild node target) (started_grows t u g rebuild started)
 called_grows t u g log event node (as_child above i word p is) = as_child above i word (inr p) is
-called_grows t u g log event node (behind_rebuild above i word rebuild p is target) = behind_rebuild above i word rebuild (inr p) is (target_grows t u g rebuild node target)
+called_grows t u g log event node (behind_rebuild above i word rebuild p is target) =
+    behind_rebuild above i word rebuild (inr p) is (target_grows t u g rebuild node target)
 
 module _ (pairs : List Pair) (words : ℕ) where
   -- each row that isn't open has a cause
@@ -37,7 +39,8 @@ module _ (pairs : List Pair) (words : ℕ) where
       → IsCalled (state_of pairs words log) log node
   closed_is_called [] h node r e closed = absurd (closed (start_quiet pairs words node (Inner r) e))
   closed_is_called (event ∷ log) h node r e closed =
-      by_origin event h (status_comes pairs words log event h node r e) (λ s old shut. closed_is_called log h.0 node s old shut)
+      by_origin event h (status_comes pairs words log event h node r e)
+      (λ s old shut. closed_is_called log h.0 node s old shut)
     where
       by_origin : (event : Event) → EachEnabled (start pairs words) (event ∷ log)
           → StatusComes (start pairs words) log node r.status event
@@ -45,10 +48,17 @@ module _ (pairs : List Pair) (words : ℕ) where
           → s.status ≢ open_word → IsCalled (state_of pairs words log) log node)
           → IsCalled (state_of pairs words (event ∷ log)) (event ∷ log) node
       by_origin event all (status_was s old same) before =
-          called_grows (state_of pairs words log) (state_of pairs words (event ∷ log)) (grow_behind pairs words log event all) log event node (before s old (λ o. closed (same ∙ o)))
+          called_grows (state_of pairs words log) (state_of pairs words (event ∷ log))
+          (grow_behind pairs words log event all) log event node
+          (before s old (λ o. closed (same ∙ o)))
       by_origin event all (is_new none same) before = absurd (closed same)
       by_origin _ all (marked_now {caller = caller} can same) before =
-          called_grows (state_of pairs words log) (state_of pairs words (Mark caller node ∷ log)) (grow_behind pairs words log (Mark caller node) all) log (Mark caller node) node can.called
+          called_grows (state_of pairs words log) (state_of pairs words (Mark caller node ∷ log))
+          (grow_behind pairs words log (Mark caller node) all) log
+          (Mark caller node) node can.called
       by_origin _ all (finished_now {caller = caller} {keys = keys} can same) before =
-          called_grows (state_of pairs words log) (state_of pairs words (Finish caller node keys ∷ log)) (grow_behind pairs words log (Finish caller node keys) all) log (Finish caller node keys) node
+          called_grows (state_of pairs words log)
+          (state_of pairs words (Finish caller node keys ∷ log))
+          (grow_behind pairs words log (Finish caller node keys) all) log
+          (Finish caller node keys) node
           (before can.row can.published (λ o. let one = can.marked in omega arith))

@@ -10,7 +10,7 @@ use Rattle.ist_core.specs.Lawful.{CanOpen, EachEnabled, state_of}
 use Rattle.ist_core.specs.Leaves.{HasContents, HasLeaves, leaf_here, none_here, pair_of}
 use Rattle.ist_core.specs.Links.{Linked, at_anchor, below}
 use Rattle.ist_core.specs.Logs.{Log}
-use Rattle.ist_core.specs.Pieces.{Change, Leaf, with_decision}
+use Rattle.ist_core.specs.Pieces.{Change, Leaf, Pieces, with_decision}
 use Rattle.ist_core.specs.Rebuilding.{IsUpdate}
 use Rattle.ist_core.specs.References.{Empty, InnerAt, LeafAt, Ref, Unset, ref_of}
 use Rattle.ist_core.specs.RowLayout.{anchor, first_row}
@@ -34,7 +34,8 @@ use Rattle.ist_links.proofs.FormLemmas.{IsFormed, of_finish, of_leaf_put, of_pai
 use Rattle.ist_links.proofs.FormedLemmas.{changes_are_formed}
 use Rattle.ist_links.proofs.InductionLemmas.{grow_behind}
 use Rattle.ist_links.proofs.PairLemmas.{pair_is_filled}
-use Rattle.ist_links.proofs.ReadLemmas.{ReadsAs, Turns, decide_reads, turned_by}
+use Rattle.ist_links.proofs.ReadEventLemmas.{decide_reads}
+use Rattle.ist_links.proofs.ReadLemmas.{ReadsAs, Turns, turned_by}
 use Rattle.ist_links.proofs.ReadStepLemmas.{reads_step}
 use Rattle.ist_links.proofs.UntouchedLemmas.{not_the_anchor}
 use Rattle.ist_rebuilds.proofs.ExistLemmas.{HasSome, IsAlikeEnough, pair_some, plain_to, row_slot, some_move, split_reads, split_some}
@@ -51,7 +52,8 @@ module _ (pairs : List Pair) (words : ℕ) (opens : CanOpen pairs words) where
       → x.decision ≡ undecided
       → IsUpdate x.kind → (to : Ref) → ref_of x.to ≡ Some to
       → HasSome (state_of pairs words (Decide caller base true ∷ log)).pieces (Some to)
-  update_some log caller base h x e none update to is = by_form (changes_are_formed pairs words log h.0 base x e)
+  update_some log caller base h x e none update to is =
+      by_form (changes_are_formed pairs words log h.0 base x e)
     where
       same : (a : Ref) → ref_of x.to ≡ Some a → Some a ≡ Some to
       same a k = sym k ∙ is
@@ -60,15 +62,19 @@ module _ (pairs : List Pair) (words : ℕ) (opens : CanOpen pairs words) where
       stand = decided_stands pairs words log caller base true []
 
       not_three : (k : ℕ) → x.kind ≡ k → 3 ≤ k → ⊥
-      not_three k kind high = ⊎_elim (λ p. let put : x.kind ≡ 1 = p in omega arith) (λ r. let remove : x.kind ≡ 2 = r in omega arith) update
+      not_three k kind high =
+          ⊎_elim (λ p. let put : x.kind ≡ 1 = p in omega arith)
+          (λ r. let remove : x.kind ≡ 2 = r in omega arith) update
 
       by_form : IsFormed (state_of pairs words log) x
           → HasSome (state_of pairs words (Decide caller base true ∷ log)).pieces (Some to)
       by_form (of_leaf_put f) =
           let u = state_of pairs words (Decide caller base true ∷ log) in
-          subst (λ o. HasSome u.pieces o) (same (LeafAt f.leaf) f.to) record { leaves = _; reached = leaf_here _ (stand.leaf f.leaf _ f.new) }
+          subst (λ o. HasSome u.pieces o) (same (LeafAt f.leaf) f.to)
+          record { leaves = _; reached = leaf_here _ (stand.leaf f.leaf _ f.new) }
       by_form (of_remove f) =
-          subst (λ o. HasSome (state_of pairs words (Decide caller base true ∷ log)).pieces o) (same Empty f.to) record { leaves = []; reached = none_here }
+          subst (λ o. HasSome (state_of pairs words (Decide caller base true ∷ log)).pieces o)
+          (same Empty f.to) record { leaves = []; reached = none_here }
       by_form (of_start f) = absurd (not_three start_kind f.kind (omega arith))
       by_form (of_finish f) = absurd (not_three finish_kind f.kind (omega arith))
       by_form (of_pair_put f) =
@@ -77,18 +83,21 @@ module _ (pairs : List Pair) (words : ℕ) (opens : CanOpen pairs words) where
           let p = pair_is_filled pairs words opens log h.0 base x e none f.kind f.pair f.to in
           let row = pair_is_inner x.key p.leaf p.other_key p.other in
           let there : u.pieces f.pair ≡ Some (pair_row x.key p.leaf p.other_key p.other) =
-          changed_at-fixed t.pieces base f.pair (with_decision decided_yes) (pair_row x.key p.leaf p.other_key p.other) p.published
+          changed_at-fixed t.pieces base f.pair (with_decision decided_yes)
+          (pair_row x.key p.leaf p.other_key p.other) p.published
           (subst (λ q. with_decision decided_yes q ≡ q) (sym row.1) refl) in
           subst (λ o. HasSome u.pieces o) (same (InnerAt f.pair) f.to)
           (pair_some u.pieces f.pair x.key p.leaf p.other_key p.other record { key = x.key; value = x.value } p.stands.row there
-          (published_good pairs words opens log p.leaf (new_leaf x) h.0 p.new) (published_good pairs words opens log p.other (Leaf p.stands.row) h.0 p.stands.published)
+          (published_good pairs words opens log p.leaf (new_leaf x) h.0 p.new)
+          (published_good pairs words opens log p.other (Leaf p.stands.row) h.0 p.stands.published)
           (stand.leaf p.leaf record { key = x.key; value = x.value } p.new) (stand.leaf p.other p.stands.row p.stands.published))
 
   -- what a change puts in is a reference
   undecided_to : (log : Log) → EachEnabled (start pairs words) log → (base : ℕ) (x : ChangeRow)
       → (state_of pairs words log).pieces base ≡ Some (Change x)
       → (ref : Ref) × (ref_of x.to ≡ Some ref)
-  undecided_to log h base x e = at (ref_of x.to) refl ((names pairs words opens log h).rows base (Change x) e).1
+  undecided_to log h base x e =
+      at (ref_of x.to) refl ((names pairs words opens log h).rows base (Change x) e).1
     where
       at : (o : Option Ref) → ref_of x.to ≡ o
           → SideNames (state_of pairs words log).pieces x.node x.index o
@@ -104,19 +113,23 @@ module _ (pairs : List Pair) (words : ℕ) (opens : CanOpen pairs words) where
       → SlotHolds (state_of pairs words (Decide caller base true ∷ log)) node i v
       → HasSome (state_of pairs words log).pieces (logical (state_of pairs words log).pieces w)
       → (logical (state_of pairs words (Decide caller base true ∷ log)).pieces v ≡ logical (state_of pairs words log).pieces w)
-      ⊎ HasSome (state_of pairs words (Decide caller base true ∷ log)).pieces (logical (state_of pairs words (Decide caller base true ∷ log)).pieces v)
-  slot_enough log caller base h update node i w v old now some = at (past_change (state_of pairs words log).pieces (ref_of w)) refl some
+      ⊎ HasSome (state_of pairs words (Decide caller base true ∷ log)).pieces
+      (logical (state_of pairs words (Decide caller base true ∷ log)).pieces v)
+  slot_enough log caller base h update node i w v old now some =
+      at (past_change (state_of pairs words log).pieces (ref_of w)) refl some
     where
       at : (o : Option Ref) → past_change (state_of pairs words log).pieces (ref_of w) ≡ o
           → HasSome (state_of pairs words log).pieces (past_rebuild (state_of pairs words log).pieces o)
           → (logical (state_of pairs words (Decide caller base true ∷ log)).pieces v ≡ logical (state_of pairs words log).pieces w)
-          ⊎ HasSome (state_of pairs words (Decide caller base true ∷ log)).pieces (logical (state_of pairs words (Decide caller base true ∷ log)).pieces v)
+          ⊎ HasSome (state_of pairs words (Decide caller base true ∷ log)).pieces
+          (logical (state_of pairs words (Decide caller base true ∷ log)).pieces v)
       at None is k = absurd (no_leaves (state_of pairs words log).pieces k.leaves k.reached)
       at (Some ref) is k =
           let t = state_of pairs words log in
           let u = state_of pairs words (Decide caller base true ∷ log) in
           let set : ref ≢ Unset = λ none. unset_leaves t.pieces k.leaves (subst (λ r. HasLeaves t.pieces (past_rebuild t.pieces (Some r)) k.leaves) none k.reached) in
-          let back : past_rebuild t.pieces (Some ref) ≡ logical t.pieces w = ap (past_rebuild t.pieces) (sym is) in
+          let back : past_rebuild t.pieces (Some ref) ≡ logical t.pieces w =
+          ap (past_rebuild t.pieces) (sym is) in
           ⊎_elim
           (λ r.
           let same = slot_once u node i v r.word (anchor_free pairs words (Decide caller base true ∷ log) h) now r.holds in
@@ -141,7 +154,8 @@ module _ (pairs : List Pair) (words : ℕ) (opens : CanOpen pairs words) where
               let there = subst (λ m. ReadsAs u m i to.0) (ap (λ x. x.node) (sym row) ∙ n) (subst (λ m. ReadsAs u mine.change.node m to.0) (ap (λ x. x.index) (sym row) ∙ j) r) in
               let same = slot_once u node i v there.word (anchor_free pairs words (Decide caller base true ∷ log) h) now there.holds in
               let some_to = update_some log caller base h mine.change mine.pending.published mine.pending.unset update to.0 to.1 in
-              subst (λ o. HasSome u.pieces o) (sym (ap (logical u.pieces) same ∙ ap (past_rebuild u.pieces) there.reads ∙ plain_to u.pieces to.0 some_to)) some_to
+              subst (λ o. HasSome u.pieces o)
+              (sym (ap (logical u.pieces) same ∙ ap (past_rebuild u.pieces) there.reads ∙ plain_to u.pieces to.0 some_to)) some_to
 
   -- contents exist behind an update that is decided yes
   update_contents : (log : Log) (caller base : ℕ)
@@ -160,7 +174,8 @@ module _ (pairs : List Pair) (words : ℕ) (opens : CanOpen pairs words) where
             let it = inner_there t.pieces u.pieces g b r e in
             (it.0, it.1, it.2.slots, λ i w v at now k. slot_enough log caller base h update b i w v (in_row r e at) (in_row it.0 it.1 now) k);
       } in
-      let moved = some_move t.pieces u.pieces alike (logical t.pieces t.anchor) some.leaves some.reached in
+      let moved =
+      some_move t.pieces u.pieces alike (logical t.pieces t.anchor) some.leaves some.reached in
       ⊎_elim (λ same. subst (λ o. HasSome u.pieces o) (sym same) moved) (λ anyhow. anyhow)
       (slot_enough log caller base h update anchor 0 t.anchor u.anchor (in_anchor refl refl refl) (in_anchor refl refl refl) some)
 
@@ -179,7 +194,8 @@ module _ (pairs : List Pair) (words : ℕ) (opens : CanOpen pairs words) where
 
   -- the anchor has some leaves
   abbrev AnchorHas : Log → Type 0
-  AnchorHas log = HasSome (state_of pairs words log).pieces (logical (state_of pairs words log).pieces (state_of pairs words log).anchor)
+  AnchorHas log =
+      let t = state_of pairs words log in HasSome t.pieces (logical t.pieces t.anchor)
 
   kept : (log : Log) (event : Event) → EachEnabled (start pairs words) (event ∷ log)
       → LeavesContents (state_of pairs words log) event → AnchorHas log → AnchorHas (event ∷ log)
@@ -197,17 +213,17 @@ module _ (pairs : List Pair) (words : ℕ) (opens : CanOpen pairs words) where
       (kind_is h.1.change.kind)
   contents_some log (Enter caller) h some = kept log (Enter caller) h tt some
   contents_some log (Reserve caller b size) h some = kept log (Reserve caller b size) h tt some
-  contents_some log (Install caller change rows) h some = kept log (Install caller change rows) h tt some
+  contents_some log (Install c change rows) h some = kept log (Install c change rows) h tt some
   contents_some log (Okay caller change) h some = kept log (Okay caller change) h tt some
-  contents_some log (Decide caller base false) h some = kept log (Decide caller base false) h tt some
+  contents_some log (Decide c base false) h some = kept log (Decide c base false) h tt some
   contents_some log (Resolve caller change) h some = kept log (Resolve caller change) h tt some
   contents_some log (Count caller n) h some = kept log (Count caller n) h tt some
   contents_some log (Mark caller n) h some = kept log (Mark caller n) h tt some
   contents_some log (Pass caller n j word) h some = kept log (Pass caller n j word) h tt some
   contents_some log (Finish caller n keys) h some = kept log (Finish caller n keys) h tt some
-  contents_some log (Root caller rebuild word rows) h some = kept log (Root caller rebuild word rows) h tt some
-  contents_some log (Draw caller rebuild part) h some = kept log (Draw caller rebuild part) h tt some
-  contents_some log (Place caller rebuild j word rows) h some = kept log (Place caller rebuild j word rows) h tt some
+  contents_some log (Root c r word rows) h some = kept log (Root c r word rows) h tt some
+  contents_some log (Draw c r part) h some = kept log (Draw c r part) h tt some
+  contents_some log (Place c r j word rows) h some = kept log (Place c r j word rows) h tt some
   contents_some log (Lose caller bases) h some = kept log (Lose caller bases) h tt some
 
   -- contents exist
@@ -231,7 +247,8 @@ module _ (pairs : List Pair) (words : ℕ) (opens : CanOpen pairs words) where
   pub contents_same : (log : Log) (event : Event) → EachEnabled (start pairs words) (event ∷ log)
       → LeavesContents (state_of pairs words log) event → (contents : List Pair)
       → HasContents (state_of pairs words log) contents ↔ HasContents (state_of pairs words (event ∷ log)) contents
-  contents_same log event h leaves contents = (contents_kept pairs words opens log event h leaves contents, back)
+  contents_same log event h leaves contents =
+      (contents_kept pairs words opens log event h leaves contents, back)
     where
       back : HasContents (state_of pairs words (event ∷ log)) contents
           → HasContents (state_of pairs words log) contents
@@ -247,8 +264,12 @@ module _ (pairs : List Pair) (words : ℕ) (opens : CanOpen pairs words) where
       → Linked (state_of pairs words log) node
       → SlotHolds (state_of pairs words log) node i word
       → HasSome (state_of pairs words log).pieces (logical (state_of pairs words log).pieces word)
-  linked_slot log h _ i word at_anchor (in_anchor a b e) = subst (λ w. HasSome (state_of pairs words log).pieces (logical (state_of pairs words log).pieces w)) e (anchor_has log h)
-  linked_slot log h _ i word at_anchor (in_row r e at) = absurd (no_row (state_of pairs words log).pieces anchor r (anchor_free pairs words log h) refl e)
+  linked_slot log h _ i word at_anchor (in_anchor a b e) =
+      let ps : Pieces = (state_of pairs words log).pieces in
+      subst (λ w. HasSome ps (logical ps w)) e (anchor_has log h)
+  linked_slot log h _ i word at_anchor (in_row r e at) =
+      absurd
+      (no_row (state_of pairs words log).pieces anchor r (anchor_free pairs words log h) refl e)
   linked_slot log h _ i word (below {node = node} {child = child} j l c) (in_anchor a b e) =
       let t = state_of pairs words log in
       let o = names pairs words opens log h in
@@ -275,4 +296,5 @@ module _ (pairs : List Pair) (words : ℕ) (opens : CanOpen pairs words) where
       → HasSome (state_of pairs words log).pieces (Some (InnerAt node))
   linked_some log h _ apart at_anchor = absurd (apart refl)
   linked_some log h _ apart (below {node = node} i l c) =
-      subst (λ o. HasSome (state_of pairs words log).pieces o) c.reads (linked_slot log h node i c.word l c.holds)
+      subst (λ o. HasSome (state_of pairs words log).pieces o) c.reads
+      (linked_slot log h node i c.word l c.holds)

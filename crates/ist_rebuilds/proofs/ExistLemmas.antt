@@ -43,7 +43,8 @@ module _ (ps qs : Pieces) (alike : IsAlikeEnough ps qs) where
     pub some_move : (ref : Option Ref) (leaves : List PlacedLeaf) → HasLeaves ps ref leaves
         → HasSome qs ref
     some_move _ _ none_here = record { leaves = []; reached = none_here }
-    some_move _ _ (leaf_here {base = base} r e) = record { leaves = _; reached = leaf_here r (alike.leaf base r e) }
+    some_move _ _ (leaf_here {base = base} r e) =
+        record { leaves = _; reached = leaf_here r (alike.leaf base r e) }
     some_move _ _ (row_here {base = base} {leaves = leaves} r e under) =
         let it = alike.row base r e in
         let below = slots_some r.slots leaves under it.0.slots it.2 it.3 in
@@ -55,11 +56,13 @@ module _ (ps qs : Pieces) (alike : IsAlikeEnough ps qs) where
     slots_some _ _ no_slot [] long slots = record { leaves = []; reached = no_slot }
     slots_some _ _ no_slot (v ∷ vs) long slots = absurd (omega arith)
     slots_some _ _ (one_slot first more) [] long slots = absurd (omega arith)
-    slots_some _ _ (one_slot {word = word} {words = words} {here = here} {rest = rest} first more) (v ∷ vs) long slots =
+    slots_some _ _ (one_slot {word = word} {words = words} {here = here} {rest = rest} first more)
+        (v ∷ vs) long slots =
         let moved = some_move (logical ps word) here first in
         let one : HasSome qs (logical qs v) =
         ⊎_elim (λ same. subst (λ o. HasSome qs o) (sym same) moved) (λ anyhow. anyhow) (slots 0 word v refl refl record { leaves = here; reached = first }) in
-        let others = slots_some words rest more vs (omega arith) (λ i w x at now. slots (suc i) w x at now) in
+        let others =
+        slots_some words rest more vs (omega arith) (λ i w x at now. slots (suc i) w x at now) in
         record { leaves = one.leaves ++ others.leaves; reached = one_slot one.reached others.reached }
 
 -- ---- trees have leaves
@@ -72,7 +75,8 @@ slot_some ps _ _ no_slot i word e = absurd (cc)
 slot_some ps _ _ (one_slot {word = w} {here = here} first more) zero word e =
     let same : w ≡ word = cc in
     subst (λ x. HasSome ps (logical ps x)) same record { leaves = here; reached = first }
-slot_some ps _ _ (one_slot {words = words} {rest = rest} first more) (suc i) word e = slot_some ps words rest more i word e
+slot_some ps _ _ (one_slot {words = words} {rest = rest} first more) (suc i) word e =
+    slot_some ps words rest more i word e
 
 -- a tree over keys reads as itself
 pub split_reads : {A : Type 0} (key : A → ℕ) (ps : Pieces) (ref : Ref) (xs : List A) (rows : List ℕ)
@@ -97,10 +101,12 @@ module _ {A : Type 0} (key : A → ℕ) (ps : Pieces) where
         → SplitAll key ps words behind rows
         → SlotsHaveSome ps words
     split_all_some _ _ _ no_split = record { leaves = []; reached = no_slot }
-    split_all_some _ _ _ (one_split {word = word} {words = words} {here = here} {rest = rest} {part = part} {behind = behind} ref is first more) =
+    split_all_some _ _ _
+        (one_split {word = word} {words = words} {here = here} {rest = rest} {part = part} {behind = behind} ref is first more) =
         let one = split_some ref part here first in
         let others = split_all_some words behind rest more in
-        let read : logical ps word ≡ Some ref = ap (λ o. past_rebuild ps (past_change ps o)) is ∙ split_reads key ps ref part here first in
+        let read : logical ps word ≡ Some ref =
+        ap (λ o. past_rebuild ps (past_change ps o)) is ∙ split_reads key ps ref part here first in
         record { leaves = one.leaves ++ others.leaves; reached = one_slot (subst (λ o. HasLeaves ps o one.leaves) (sym read) one.reached) others.reached }
 
 -- ---- pair rows, and slots of rows
@@ -108,7 +114,8 @@ module _ {A : Type 0} (key : A → ℕ) (ps : Pieces) where
 -- a leaf's word at a good base reads as the leaf
 leaf_reads : (ps : Pieces) (base : ℕ) → IsGoodBase base
     → logical ps (word_of (LeafAt base)) ≡ Some (LeafAt base)
-leaf_reads ps base good = ap (λ o. past_rebuild ps (past_change ps o)) (ref_of-word_of (LeafAt base) good)
+leaf_reads ps base good =
+    ap (λ o. past_rebuild ps (past_change ps o)) (ref_of-word_of (LeafAt base) good)
 
 -- an inner row over two leaves has them
 over_some : (ps : Pieces) (base key left right : ℕ) (l r : LeafRow)
@@ -157,4 +164,5 @@ row_slot ps base r e h i word at = by_leaves base h.leaves h.reached e
         → ps base ≡ Some (Inner r) → HasSome ps (logical ps word)
     by_leaves _ leaves (row_here {base = base} s f under) e =
         let same = same_inner (ps base) s r f e in
-        slot_some ps s.slots leaves under i word (subst (λ x. slice_get x.slots i ≡ Some word) (sym same) at)
+        slot_some ps s.slots leaves under i word
+        (subst (λ x. slice_get x.slots i ≡ Some word) (sym same) at)

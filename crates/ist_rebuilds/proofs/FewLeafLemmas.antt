@@ -23,8 +23,10 @@ mutual
       → SlotsHaveLeaves ps words leaves
       → Each (λ leaf. ps leaf.base ≡ Some (Leaf leaf.row)) leaves
   slots_stand ps _ _ no_slot = tt
-  slots_stand ps _ _ (one_slot {word = word} {words = words} {here = here} {rest = rest} first more) =
-      each_append (λ leaf. ps leaf.base ≡ Some (Leaf leaf.row)) here rest (leaves_stand ps (logical ps word) here first) (slots_stand ps words rest more)
+  slots_stand ps _ _
+      (one_slot {word = word} {words = words} {here = here} {rest = rest} first more) =
+      each_append (λ leaf. ps leaf.base ≡ Some (Leaf leaf.row)) here rest
+      (leaves_stand ps (logical ps word) here first) (slots_stand ps words rest more)
 
 -- the bases of some leaves
 abbrev pub leaf_bases : List PlacedLeaf → List ℕ
@@ -39,7 +41,8 @@ base_absent : (ps : Pieces) (leaf : PlacedLeaf) (leaves : List PlacedLeaf)
     → ¬ (Among leaf.base (leaf_bases leaves))
 base_absent ps leaf [] e all above i = i
 base_absent ps leaf (l ∷ leaves) e all above (inl same) =
-    let row : leaf.row ≡ l.row = one (ps l.base) leaf.row l.row (subst (λ b. ps b ≡ Some (Leaf leaf.row)) same e) all.0 in
+    let row : leaf.row ≡ l.row =
+    one (ps l.base) leaf.row l.row (subst (λ b. ps b ≡ Some (Leaf leaf.row)) same e) all.0 in
     let keys = ap (λ r. r.key) row in
     let less = above.0 in
     omega arith
@@ -53,7 +56,8 @@ pub bases_distinct : (ps : Pieces) (leaves : List PlacedLeaf)
     → Each (λ l. ps l.base ≡ Some (Leaf l.row)) leaves
     → Rises key_of_leaf leaves → Distinct (leaf_bases leaves)
 bases_distinct ps [] all rise = tt
-bases_distinct ps (leaf ∷ leaves) all rise = (base_absent ps leaf leaves all.0 all.1 rise.0, bases_distinct ps leaves all.1 rise.1)
+bases_distinct ps (leaf ∷ leaves) all rise =
+    (base_absent ps leaf leaves all.0 all.1 rise.0, bases_distinct ps leaves all.1 rise.1)
 
 pub length-leaf_bases : (leaves : List PlacedLeaf) → length (leaf_bases leaves) ≡ length leaves
 length-leaf_bases [] = refl
@@ -63,4 +67,5 @@ pub bases_low : (ps : Pieces) (n : ℕ) → ((base : ℕ) (p : Piece) → ps bas
     → (leaves : List PlacedLeaf)
     → Each (λ l. ps l.base ≡ Some (Leaf l.row)) leaves → Each (λ b. b < n) (leaf_bases leaves)
 bases_low ps n low [] all = tt
-bases_low ps n low (leaf ∷ leaves) all = (low leaf.base (Leaf leaf.row) all.0, bases_low ps n low leaves all.1)
+bases_low ps n low (leaf ∷ leaves) all =
+    (low leaf.base (Leaf leaf.row) all.0, bases_low ps n low leaves all.1)

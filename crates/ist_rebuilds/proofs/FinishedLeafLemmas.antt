@@ -70,7 +70,8 @@ module _ (pairs : List Pair) (words : ℕ) (opens : CanOpen pairs words) where
       let odd : r.status ≡ 4 * k + 3 = is in
       absurd (omega arith)
   finished_some (event ∷ log) h node k r e is =
-      by_origin event h (status_comes pairs words log event h node r e) (λ s old same. finished_some log h.0 node k s old same)
+      by_origin event h (status_comes pairs words log event h node r e)
+      (λ s old same. finished_some log h.0 node k s old same)
     where
       by_origin : (event : Event) → EachEnabled (start pairs words) (event ∷ log)
           → StatusComes (start pairs words) log node r.status event
@@ -81,8 +82,10 @@ module _ (pairs : List Pair) (words : ℕ) (opens : CanOpen pairs words) where
       by_origin event all (status_was s old same) before =
           let it = before s old (sym same ∙ is) in
           record { leaves = it.leaves; reached = leaves_kept pairs words opens log event all node it.leaves (k, record { row = s; published = old; status = sym same ∙ is }) it.reached }
-      by_origin event all (is_new none same) before = let odd : r.status ≡ 4 * k + 3 = is in absurd (omega arith)
-      by_origin _ all (marked_now can same) before = let odd : r.status ≡ 4 * k + 3 = is in absurd (omega arith)
+      by_origin event all (is_new none same) before =
+          let odd : r.status ≡ 4 * k + 3 = is in absurd (omega arith)
+      by_origin _ all (marked_now can same) before =
+          let odd : r.status ≡ 4 * k + 3 = is in absurd (omega arith)
       by_origin _ all (finished_now {caller = caller} {keys = keys} can same) before =
           let apart = not_the_anchor pairs words opens log all.0 node can.row can.published in
           let it = linked_some pairs words opens log all.0 node apart (finishing_linked log all.0 caller node keys can) in
@@ -103,12 +106,14 @@ module _ (pairs : List Pair) (words : ℕ) (opens : CanOpen pairs words) where
   finished_rise log h node k f leaves reached =
       let t = state_of pairs words log in
       let some = f.status in
-      let was = closed_was_linked pairs words opens log h node f.row f.published (λ o. omega arith) in
+      let was =
+      closed_was_linked pairs words opens log h node f.row f.published (λ o. omega arith) in
       let up = was_linked_parent pairs words opens log h node (not_the_anchor pairs words opens log h node f.row f.published) was in
       (under.leaves_under t (Some (InnerAt node)) leaves (names pairs words opens log h) (one_home pairs words opens log h) (anchor_free pairs words log h) (leaves_lie pairs words opens log h) reached up.parent up.i
       record {
         a_leaf = λ base e. absurd (cc);
-        a_row = λ base e. subst (λ r. Mentions t up.parent up.i r) (inner_base node base e) up.named;
+        a_row =
+            λ base e. subst (λ r. Mentions t up.parent up.i r) (inner_base node base e) up.named;
       }).1
 
   -- a row is finished with no more keys than a table has places

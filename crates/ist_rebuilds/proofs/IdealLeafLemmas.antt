@@ -56,16 +56,20 @@ mutual
       → IsIdeal ps ref leaves above rows → HasLeaves ps (Some ref) leaves
   ideal_leaves ps _ _ _ _ of_none = none_here
   ideal_leaves ps _ _ _ _ (of_one {base = base} {leaf = leaf} same e) =
-      subst (λ b. HasLeaves ps (Some (LeafAt base)) (record { base = b; row = leaf.row } ∷ [])) (sym same) (leaf_here leaf.row e)
+      subst (λ b. HasLeaves ps (Some (LeafAt base)) (record { base = b; row = leaf.row } ∷ []))
+      (sym same) (leaf_here leaf.row e)
   ideal_leaves ps _ _ above _ (of_more {base = base} {leaves = leaves} {rows = rows} r top under) =
-      row_here r top.published (subst (λ ls. SlotsHaveLeaves ps r.slots ls) (joined_parts leaves) (parts_leaves ps r.slots (parts leaves) base rows under))
+      row_here r top.published
+      (subst (λ ls. SlotsHaveLeaves ps r.slots ls) (joined_parts leaves) (parts_leaves ps r.slots (parts leaves) base rows under))
 
   parts_leaves : (ps : Pieces) (words : List ℕ) (behind : List (List PlacedLeaf)) (above : ℕ)
       (rows : List ℕ)
       → AreIdeal ps words behind above rows → SlotsHaveLeaves ps words (joined behind)
   parts_leaves ps _ _ _ _ no_part = no_slot
-  parts_leaves ps _ _ above _ (one_part {word = word} {words = words} {here = here} {rest = rest} {part = part} {behind = behind} ref is first more) =
-      one_slot (subst (λ o. HasLeaves ps o part) (sym (ap (λ o. past_rebuild ps (past_change ps o)) is ∙ ideal_reads ps ps ref part above here first)) (ideal_leaves ps ref part above here first))
+  parts_leaves ps _ _ above _
+      (one_part {word = word} {words = words} {here = here} {rest = rest} {part = part} {behind = behind} ref is first more) =
+      one_slot
+      (subst (λ o. HasLeaves ps o part) (sym (ap (λ o. past_rebuild ps (past_change ps o)) is ∙ ideal_reads ps ps ref part above here first)) (ideal_leaves ps ref part above here first))
       (parts_leaves ps words behind above rest more)
 
 -- an ideal reference is no rebuild
@@ -89,7 +93,8 @@ pub ideal_above : (ps : Pieces) (ref : Ref) (leaves : List PlacedLeaf) (above : 
     → IsIdeal ps ref leaves above rows → ref ≡ InnerAt base → above < base
 ideal_above ps _ _ _ _ base of_none e = absurd (cc)
 ideal_above ps _ _ _ _ base (of_one same k) e = absurd (cc)
-ideal_above ps _ _ above _ base (of_more {base = b} r top under) e = let same : b ≡ base = cc in subst (λ n. above < n) same top.higher
+ideal_above ps _ _ above _ base (of_more {base = b} r top under) e =
+    let same : b ≡ base = cc in subst (λ n. above < n) same top.higher
 
 -- a Decide leaves leaves and inner rows as they are
 pub decided_stands : (pairs : List Pair) (words : ℕ) (log : Log) (caller base : ℕ) (said : Bool)
@@ -98,6 +103,8 @@ pub decided_stands : (pairs : List Pair) (words : ℕ) (log : Log) (caller base 
 decided_stands pairs words log caller base said rows =
     let t = state_of pairs words log in
     record {
-      leaf = λ b r e. changed_at-fixed t.pieces base b (with_decision (decision_word said)) (Leaf r) e refl;
-      inner = λ b r i e. changed_at-fixed t.pieces base b (with_decision (decision_word said)) (Inner r) e refl;
+      leaf =
+          λ b r e. changed_at-fixed t.pieces base b (with_decision (decision_word said)) (Leaf r) e refl;
+      inner =
+          λ b r i e. changed_at-fixed t.pieces base b (with_decision (decision_word said)) (Inner r) e refl;
     }

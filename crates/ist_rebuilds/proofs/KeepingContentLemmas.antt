@@ -23,7 +23,8 @@ use Rattle.ist_links.proofs.ChildLemmas.{leads_grows, leads_rebuild}
 use Rattle.ist_links.proofs.FormLemmas.{IsFormed, of_finish, of_leaf_put, of_pair_put, of_remove, of_start}
 use Rattle.ist_links.proofs.FormedLemmas.{changes_are_formed}
 use Rattle.ist_links.proofs.InductionLemmas.{grow_behind}
-use Rattle.ist_links.proofs.ReadLemmas.{ReadsAs, Turns, decide_reads, turned_by}
+use Rattle.ist_links.proofs.ReadEventLemmas.{decide_reads}
+use Rattle.ist_links.proofs.ReadLemmas.{ReadsAs, Turns, turned_by}
 use Rattle.ist_links.proofs.ReadStepLemmas.{reads_step}
 use Rattle.ist_rebuilds.proofs.IdealLeafLemmas.{decided_stands, ideal_leaves, ideal_plain}
 use Rattle.ist_rebuilds.proofs.NewTreeLemmas.{ideal_kept}
@@ -69,9 +70,11 @@ module _ (ps qs : Pieces) (alike : Alike ps qs) where
     slots_move _ _ no_slot [] long slots = no_slot
     slots_move _ _ no_slot (v ∷ vs) long slots = absurd (omega arith)
     slots_move _ _ (one_slot first more) [] long slots = absurd (omega arith)
-    slots_move _ _ (one_slot {word = word} {words = words} {here = here} {rest = rest} first more) (v ∷ vs) long slots =
+    slots_move _ _ (one_slot {word = word} {words = words} {here = here} {rest = rest} first more)
+        (v ∷ vs) long slots =
         let moved = leaves_move (logical ps word) here first in
-        one_slot (⊎_elim (λ same. subst (λ o. HasLeaves qs o here) (sym same) moved) (λ anyhow. anyhow) (slots 0 word v refl refl here first))
+        one_slot
+        (⊎_elim (λ same. subst (λ o. HasLeaves qs o here) (sym same) moved) (λ anyhow. anyhow) (slots 0 word v refl refl here first))
         (slots_move words rest more vs (omega arith) (λ i w x at now. slots (suc i) w x at now))
 
 -- ---- one event
@@ -106,8 +109,10 @@ module _ (pairs : List Pair) (words : ℕ) (opens : CanOpen pairs words) where
       → SlotHolds (state_of pairs words (event ∷ log)) node i v → (leaves : List PlacedLeaf)
       → HasLeaves (state_of pairs words log).pieces (past_rebuild (state_of pairs words log).pieces (Some ref)) leaves
       → (logical (state_of pairs words (event ∷ log)).pieces v ≡ past_rebuild (state_of pairs words log).pieces (Some ref))
-      ⊎ HasLeaves (state_of pairs words (event ∷ log)).pieces (logical (state_of pairs words (event ∷ log)).pieces v) leaves
-  turned_leaves log _ h keeps node i ref (turned_by {caller = caller} {base = base} can n j from) v slot leaves has =
+      ⊎ HasLeaves (state_of pairs words (event ∷ log)).pieces
+      (logical (state_of pairs words (event ∷ log)).pieces v) leaves
+  turned_leaves log _ h keeps node i ref
+      (turned_by {caller = caller} {base = base} can n j from) v slot leaves has =
       by_form (changes_are_formed pairs words log h.0 base can.change can.pending.published)
     where
       -- what the slot reads as now
@@ -115,14 +120,17 @@ module _ (pairs : List Pair) (words : ℕ) (opens : CanOpen pairs words) where
           → logical (state_of pairs words (Decide caller base true ∷ log)).pieces v ≡ past_rebuild (state_of pairs words (Decide caller base true ∷ log)).pieces (Some to)
       reads to is =
           let u = state_of pairs words (Decide caller base true ∷ log) in
-          let r = decide_reads pairs words opens log caller base h can.change can.pending.published to is in
-          let there = subst (λ m. ReadsAs u m i to) n (subst (λ m. ReadsAs u can.change.node m to) j r) in
+          let r =
+          decide_reads pairs words opens log caller base h can.change can.pending.published to is in
+          let there =
+          subst (λ m. ReadsAs u m i to) n (subst (λ m. ReadsAs u can.change.node m to) j r) in
           let same = slot_once u node i v there.word (anchor_free pairs words (Decide caller base true ∷ log) h) slot there.holds in
           ap (logical u.pieces) same ∙ ap (past_rebuild u.pieces) there.reads
 
       by_form : IsFormed (state_of pairs words log) can.change
           → (logical (state_of pairs words (Decide caller base true ∷ log)).pieces v ≡ past_rebuild (state_of pairs words log).pieces (Some ref))
-          ⊎ HasLeaves (state_of pairs words (Decide caller base true ∷ log)).pieces (logical (state_of pairs words (Decide caller base true ∷ log)).pieces v) leaves
+          ⊎ HasLeaves (state_of pairs words (Decide caller base true ∷ log)).pieces
+          (logical (state_of pairs words (Decide caller base true ∷ log)).pieces v) leaves
       by_form (of_leaf_put f) = absurd (keeps can.change can.pending.published (inl f.kind))
       by_form (of_pair_put f) = absurd (keeps can.change can.pending.published (inl f.kind))
       by_form (of_remove f) = absurd (keeps can.change can.pending.published (inr f.kind))
@@ -131,7 +139,8 @@ module _ (pairs : List Pair) (words : ℕ) (opens : CanOpen pairs words) where
           let u = state_of pairs words (Decide caller base true ∷ log) in
           let g = grow_behind pairs words log (Decide caller base true) h in
           inl (reads (RebuildAt f.rebuild) f.to
-          ∙ leads_grows t u g (RebuildAt f.rebuild) f.row.target (leads_rebuild t.pieces f.rebuild f.row f.published)
+          ∙ leads_grows t u g (RebuildAt f.rebuild) f.row.target
+          (leads_rebuild t.pieces f.rebuild f.row f.published)
           ∙ ap (past_rebuild t.pieces) (sym f.from ∙ from))
       by_form (of_finish f) =
           let t = state_of pairs words log in
@@ -140,8 +149,10 @@ module _ (pairs : List Pair) (words : ℕ) (opens : CanOpen pairs words) where
           let target : past_rebuild t.pieces (Some ref) ≡ Some (InnerAt w.row.target) = ap (past_rebuild t.pieces) (sym from ∙ f.from) ∙ leads_rebuild t.pieces f.rebuild w.row w.published in
           let same : leaves ≡ w.leaves = same_leaves t.pieces (Some (InnerAt w.row.target)) leaves w.leaves (subst (λ o. HasLeaves t.pieces o leaves) target has) w.reached in
           let ideal = ideal_kept t.pieces u.pieces w.ref w.leaves w.row.target w.rows w.ideal (decided_stands pairs words log caller base true w.rows) in
-          let read = reads w.ref w.to_is ∙ ideal_plain u.pieces w.ref w.leaves w.row.target w.rows ideal in
-          inr (subst (λ o. HasLeaves u.pieces o leaves) (sym read) (subst (λ ls. HasLeaves u.pieces (Some w.ref) ls) (sym same) (ideal_leaves u.pieces w.ref w.leaves w.row.target w.rows ideal)))
+          let read =
+          reads w.ref w.to_is ∙ ideal_plain u.pieces w.ref w.leaves w.row.target w.rows ideal in
+          inr
+          (subst (λ o. HasLeaves u.pieces o leaves) (sym read) (subst (λ ls. HasLeaves u.pieces (Some w.ref) ls) (sym same) (ideal_leaves u.pieces w.ref w.leaves w.row.target w.rows ideal)))
 
   -- each slot has the leaves that it had
   slot_leaves : (log : Log) (event : Event) → EachEnabled (start pairs words) (event ∷ log)
@@ -151,22 +162,27 @@ module _ (pairs : List Pair) (words : ℕ) (opens : CanOpen pairs words) where
       → (leaves : List PlacedLeaf)
       → HasLeaves (state_of pairs words log).pieces (logical (state_of pairs words log).pieces w) leaves
       → (logical (state_of pairs words (event ∷ log)).pieces v ≡ logical (state_of pairs words log).pieces w)
-      ⊎ HasLeaves (state_of pairs words (event ∷ log)).pieces (logical (state_of pairs words (event ∷ log)).pieces v) leaves
-  slot_leaves log event h keeps node i w v old now leaves has = at (past_change (state_of pairs words log).pieces (ref_of w)) refl has
+      ⊎ HasLeaves (state_of pairs words (event ∷ log)).pieces
+      (logical (state_of pairs words (event ∷ log)).pieces v) leaves
+  slot_leaves log event h keeps node i w v old now leaves has =
+      at (past_change (state_of pairs words log).pieces (ref_of w)) refl has
     where
       at : (o : Option Ref) → past_change (state_of pairs words log).pieces (ref_of w) ≡ o
           → HasLeaves (state_of pairs words log).pieces (past_rebuild (state_of pairs words log).pieces o) leaves
           → (logical (state_of pairs words (event ∷ log)).pieces v ≡ logical (state_of pairs words log).pieces w)
-          ⊎ HasLeaves (state_of pairs words (event ∷ log)).pieces (logical (state_of pairs words (event ∷ log)).pieces v) leaves
+          ⊎ HasLeaves (state_of pairs words (event ∷ log)).pieces
+          (logical (state_of pairs words (event ∷ log)).pieces v) leaves
       at None is k = absurd (no_leaves (state_of pairs words log).pieces leaves k)
       at (Some ref) is k =
           let t = state_of pairs words log in
           let u = state_of pairs words (event ∷ log) in
           let set : ref ≢ Unset = λ none. unset_leaves t.pieces leaves (subst (λ r. HasLeaves t.pieces (past_rebuild t.pieces (Some r)) leaves) none k) in
-          let back : past_rebuild t.pieces (Some ref) ≡ logical t.pieces w = ap (past_rebuild t.pieces) (sym is) in
+          let back : past_rebuild t.pieces (Some ref) ≡ logical t.pieces w =
+          ap (past_rebuild t.pieces) (sym is) in
           ⊎_elim
           (λ r.
-          let same = slot_once u node i v r.word (anchor_free pairs words (event ∷ log) h) now r.holds in
+          let same =
+          slot_once u node i v r.word (anchor_free pairs words (event ∷ log) h) now r.holds in
           inl (ap (logical u.pieces) same ∙ ap (past_rebuild u.pieces) r.reads ∙ past_rebuild_grows t u (grow_behind pairs words log event h) ref leaves k ∙ back))
           (λ turn. ⊎_elim (λ same. inl (same ∙ back)) (λ anyhow. inr anyhow) (turned_leaves log event h keeps node i ref turn v now leaves k))
           (reads_step pairs words opens log event h node i ref set record { word = w; holds = old; reads = is })
@@ -193,7 +209,8 @@ module _ (pairs : List Pair) (words : ℕ) (opens : CanOpen pairs words) where
       → HasLeaves (state_of pairs words log).pieces ref leaves
       → HasLeaves (state_of pairs words (event ∷ log)).pieces ref leaves
   leaves_step log event h keeps ref leaves has =
-      leaves_move (state_of pairs words log).pieces (state_of pairs words (event ∷ log)).pieces (rows_alike log event h keeps) ref leaves has
+      leaves_move (state_of pairs words log).pieces (state_of pairs words (event ∷ log)).pieces
+      (rows_alike log event h keeps) ref leaves has
 
   -- an event that decides no update yes keeps the contents
   pub contents_kept : (log : Log) (event : Event) → EachEnabled (start pairs words) (event ∷ log)
@@ -206,7 +223,9 @@ module _ (pairs : List Pair) (words : ℕ) (opens : CanOpen pairs words) where
       let moved = leaves_step log event h keeps (logical t.pieces t.anchor) c.leaves c.reached in
       record {
         leaves = c.leaves;
-        reached = ⊎_elim (λ same. subst (λ o. HasLeaves u.pieces o c.leaves) (sym same) moved) (λ anyhow. anyhow)
+        reached =
+            ⊎_elim (λ same. subst (λ o. HasLeaves u.pieces o c.leaves) (sym same) moved)
+            (λ anyhow. anyhow)
             (slot_leaves log event h keeps anchor 0 t.anchor u.anchor (in_anchor refl refl refl) (in_anchor refl refl refl) c.leaves c.reached);
         pairs_are = c.pairs_are;
       }

@@ -25,8 +25,10 @@ use Rattle.ist_rebuilds.proofs.NewTreeLemmas.{ideal_set}
 
 -- a node has no more children than two, or than it has keys
 degree_low : (k n : ℕ) → 2 ≤ n → k ≤ n → degree k ≤ n
-degree_low zero n two low = let is = degree_is 0 0 (omega arith) (omega arith) in let most : max 2 0 ≡ 2 = refl in omega arith
-degree_low (suc zero) n two low = let is = degree_is 1 1 (omega arith) (omega arith) in let most : max 2 1 ≡ 2 = refl in omega arith
+degree_low zero n two low =
+    let is = degree_is 0 0 (omega arith) (omega arith) in let most : max 2 0 ≡ 2 = refl in omega arith
+degree_low (suc zero) n two low =
+    let is = degree_is 1 1 (omega arith) (omega arith) in let most : max 2 1 ≡ 2 = refl in omega arith
 degree_low (suc (suc k)) n two low = let few = degree-le (suc (suc k)) (omega arith) in omega arith
 
 module _ (pairs : List Pair) (words : ℕ) (opens : CanOpen pairs words) where
@@ -34,16 +36,20 @@ module _ (pairs : List Pair) (words : ℕ) (opens : CanOpen pairs words) where
   root_comes_set : (log : Log) (caller base word : ℕ) (rows : List Row)
       → CanRoot (state_of pairs words log) caller base word rows
       → word ≢ unset_word
-  root_comes_set log caller base word rows can none = at (with_inners (state_of pairs words log).pieces rows) can.k can.leaves can.row.target (bases_of rows) can.root
+  root_comes_set log caller base word rows can none =
+      at (with_inners (state_of pairs words log).pieces rows) can.k can.leaves can.row.target
+      (bases_of rows) can.root
     where
       at : (ps : Pieces) (k : ℕ) (leaves : List PlacedLeaf) (target : ℕ) (bases : List ℕ)
           → IsRoot ps word k leaves target bases → ⊥
       at ps k leaves target bases (root_whole ref few is ideal) =
-          ideal_set ps ref leaves target bases ideal (one ref (sym is ∙ ap ref_of none ∙ ref_of-unset))
+          ideal_set ps ref leaves target bases ideal
+          (one ref (sym is ∙ ap ref_of none ∙ ref_of-unset))
         where
           one : (r : Ref) → Some r ≡ Some Unset → r ≡ Unset
           one r q = cc
-      at ps k leaves target bases (root_top b row many is top unset all) = clash (sym is ∙ ap ref_of none ∙ ref_of-unset)
+      at ps k leaves target bases (root_top b row many is top unset all) =
+          clash (sym is ∙ ap ref_of none ∙ ref_of-unset)
         where
           clash : Some (InnerAt b) ≡ Some Unset → ⊥
           clash q = cc

@@ -40,8 +40,10 @@ mutual
       (rows : List ℕ)
       → IsIdeal ps ref leaves above rows → StandsIn ps qs rows → IsIdeal qs ref leaves above rows
   ideal_kept ps qs _ _ _ _ of_none s = of_none
-  ideal_kept ps qs _ _ _ _ (of_one {base = base} {leaf = leaf} same e) s = of_one same (s.leaf base leaf.row e)
-  ideal_kept ps qs _ _ above _ (of_more {base = base} {leaves = leaves} {rows = rows} r top under) s =
+  ideal_kept ps qs _ _ _ _ (of_one {base = base} {leaf = leaf} same e) s =
+      of_one same (s.leaf base leaf.row e)
+  ideal_kept ps qs _ _ above _
+      (of_more {base = base} {leaves = leaves} {rows = rows} r top under) s =
       of_more r (top_kept ps qs base r leaves above top (s.inner base r (inl refl) top.published))
       (parts_kept ps qs r.slots (parts leaves) base rows under record { leaf = s.leaf; inner = λ b x i e. s.inner b x (inr i) e })
 
@@ -50,8 +52,10 @@ mutual
       → AreIdeal ps words behind above rows → StandsIn ps qs rows
       → AreIdeal qs words behind above rows
   parts_kept ps qs _ _ _ _ no_part s = no_part
-  parts_kept ps qs _ _ above _ (one_part {words = words} {here = here} {rest = rest} {part = part} {behind = behind} ref e first more) s =
-      one_part ref e (ideal_kept ps qs ref part above here first record { leaf = s.leaf; inner = λ b x i k. s.inner b x (among_left b here rest i) k })
+  parts_kept ps qs _ _ above _
+      (one_part {words = words} {here = here} {rest = rest} {part = part} {behind = behind} ref e first more) s =
+      one_part ref e
+      (ideal_kept ps qs ref part above here first record { leaf = s.leaf; inner = λ b x i k. s.inner b x (among_left b here rest i) k })
       (parts_kept ps qs words behind above rest more record { leaf = s.leaf; inner = λ b x i k. s.inner b x (among_right b here rest i) k })
 
 -- an ideal reference is set
@@ -66,15 +70,18 @@ parts_set : (ps : Pieces) (words : List ℕ) (behind : List (List PlacedLeaf)) (
     (rows : List ℕ)
     → AreIdeal ps words behind above rows → (i : ℕ) → slice_get words i ≢ Some unset_word
 parts_set ps _ _ _ _ no_part i e = absurd (cc)
-parts_set ps _ _ above _ (one_part {word = word} {here = here} {part = part} ref is first more) zero e =
-    ideal_set ps ref part above here first (one_ref (ref_of word) ref Unset is (ap ref_of (one_word word unset_word e) ∙ ref_of-unset))
+parts_set ps _ _ above _
+    (one_part {word = word} {here = here} {part = part} ref is first more) zero e =
+    ideal_set ps ref part above here first
+    (one_ref (ref_of word) ref Unset is (ap ref_of (one_word word unset_word e) ∙ ref_of-unset))
   where
     one_word : (a b : ℕ) → Some a ≡ Some b → a ≡ b
     one_word a b q = cc
 
     one_ref : (o : Option Ref) (a b : Ref) → o ≡ Some a → o ≡ Some b → a ≡ b
     one_ref o a b x y = cc
-parts_set ps _ _ above _ (one_part {words = words} {rest = rest} {behind = behind} ref is first more) (suc i) e =
+parts_set ps _ _ above _
+    (one_part {words = words} {rest = rest} {behind = behind} ref is first more) (suc i) e =
     parts_set ps words behind above rest more i e
 
 -- an inner row without an Unset slot stands at the base
@@ -95,8 +102,10 @@ mutual
       (rows : List ℕ)
       → AreIdeal ps words behind above rows → Each (StandsWhole ps) rows
   parts_whole ps _ _ _ _ no_part = tt
-  parts_whole ps _ _ above _ (one_part {words = words} {here = here} {rest = rest} {part = part} {behind = behind} ref e first more) =
-      each_append (StandsWhole ps) here rest (ideal_whole ps ref part above here first) (parts_whole ps words behind above rest more)
+  parts_whole ps _ _ above _
+      (one_part {words = words} {here = here} {rest = rest} {part = part} {behind = behind} ref e first more) =
+      each_append (StandsWhole ps) here rest (ideal_whole ps ref part above here first)
+      (parts_whole ps words behind above rest more)
 
 -- ---- trees in parts
 
@@ -127,18 +136,24 @@ pub partly_kept : (ps qs : Pieces) (words : List ℕ) (behind : List (List Place
     → ArePartly ps words behind above rows → StandsIn ps qs rows
     → ArePartly qs words behind above rows
 partly_kept ps qs _ _ _ _ no_more s = no_more
-partly_kept ps qs _ _ above _ (not_built {words = words} {rest = rest} {behind = behind} more) s = not_built (partly_kept ps qs words behind above rest more s)
-partly_kept ps qs _ _ above _ (is_built {words = words} {here = here} {rest = rest} {part = part} {behind = behind} ref e first more) s =
-    is_built ref e (ideal_kept ps qs ref part above here first record { leaf = s.leaf; inner = λ b x i k. s.inner b x (among_left b here rest i) k })
+partly_kept ps qs _ _ above _ (not_built {words = words} {rest = rest} {behind = behind} more) s =
+    not_built (partly_kept ps qs words behind above rest more s)
+partly_kept ps qs _ _ above _
+    (is_built {words = words} {here = here} {rest = rest} {part = part} {behind = behind} ref e first more) s =
+    is_built ref e
+    (ideal_kept ps qs ref part above here first record { leaf = s.leaf; inner = λ b x i k. s.inner b x (among_left b here rest i) k })
     (partly_kept ps qs words behind above rest more record { leaf = s.leaf; inner = λ b x i k. s.inner b x (among_right b here rest i) k })
 
 pub partly_whole : (ps : Pieces) (words : List ℕ) (behind : List (List PlacedLeaf)) (above : ℕ)
     (rows : List ℕ)
     → ArePartly ps words behind above rows → Each (StandsWhole ps) rows
 partly_whole ps _ _ _ _ no_more = tt
-partly_whole ps _ _ above _ (not_built {words = words} {rest = rest} {behind = behind} more) = partly_whole ps words behind above rest more
-partly_whole ps _ _ above _ (is_built {words = words} {here = here} {rest = rest} {part = part} {behind = behind} ref e first more) =
-    each_append (StandsWhole ps) here rest (ideal_whole ps ref part above here first) (partly_whole ps words behind above rest more)
+partly_whole ps _ _ above _ (not_built {words = words} {rest = rest} {behind = behind} more) =
+    partly_whole ps words behind above rest more
+partly_whole ps _ _ above _
+    (is_built {words = words} {here = here} {rest = rest} {part = part} {behind = behind} ref e first more) =
+    each_append (StandsWhole ps) here rest (ideal_whole ps ref part above here first)
+    (partly_whole ps words behind above rest more)
 
 -- where no slot is Unset, all is built
 pub partly_all : (ps : Pieces) (words : List ℕ) (behind : List (List PlacedLeaf)) (above : ℕ)
@@ -147,7 +162,8 @@ pub partly_all : (ps : Pieces) (words : List ℕ) (behind : List (List PlacedLea
     → AreIdeal ps words behind above rows
 partly_all ps _ _ _ _ no_more set = no_part
 partly_all ps _ _ above _ (not_built more) set = absurd (set 0 refl)
-partly_all ps _ _ above _ (is_built {words = words} {rest = rest} {behind = behind} ref e first more) set =
+partly_all ps _ _ above _
+    (is_built {words = words} {rest = rest} {behind = behind} ref e first more) set =
     one_part ref e first (partly_all ps words behind above rest more (λ i k. set (suc i) k))
 
 -- at first nothing is built
@@ -168,15 +184,20 @@ pub partly_placed : (ps : Pieces) (words : List ℕ) (behind : List (List Placed
     → slice_get words i ≡ Some unset_word → slice_get behind i ≡ Some part → ref_of word ≡ Some ref
     → IsIdeal ps ref part above new → SomePartly ps (slice_set words i word) behind above
 partly_placed ps _ _ above _ no_more i word part ref new free at is ideal = absurd (cc)
-partly_placed ps _ _ above _ (not_built {rest = rest} {part = p} more) zero word part ref new free at is ideal =
+partly_placed ps _ _ above _
+    (not_built {rest = rest} {part = p} more) zero word part ref new free at is ideal =
     let same : part ≡ p = cc in
     (new ++ rest, is_built ref is (subst (λ q. IsIdeal ps ref q above new) same ideal) more)
-partly_placed ps _ _ above _ (not_built {words = words} {rest = rest} {behind = behind} more) (suc i) word part ref new free at is ideal =
+partly_placed ps _ _ above _ (not_built {words = words} {rest = rest} {behind = behind} more)
+    (suc i) word part ref new free at is ideal =
     let it = partly_placed ps words behind above rest more i word part ref new free at is ideal in (it.0, not_built it.1)
-partly_placed ps _ _ above _ (is_built {rest = rest} {part = p} r e first more) zero word part ref new free at is ideal =
+partly_placed ps _ _ above _
+    (is_built {rest = rest} {part = p} r e first more) zero word part ref new free at is ideal =
     let same : part ≡ p = cc in
     (new ++ rest, is_built ref is (subst (λ q. IsIdeal ps ref q above new) same ideal) more)
-partly_placed ps _ _ above _ (is_built {words = words} {here = here} {rest = rest} {behind = behind} r e first more) (suc i) word part ref new free at is ideal =
+partly_placed ps _ _ above _
+    (is_built {words = words} {here = here} {rest = rest} {behind = behind} r e first more)
+    (suc i) word part ref new free at is ideal =
     let it = partly_placed ps words behind above rest more i word part ref new free at is ideal in (here ++ it.0, is_built r e first it.1)
 
 -- ---- what holds of each row of a tree
@@ -206,7 +227,8 @@ module _ (ps : Pieces) (P : ℕ → Type 0) (down : GoesDown ps P) where
         → ((k word child : ℕ) → slice_get words k ≡ Some word → ref_of word ≡ Some (InnerAt child)
         → P child) → Each P rows
     parts_each _ _ _ _ no_part here_each = tt
-    parts_each _ _ above _ (one_part {word = word} {words = words} {here = here} {rest = rest} {part = part} {behind = behind} ref is first more) here_each =
+    parts_each _ _ above _
+        (one_part {word = word} {words = words} {here = here} {rest = rest} {part = part} {behind = behind} ref is first more) here_each =
         each_append P here rest
         (ideal_each ref part above here first (λ base same. here_each 0 word base refl (is ∙ ap (λ x. Some x) same)))
         (parts_each words behind above rest more (λ k w child at named. here_each (suc k) w child at named))
@@ -217,9 +239,12 @@ module _ (ps : Pieces) (P : ℕ → Type 0) (down : GoesDown ps P) where
       → ((k word child : ℕ) → slice_get words k ≡ Some word → ref_of word ≡ Some (InnerAt child)
       → P child) → Each P rows
   partly_each _ _ _ _ no_more here_each = tt
-  partly_each _ _ above _ (not_built {words = words} {rest = rest} {behind = behind} more) here_each =
-      partly_each words behind above rest more (λ k w child at named. here_each (suc k) w child at named)
-  partly_each _ _ above _ (is_built {word = word} {words = words} {here = here} {rest = rest} {part = part} {behind = behind} ref is first more) here_each =
+  partly_each _ _ above _
+      (not_built {words = words} {rest = rest} {behind = behind} more) here_each =
+      partly_each words behind above rest more
+      (λ k w child at named. here_each (suc k) w child at named)
+  partly_each _ _ above _
+      (is_built {word = word} {words = words} {here = here} {rest = rest} {part = part} {behind = behind} ref is first more) here_each =
       each_append P here rest
       (ideal_each ref part above here first (λ base same. here_each 0 word base refl (is ∙ ap (λ x. Some x) same)))
       (partly_each words behind above rest more (λ k w child at named. here_each (suc k) w child at named))

@@ -46,7 +46,9 @@ counts_by Has _ _ (one_node has) = has
 -- the same of words
 abbrev CountAllBy : Pieces → (ℕ → ℕ → Type 0) → List ℕ → ℕ → Type 0
 CountAllBy ps Has [] k = k ≡ 0
-CountAllBy ps Has (word ∷ words) k = (here : ℕ) × (rest : ℕ) × Counts Has (logical ps word) here × CountAll ps Has words rest × (k ≡ here + rest)
+CountAllBy ps Has (word ∷ words) k =
+    (here : ℕ) × (rest : ℕ) × Counts Has (logical ps word) here × CountAll ps Has words rest ×
+    (k ≡ here + rest)
 
 count_all_by : (ps : Pieces) (Has : ℕ → ℕ → Type 0) (words : List ℕ) (k : ℕ)
     → CountAll ps Has words k → CountAllBy ps Has words k
@@ -54,20 +56,23 @@ count_all_by ps Has _ _ count_none = refl
 count_all_by ps Has _ _ (count_one {here = here} {rest = rest} c more) = (here, rest, c, more, refl)
 
 -- where each row has what its slots count for, a reference has as many leaves
-module _ (ps : Pieces) (Has : ℕ → ℕ → Type 0) (all : (base k : ℕ) (r : InnerRow) → Has base k → ps base ≡ Some (Inner r) → CountAll ps Has r.slots k) where
+module _ (ps : Pieces) (Has : ℕ → ℕ → Type 0)
+    (all : (base k : ℕ) (r : InnerRow) → Has base k → ps base ≡ Some (Inner r) → CountAll ps Has r.slots k) where
   mutual
     leaves_counted : (ref : Option Ref) (leaves : List PlacedLeaf) → HasLeaves ps ref leaves
         → (k : ℕ)
         → CountsBy Has ref k → length leaves ≡ k
     leaves_counted _ _ none_here k c = sym c
     leaves_counted _ _ (leaf_here r e) k c = sym c
-    leaves_counted _ _ (row_here {base = base} {leaves = leaves} r e under) k c = slots_counted r.slots leaves under k (all base k r c e)
+    leaves_counted _ _ (row_here {base = base} {leaves = leaves} r e under) k c =
+        slots_counted r.slots leaves under k (all base k r c e)
 
     slots_counted : (words : List ℕ) (leaves : List PlacedLeaf) → SlotsHaveLeaves ps words leaves
         → (k : ℕ)
         → CountAll ps Has words k → length leaves ≡ k
     slots_counted _ _ no_slot k c = sym (count_all_by ps Has [] k c)
-    slots_counted _ _ (one_slot {word = word} {words = words} {here = here} {rest = rest} first more) k c =
+    slots_counted _ _
+        (one_slot {word = word} {words = words} {here = here} {rest = rest} first more) k c =
         let it = count_all_by ps Has (word ∷ words) k c in
         let one = leaves_counted (logical ps word) here first it.0 (counts_by Has (logical ps word) it.0 it.2) in
         let others = slots_counted words rest more it.1 it.3 in
@@ -82,7 +87,8 @@ passed_counts t _ _ no_key = nothing_here
 passed_counts t _ _ one_key = one_leaf
 passed_counts t _ _ (of_child f) = one_node f
 passed_counts t _ k (of_target {rebuild = rebuild} {target = target} h f) =
-    subst (λ o. Counts (IsFinishedWith t) o k) (sym (ap rebuild_reads h.published ∙ ap (λ n. Some (InnerAt n)) h.target_is)) (one_node f)
+    subst (λ o. Counts (IsFinishedWith t) o k)
+    (sym (ap rebuild_reads h.published ∙ ap (λ n. Some (InnerAt n)) h.target_is)) (one_node f)
 
 module _ (pairs : List Pair) (words : ℕ) (opens : CanOpen pairs words) where
   -- the slots of a finished row count for its number
@@ -92,7 +98,8 @@ module _ (pairs : List Pair) (words : ℕ) (opens : CanOpen pairs words) where
       → SlotHolds (state_of pairs words log) node m word)
       → CountAll (state_of pairs words log).pieces (IsFinishedWith (state_of pairs words log)) slots k
   passed_count log h node i _ _ past_end get = count_none
-  passed_count log h node i _ _ (one_passed {here = here} {rest = rest} {slot = slot} {slots = slots} word p c more) get =
+  passed_count log h node i _ _
+      (one_passed {here = here} {rest = rest} {slot = slot} {slots = slots} word p c more) get =
       let t = state_of pairs words log in
       count_one
       (subst (λ o. Counts (IsFinishedWith t) o here) (sym (frozen_reads pairs words opens log h node i word slot p (get 0 i slot (omega arith) refl))) (passed_counts t (ref_of word) here c))
@@ -108,6 +115,7 @@ module _ (pairs : List Pair) (words : ℕ) (opens : CanOpen pairs words) where
       leaves_counted t.pieces (IsFinishedWith t)
       (λ base n r done e.
       let same = same_inner (t.pieces base) done.row r done.published e in
-      passed_count log h base 0 n r.slots (finished_passed pairs words log h base n r e (ap (λ x. x.status) (sym same) ∙ done.status))
+      passed_count log h base 0 n r.slots
+      (finished_passed pairs words log h base n r e (ap (λ x. x.status) (sym same) ∙ done.status))
       (λ j m w at is. in_row r e (subst (λ x. slice_get r.slots x ≡ Some w) (let here : j ≡ m = omega arith in here) is)))
       (Some (InnerAt node)) leaves has k f

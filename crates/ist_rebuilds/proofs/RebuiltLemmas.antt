@@ -22,7 +22,8 @@ use Rattle.ist_links.proofs.ClosedLemmas.{same_rebuild}
 use Rattle.ist_links.proofs.FormLemmas.{replaced_grows}
 use Rattle.ist_links.proofs.FormedLemmas.{changes_are_formed}
 use Rattle.ist_links.proofs.InductionLemmas.{changes_by, grow_behind}
-use Rattle.ist_links.proofs.ReadLemmas.{ReadsAs, Turns, decide_reads, reads_once, turned_by}
+use Rattle.ist_links.proofs.ReadEventLemmas.{decide_reads}
+use Rattle.ist_links.proofs.ReadLemmas.{ReadsAs, Turns, reads_once, turned_by}
 use Rattle.ist_links.proofs.ReadStepLemmas.{reads_step}
 use Rattle.ist_rebuilds.proofs.StartingLemmas.{finish_of, side_rebuild, undecided_reads, undecided_unstarted}
 
@@ -32,7 +33,9 @@ module _ (pairs : List Pair) (words : ℕ) (opens : CanOpen pairs words) where
       → EachEnabled (start pairs words) (event ∷ log) → (rebuild : ℕ)
       → ¬ (IsReplaced (state_of pairs words (event ∷ log)) rebuild)
       → ¬ (IsReplaced (state_of pairs words log) rebuild)
-  unreplaced_before log event h rebuild unr k = unr (replaced_grows (state_of pairs words log) (state_of pairs words (event ∷ log)) (grow_behind pairs words log event h) rebuild k)
+  unreplaced_before log event h rebuild unr k =
+      unr
+      (replaced_grows (state_of pairs words log) (state_of pairs words (event ∷ log)) (grow_behind pairs words log event h) rebuild k)
 
   -- where the slot's change is decided yes and takes the rebuild out, it is replaced
   turned_replaced : (log : Log) (event : Event) → EachEnabled (start pairs words) (event ∷ log)
@@ -46,7 +49,8 @@ module _ (pairs : List Pair) (words : ℕ) (opens : CanOpen pairs words) where
         base = base;
         change = record (can.change) { decision = decided_yes };
         published = changed_at-same t.pieces base f ∙ ap (option_map f) can.pending.published;
-        kind = (finish_of t can.change rebuild (changes_are_formed pairs words log h.0 base can.change can.pending.published) from).form.kind;
+        kind =
+            (finish_of t can.change rebuild (changes_are_formed pairs words log h.0 base can.change can.pending.published) from).form.kind;
         decision = refl;
         from = from;
       }
@@ -58,7 +62,8 @@ module _ (pairs : List Pair) (words : ℕ) (opens : CanOpen pairs words) where
       → ref_of x.to ≡ Some (RebuildAt rebuild) → ¬ (IsReplaced (state_of pairs words log) rebuild)
       → ReadsAs (state_of pairs words log) x.node x.index (RebuildAt rebuild)
   start_reads =
-      changes_by pairs words (λ log base x. x.decision ≡ decided_yes → (rebuild : ℕ) → ref_of x.to ≡ Some (RebuildAt rebuild) → ¬ (IsReplaced (state_of pairs words log) rebuild) → ReadsAs (state_of pairs words log) x.node x.index (RebuildAt rebuild))
+      changes_by pairs words
+      (λ log base x. x.decision ≡ decided_yes → (rebuild : ℕ) → ref_of x.to ≡ Some (RebuildAt rebuild) → ¬ (IsReplaced (state_of pairs words log) rebuild) → ReadsAs (state_of pairs words log) x.node x.index (RebuildAt rebuild))
       (λ log event h base x old there before is rebuild to unr.
       ⊎_elim
       (λ r. r)
@@ -73,7 +78,9 @@ module _ (pairs : List Pair) (words : ℕ) (opens : CanOpen pairs words) where
           → (rebuild : ℕ)
           → ref_of can.change.to ≡ Some (RebuildAt rebuild)
           → ReadsAs (state_of pairs words (Decide caller base said ∷ log)) can.change.node can.change.index (RebuildAt rebuild)
-      at log caller base true h can is rebuild to = decide_reads pairs words opens log caller base h can.change can.pending.published (RebuildAt rebuild) to
+      at log caller base true h can is rebuild to =
+          decide_reads pairs words opens log caller base h can.change can.pending.published
+          (RebuildAt rebuild) to
       at log caller base false h can is rebuild to = absurd (cc)
 
   -- the slot of a started rebuild reads as the rebuild until it is replaced
@@ -104,7 +111,8 @@ module _ (pairs : List Pair) (words : ℕ) (opens : CanOpen pairs words) where
       → (rebuild : ℕ)
       → IsStarted (state_of pairs words log) rebuild
       → (ref : Ref) × (ref_of x.to ≡ Some ref) × (ref ≢ Unset) × (ref ≢ RebuildAt rebuild)
-  other_to log h base x e none rebuild s = at (ref_of x.to) refl ((names pairs words opens log h).rows base (Change x) e).1
+  other_to log h base x e none rebuild s =
+      at (ref_of x.to) refl ((names pairs words opens log h).rows base (Change x) e).1
     where
       at : (o : Option Ref) → ref_of x.to ≡ o
           → SideNames (state_of pairs words log).pieces x.node x.index o
@@ -112,7 +120,8 @@ module _ (pairs : List Pair) (words : ℕ) (opens : CanOpen pairs words) where
       at (Some Empty) is k = (Empty, is, λ q. cc, λ q. cc)
       at (Some (LeafAt b)) is k = (LeafAt b, is, λ q. cc, λ q. cc)
       at (Some (InnerAt b)) is k = (InnerAt b, is, λ q. cc, λ q. cc)
-      at (Some (RebuildAt b)) is k = (RebuildAt b, is, λ q. cc, λ q. undecided_unstarted pairs words opens log h base x e none rebuild (is ∙ ap (λ y. Some y) q) s)
+      at (Some (RebuildAt b)) is k =
+          (RebuildAt b, is, λ q. cc, λ q. undecided_unstarted pairs words opens log h base x e none rebuild (is ∙ ap (λ y. Some y) q) s)
       at (Some Unset) is k = absurd k
       at (Some (ChangeAt b)) is k = absurd k
       at None is k = absurd k
@@ -123,7 +132,8 @@ module _ (pairs : List Pair) (words : ℕ) (opens : CanOpen pairs words) where
       → (rebuild : ℕ)
       → ref_of x.from ≡ Some (RebuildAt rebuild) → ReadsElse log x.node x.index rebuild
   finish_reads =
-      changes_by pairs words (λ log base x. x.decision ≡ decided_yes → (rebuild : ℕ) → ref_of x.from ≡ Some (RebuildAt rebuild) → ReadsElse log x.node x.index rebuild)
+      changes_by pairs words
+      (λ log base x. x.decision ≡ decided_yes → (rebuild : ℕ) → ref_of x.from ≡ Some (RebuildAt rebuild) → ReadsElse log x.node x.index rebuild)
       (λ log event h base x old there before is rebuild from.
       let it = before is rebuild from in
       ⊎_elim
@@ -147,12 +157,14 @@ module _ (pairs : List Pair) (words : ℕ) (opens : CanOpen pairs words) where
           → Turns (start pairs words) log node i ref event
           → ReadsElse (event ∷ log) node i rebuild
       turned log _ h node i ref rebuild s (turned_by {caller = caller} {base = base} can n j from) =
-          let it = other_to log h.0 base can.change can.pending.published can.pending.unset rebuild s in
+          let it =
+          other_to log h.0 base can.change can.pending.published can.pending.unset rebuild s in
           let r = decide_reads pairs words opens log caller base h can.change can.pending.published it.0 it.1 in
           let u = state_of pairs words (Decide caller base true ∷ log) in
           record {
             ref = it.0;
-            reads = subst (λ m. ReadsAs u m i it.0) n (subst (λ m. ReadsAs u can.change.node m it.0) j r);
+            reads =
+                subst (λ m. ReadsAs u m i it.0) n (subst (λ m. ReadsAs u can.change.node m it.0) j r);
             set = it.2;
             other = it.3;
           }
@@ -168,7 +180,8 @@ module _ (pairs : List Pair) (words : ℕ) (opens : CanOpen pairs words) where
           let it = other_to log h.0 base can.change can.pending.published can.pending.unset rebuild (started log h.0 base can.change can.pending.published rebuild from) in
           record {
             ref = it.0;
-            reads = decide_reads pairs words opens log caller base h can.change can.pending.published it.0 it.1;
+            reads =
+                decide_reads pairs words opens log caller base h can.change can.pending.published it.0 it.1;
             set = it.2;
             other = it.3;
           }
@@ -184,9 +197,11 @@ module _ (pairs : List Pair) (words : ℕ) (opens : CanOpen pairs words) where
       let elsewhere = finish_reads log h k.base k.change k.published k.decision rebuild k.from in
       let it = side_rebuild t (names pairs words opens log h) k.base k.change k.published rebuild (inl k.from) in
       let row = same_rebuild (t.pieces rebuild) it.row r it.published e in
-      let there = subst (λ n. ReadsAs t n r.index elsewhere.ref) (sym it.parent ∙ ap (λ x. x.parent) row)
+      let there =
+      subst (λ n. ReadsAs t n r.index elsewhere.ref) (sym it.parent ∙ ap (λ x. x.parent) row)
       (subst (λ j. ReadsAs t k.change.node j elsewhere.ref) (sym it.index ∙ ap (λ x. x.index) row) elsewhere.reads) in
-      elsewhere.other (reads_once t r.parent r.index elsewhere.ref (RebuildAt rebuild) (anchor_free pairs words log h) there reads)
+      elsewhere.other
+      (reads_once t r.parent r.index elsewhere.ref (RebuildAt rebuild) (anchor_free pairs words log h) there reads)
 
   -- while a finish is undecided its rebuild wasn't replaced
   pub finish_unreplaced : (log : Log) → EachEnabled (start pairs words) log

@@ -28,7 +28,7 @@ use Rattle.ist_links.proofs.ClosedLemmas.{same_rebuild, started_target_linked}
 use Rattle.ist_links.proofs.FormedLemmas.{changes_are_formed}
 use Rattle.ist_links.proofs.InductionLemmas.{changes_by, grow_behind}
 use Rattle.ist_links.proofs.LinkLemmas.{deciding}
-use Rattle.ist_links.proofs.ReadLemmas.{decide_reads}
+use Rattle.ist_links.proofs.ReadEventLemmas.{decide_reads}
 use Rattle.ist_links.proofs.UntouchedLemmas.{not_the_anchor}
 use Rattle.ist_rebuilds.proofs.IdealLeafLemmas.{ideal_above, ideal_plain_in}
 use Rattle.ist_rebuilds.proofs.ReplacingLemmas.{puts_ideal}
@@ -94,7 +94,8 @@ module _ (pairs : List Pair) (words : ℕ) (opens : CanOpen pairs words) where
       → (state_of pairs words log).pieces rebuild ≡ Some (Rebuild r)
       → ¬ (Linked (state_of pairs words log) r.target)
   replaced_unlinked =
-      changes_by pairs words (λ log base x. x.decision ≡ decided_yes → (rebuild : ℕ) (r : RebuildRow) → ref_of x.from ≡ Some (RebuildAt rebuild) → (state_of pairs words log).pieces rebuild ≡ Some (Rebuild r) → ¬ (Linked (state_of pairs words log) r.target))
+      changes_by pairs words
+      (λ log base x. x.decision ≡ decided_yes → (rebuild : ℕ) (r : RebuildRow) → ref_of x.from ≡ Some (RebuildAt rebuild) → (state_of pairs words log).pieces rebuild ≡ Some (Rebuild r) → ¬ (Linked (state_of pairs words log) r.target))
       (λ log event h base x old there before is rebuild r from e.
       let it = finish_of (state_of pairs words log) x rebuild (changes_are_formed pairs words log h.0 base x old) from in
       let was = subst (λ b. (state_of pairs words log).pieces b ≡ Some (Rebuild it.form.row)) it.same it.form.published in
@@ -115,7 +116,9 @@ module _ (pairs : List Pair) (words : ℕ) (opens : CanOpen pairs words) where
           → s.target ≡ r.target
       same_target log event h rebuild r s e f =
           let it = rebuild_there (state_of pairs words log).pieces (state_of pairs words (event ∷ log)).pieces (grow_behind pairs words log event h) rebuild r e in
-          ap (λ x. x.target) (same_rebuild ((state_of pairs words (event ∷ log)).pieces rebuild) s it.0 f it.1) ∙ it.2.target
+          ap (λ x. x.target)
+          (same_rebuild ((state_of pairs words (event ∷ log)).pieces rebuild) s it.0 f it.1)
+          ∙ it.2.target
 
       decided : (log : Log) (caller base : ℕ) (said : Bool)
           → EachEnabled (start pairs words) (Decide caller base said ∷ log)
@@ -129,5 +132,6 @@ module _ (pairs : List Pair) (words : ℕ) (opens : CanOpen pairs words) where
           let it = finish_of (state_of pairs words log) can.change rebuild (changes_are_formed pairs words log h.0 base can.change can.pending.published) from in
           let was = subst (λ b. (state_of pairs words log).pieces b ≡ Some (Rebuild it.form.row)) it.same it.form.published in
           let target = same_target log (Decide caller base true) h rebuild it.form.row r was e in
-          subst (λ n. ¬ (Linked (state_of pairs words (Decide caller base true ∷ log)) n)) (sym target)
+          subst (λ n. ¬ (Linked (state_of pairs words (Decide caller base true ∷ log)) n))
+          (sym target)
           (finish_apart log caller base h can.change rebuild it.form.row can.pending.published from was)

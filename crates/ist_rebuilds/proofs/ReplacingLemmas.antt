@@ -56,9 +56,11 @@ module _ (pairs : List Pair) (words : ℕ) (opens : CanOpen pairs words) where
         ref = p.ref;
         root_is = p.root_is;
         leaves = p.leaves;
-        reached = target_leaves_kept pairs words opens log (Decide caller base true) h rebuild row there set p.leaves p.reached;
+        reached =
+            target_leaves_kept pairs words opens log (Decide caller base true) h rebuild row there set p.leaves p.reached;
         rows = p.rows;
-        ideal = ideal_kept t.pieces u.pieces p.ref p.leaves row.target p.rows p.ideal (decided_stands pairs words log caller base true p.rows);
+        ideal =
+            ideal_kept t.pieces u.pieces p.ref p.leaves row.target p.rows p.ideal (decided_stands pairs words log caller base true p.rows);
       }
 
   -- both, where a finish is decided yes

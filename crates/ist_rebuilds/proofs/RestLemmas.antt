@@ -40,7 +40,8 @@ shut_row : (t : Snapshot) (node : ℕ) (r : InnerRow) → t.pieces anchor ≡ No
     → t.pieces node ≡ Some (Inner r)
     → r.status ≢ open_word → ¬ (IsOpen t node)
 shut_row t node r free e shut (anchor_is a) = no_row t.pieces node r free a e
-shut_row t node r free e shut (row_is s p o) = shut (ap (λ x. x.status) (same_inner (t.pieces node) r s e p) ∙ o)
+shut_row t node r free e shut (row_is s p o) =
+    shut (ap (λ x. x.status) (same_inner (t.pieces node) r s e p) ∙ o)
 
 module _ (pairs : List Pair) (words : ℕ) (opens : CanOpen pairs words) where
   -- the row behind a passed word hangs in a row that isn't open
@@ -56,7 +57,8 @@ module _ (pairs : List Pair) (words : ℕ) (opens : CanOpen pairs words) where
       let slot = kept_word t log above j word c.keeps in
       let is_child : IsChild t above j child = record { word = slot.0; holds = slot.1; reads = frozen_reads pairs words opens log h above j word slot.0 p slot.1 ∙ leads } in
       let home = (one_home pairs words opens log h).one node i above j child named (child_mentioned t above j child (names pairs words opens log h) is_child) in
-      shut_row t above c.row (anchor_free pairs words log h) c.published c.closed (subst (λ n. IsOpen t n) home.0 o)
+      shut_row t above c.row (anchor_free pairs words log h) c.published c.closed
+      (subst (λ n. IsOpen t n) home.0 o)
 
   -- a linked row that isn't open hangs in one that isn't, where rebuilds are done
   home_closed : (log : Log) → EachEnabled (start pairs words) log
@@ -65,7 +67,8 @@ module _ (pairs : List Pair) (words : ℕ) (opens : CanOpen pairs words) where
       → (state_of pairs words log).pieces child ≡ Some (Inner r) → r.status ≢ open_word
       → Mentions (state_of pairs words log) node i (InnerAt child)
       → ¬ (IsOpen (state_of pairs words log) node)
-  home_closed log h done node i child r l e shut named o = by_cause (closed_is_called pairs words log h child r e shut)
+  home_closed log h done node i child r l e shut named o =
+      by_cause (closed_is_called pairs words log h child r e shut)
     where
       by_cause : IsCalled (state_of pairs words log) log child → ⊥
       by_cause (as_target rebuild target started) =
@@ -76,7 +79,9 @@ module _ (pairs : List Pair) (words : ℕ) (opens : CanOpen pairs words) where
           (λ k. replaced_unlinked pairs words opens log h k.base k.change k.published k.decision rebuild target.row k.from target.published (subst (λ m. Linked t m) (sym target.target_is) l))
           (λ closed_parent. closed_parent (subst (λ n. IsOpen t n) home.0 o))
           (done rebuild target.row target.published started)
-      by_cause (as_child above j word p is) = passed_closed log h node i child above j word named p (ap (past_rebuild (state_of pairs words log).pieces) is) o
+      by_cause (as_child above j word p is) =
+          passed_closed log h node i child above j word named p
+          (ap (past_rebuild (state_of pairs words log).pieces) is) o
       by_cause (behind_rebuild above j word rebuild p is target) =
           let t = state_of pairs words log in
           passed_closed log h node i child above j word named p
@@ -89,13 +94,15 @@ module _ (pairs : List Pair) (words : ℕ) (opens : CanOpen pairs words) where
       → (r : InnerRow) → (state_of pairs words log).pieces node ≡ Some (Inner r)
       → r.status ≢ open_word → ⊥
   none_closed log h done zero node low l r e shut = omega arith
-  none_closed log h done (suc fuel) _ low at_anchor r e shut = not_the_anchor pairs words opens log h anchor r e refl
+  none_closed log h done (suc fuel) _ low at_anchor r e shut =
+      not_the_anchor pairs words opens log h anchor r e refl
   none_closed log h done (suc fuel) _ low (below {node = node} {child = child} i l c) r e shut =
       let t = state_of pairs words log in
       let o = names pairs words opens log h in
       let higher = child_above t node i child o c in
       let closed_node = home_closed log h done node i child r (below i l c) e shut (child_mentioned t node i child o c) in
-      up node l (eqb_tells node anchor) closed_node (λ s there still. none_closed log h done fuel node (omega arith) l s there still)
+      up node l (eqb_tells node anchor) closed_node
+      (λ s there still. none_closed log h done fuel node (omega arith) l s there still)
     where
       up : (node : ℕ) → Linked (state_of pairs words log) node
           → (((node == anchor) ≡ true) × (node ≡ anchor))
@@ -114,4 +121,6 @@ module _ (pairs : List Pair) (words : ℕ) (opens : CanOpen pairs words) where
       → (node : ℕ) (r : InnerRow) → Linked (state_of pairs words log) node
       → (state_of pairs words log).pieces node ≡ Some (Inner r) → r.status ≡ open_word
   rest_is_open log h done node r l e =
-      ⊎_elim (λ k. k.1) (λ k. absurd (none_closed log h done (suc node) node (omega arith) l r e k.1)) (eqb_tells r.status open_word)
+      ⊎_elim (λ k. k.1)
+      (λ k. absurd (none_closed log h done (suc node) node (omega arith) l r e k.1))
+      (eqb_tells r.status open_word)

@@ -28,7 +28,8 @@ use Rattle.ist_links.proofs.FormLemmas.{IsFormed, of_finish, of_leaf_put, of_pai
 use Rattle.ist_links.proofs.FormedLemmas.{changes_are_formed}
 use Rattle.ist_links.proofs.InductionLemmas.{grow_behind, sound_behind}
 use Rattle.ist_links.proofs.PairLemmas.{pair_is_filled}
-use Rattle.ist_links.proofs.ReadLemmas.{Fills, ReadsAs, Turns, decide_reads, filled_by, reads_once, turned_by}
+use Rattle.ist_links.proofs.ReadEventLemmas.{decide_reads}
+use Rattle.ist_links.proofs.ReadLemmas.{Fills, ReadsAs, Turns, filled_by, reads_once, turned_by}
 use Rattle.ist_links.proofs.ReadStepLemmas.{Stood, Turning, filled_now, read_before, reads_back, turned_now, was_anchor, was_row}
 use Rattle.ist_links.proofs.UntouchedLemmas.{not_the_anchor, was_linked_here, was_linked_parent}
 use Rattle.ist_rebuilds.proofs.IdealLeafLemmas.{ideal_reads}
@@ -47,7 +48,8 @@ module _ (pairs : List Pair) (words : ℕ) (opens : CanOpen pairs words) where
       → past_rebuild (state_of pairs words (event ∷ log)).pieces (Some ref) ≡ Some (InnerAt child)
       → past_rebuild (state_of pairs words log).pieces (Some ref) ≡ Some (InnerAt child)
   leads_back log event h node i child ref r leads =
-      at ref r.reads leads (past_change_names t node i (ref_of r.word) o (slot_names t node i r.word o r.holds))
+      at ref r.reads leads
+      (past_change_names t node i (ref_of r.word) o (slot_names t node i r.word o r.holds))
     where
       t : Snapshot
       t = state_of pairs words log
@@ -62,10 +64,13 @@ module _ (pairs : List Pair) (words : ℕ) (opens : CanOpen pairs words) where
       at (RebuildAt base) is k (inl side) =
           let t = state_of pairs words log in
           let u = state_of pairs words (event ∷ log) in
-          let here : IsRebuildFor t.pieces node i base = subst (λ x. SideNames t.pieces node i x) is side in
+          let here : IsRebuildFor t.pieces node i base =
+          subst (λ x. SideNames t.pieces node i x) is side in
           let on = rebuild_there t.pieces u.pieces (grow_behind pairs words log event h) base here.row here.published in
-          ap rebuild_reads here.published ∙ ap (λ n. Some (InnerAt n)) (sym on.2.target) ∙ sym (ap rebuild_reads on.1) ∙ k
-      at (RebuildAt base) is k (inr unset) = absurd (clash (past_change (state_of pairs words log).pieces (ref_of r.word)) is unset)
+          ap rebuild_reads here.published ∙ ap (λ n. Some (InnerAt n)) (sym on.2.target) ∙ sym
+          (ap rebuild_reads on.1) ∙ k
+      at (RebuildAt base) is k (inr unset) =
+          absurd (clash (past_change (state_of pairs words log).pieces (ref_of r.word)) is unset)
         where
           clash : (x : Option Ref) → x ≡ Some (RebuildAt base) → x ≡ Some Unset → ⊥
           clash x a b = cc
@@ -83,20 +88,25 @@ module _ (pairs : List Pair) (words : ℕ) (opens : CanOpen pairs words) where
       → ReadsAs (state_of pairs words (event ∷ log)) node i ref
       → past_rebuild (state_of pairs words (event ∷ log)).pieces (Some ref) ≡ Some (InnerAt child)
       → IsChild (state_of pairs words log) node i child
-  turned_back log _ h node i child was ref linked old (turned_by {caller = caller} {base = base} can n j from) r leads =
+  turned_back log _ h node i child was ref linked old
+      (turned_by {caller = caller} {base = base} can n j from) r leads =
       by_form (changes_are_formed pairs words log h.0 base can.change can.pending.published)
     where
       -- the slot reads as what the change puts in
       is_to : (to : Ref) → ref_of can.change.to ≡ Some to → ref ≡ to
       is_to to is =
           let u = state_of pairs words (Decide caller base true ∷ log) in
-          let now = decide_reads pairs words opens log caller base h can.change can.pending.published to is in
+          let now =
+          decide_reads pairs words opens log caller base h can.change can.pending.published to is in
           reads_once u node i ref to (anchor_free pairs words (Decide caller base true ∷ log) h) r
           (subst (λ m. ReadsAs u m i to) n (subst (λ m. ReadsAs u can.change.node m to) j now))
 
       leads_to : (to : Ref) → ref_of can.change.to ≡ Some to
           → past_rebuild (state_of pairs words (Decide caller base true ∷ log)).pieces (Some to) ≡ Some (InnerAt child)
-      leads_to to is = subst (λ x. past_rebuild (state_of pairs words (Decide caller base true ∷ log)).pieces (Some x) ≡ Some (InnerAt child)) (is_to to is) leads
+      leads_to to is =
+          subst
+          (λ x. past_rebuild (state_of pairs words (Decide caller base true ∷ log)).pieces (Some x) ≡ Some (InnerAt child))
+          (is_to to is) leads
 
       by_form : IsFormed (state_of pairs words log) can.change
           → IsChild (state_of pairs words log) node i child
@@ -117,8 +127,10 @@ module _ (pairs : List Pair) (words : ℕ) (opens : CanOpen pairs words) where
           let u = state_of pairs words (Decide caller base true ∷ log) in
           let now = leads_grows t u (grow_behind pairs words log (Decide caller base true) h) (RebuildAt f.rebuild) f.row.target (leads_rebuild t.pieces f.rebuild f.row f.published) in
           let same = one_inner f.row.target child (sym now ∙ leads_to (RebuildAt f.rebuild) f.to) in
-          let here : was ≡ InnerAt f.row.target = one_ref was (InnerAt f.row.target) (sym from ∙ f.from) in
-          read_child t node i child was old (ap (λ x. past_rebuild t.pieces (Some x)) here ∙ ap (λ m. Some (InnerAt m)) same)
+          let here : was ≡ InnerAt f.row.target =
+          one_ref was (InnerAt f.row.target) (sym from ∙ f.from) in
+          read_child t node i child was old
+          (ap (λ x. past_rebuild t.pieces (Some x)) here ∙ ap (λ m. Some (InnerAt m)) same)
         where
           one_ref : (a b : Ref) → Some a ≡ Some b → a ≡ b
           one_ref a b q = cc
@@ -126,12 +138,14 @@ module _ (pairs : List Pair) (words : ℕ) (opens : CanOpen pairs words) where
           let t = state_of pairs words log in
           let row = (names pairs words opens log h.0).rows f.rebuild (Rebuild f.row) f.published in
           let unr = finish_unreplaced pairs words opens log h.0 base can.change can.pending.published can.pending.unset f.rebuild f.from in
-          absurd (by_root (ref_of f.row.root) refl row.2 (λ named. root_never_linked pairs words opens log h.0 f.rebuild child f.row f.published named unr linked))
+          absurd
+          (by_root (ref_of f.row.root) refl row.2 (λ named. root_never_linked pairs words opens log h.0 f.rebuild child f.row f.published named unr linked))
         where
           by_root : (o : Option Ref) → ref_of f.row.root ≡ o
               → RootNames (state_of pairs words log).pieces f.row.target o
               → ¬ (ref_of f.row.root ≡ Some (InnerAt child)) → ⊥
-          by_root (Some (InnerAt b)) is k never = never (is ∙ leads_to (InnerAt b) (ap ref_of f.to ∙ is))
+          by_root (Some (InnerAt b)) is k never =
+              never (is ∙ leads_to (InnerAt b) (ap ref_of f.to ∙ is))
           by_root (Some Empty) is k never = clash (leads_to Empty (ap ref_of f.to ∙ is))
             where
               clash : Some Empty ≡ Some (InnerAt child) → ⊥
@@ -156,7 +170,8 @@ module _ (pairs : List Pair) (words : ℕ) (opens : CanOpen pairs words) where
       → ReadsAs (state_of pairs words (event ∷ log)) node i ref
       → past_rebuild (state_of pairs words (event ∷ log)).pieces (Some ref) ≡ Some (InnerAt child)
       → ⊥
-  filled_back log _ h node i child ref there (filled_by {caller = caller} {rebuild = rebuild} {j = j} {word = word} {rows = rows} can here at is) r leads =
+  filled_back log _ h node i child ref there
+      (filled_by {caller = caller} {rebuild = rebuild} {j = j} {word = word} {rows = rows} can here at is) r leads =
       let t = state_of pairs words log in
       let u = state_of pairs words (Place caller rebuild j word rows ∷ log) in
       let writes = place_writes t caller rebuild j word rows can (sound_behind pairs words log h.0) (anchor_free pairs words log h.0) in
@@ -167,7 +182,8 @@ module _ (pairs : List Pair) (words : ℕ) (opens : CanOpen pairs words) where
       let child_is : Some can.ref ≡ Some (InnerAt child) =
       sym (ideal_reads u.pieces qs can.ref can.part can.root (bases_of rows) can.ideal) ∙ ap (past_rebuild u.pieces) read ∙ leads in
       let among = ideal_among qs can.ref can.part can.root (bases_of rows) child can.ideal (one_ref can.ref (InnerAt child) child_is) in
-      no_piece (t.pieces child) (Inner there.0) (held_free t caller rows can.held (sound_behind pairs words log h.0) child among) there.1
+      no_piece (t.pieces child) (Inner there.0)
+      (held_free t caller rows can.held (sound_behind pairs words log h.0) child among) there.1
     where
       one_ref : (a b : Ref) → Some a ≡ Some b → a ≡ b
       one_ref a b q = cc
@@ -192,7 +208,8 @@ module _ (pairs : List Pair) (words : ℕ) (opens : CanOpen pairs words) where
       let home = (one_home pairs words opens (event ∷ log) h).one parent.parent parent.i node i child on named in
       let node_was = subst (λ n. WasLinked (start pairs words) log n) home.0 parent.linked in
       let here = not_brought_back log event h fuel node (omega arith) node_was l in
-      below i here (by_reading node i child was (was_linked_here pairs words opens log h.0 child ne was) (stood node node_was (eqb_tells node anchor)) (child_read u node i child c))
+      below i here
+      (by_reading node i child was (was_linked_here pairs words opens log h.0 child ne was) (stood node node_was (eqb_tells node anchor)) (child_read u node i child c))
     where
       stood : (node : ℕ) → WasLinked (start pairs words) log node
           → (((node == anchor) ≡ true) × (node ≡ anchor))
@@ -205,20 +222,26 @@ module _ (pairs : List Pair) (words : ℕ) (opens : CanOpen pairs words) where
           → Stood pairs words opens log node
           → IsReadBy (state_of pairs words (event ∷ log)) node i child
           → IsChild (state_of pairs words log) node i child
-      by_reading node i child was there s r = at (reads_back pairs words opens log event h node i r.ref s r.read)
+      by_reading node i child was there s r =
+          at (reads_back pairs words opens log event h node i r.ref s r.read)
         where
           at : Turning pairs words opens log node i r.ref event
               → IsChild (state_of pairs words log) node i child
-          at (read_before before) = read_child (state_of pairs words log) node i child r.ref before (leads_back log event h node i child r.ref before r.leads)
-          at (turned_now before old turn) = turned_back log event h node i child before r.ref was old turn r.read r.leads
-          at (filled_now fills) = absurd (filled_back log event h node i child r.ref there fills r.read r.leads)
+          at (read_before before) =
+              read_child (state_of pairs words log) node i child r.ref before
+              (leads_back log event h node i child r.ref before r.leads)
+          at (turned_now before old turn) =
+              turned_back log event h node i child before r.ref was old turn r.read r.leads
+          at (filled_now fills) =
+              absurd (filled_back log event h node i child r.ref there fills r.read r.leads)
 
   -- a row that was linked and isn't any more isn't linked by an event
   pub unlinked_step : (log : Log) (event : Event) → EachEnabled (start pairs words) (event ∷ log)
       → (node : ℕ)
       → WasLinked (start pairs words) log node → ¬ (Linked (state_of pairs words log) node)
       → ¬ (Linked (state_of pairs words (event ∷ log)) node)
-  unlinked_step log event h node was unlinked l = unlinked (not_brought_back log event h (suc node) node (omega arith) was l)
+  unlinked_step log event h node was unlinked l =
+      unlinked (not_brought_back log event h (suc node) node (omega arith) was l)
 
   -- nor by more events
   pub unlinked_stays : (earlier log : Log) → GoesOn earlier log

@@ -28,7 +28,8 @@ use Rattle.ist_links.proofs.ComesLemmas.{change_comes}
 use Rattle.ist_links.proofs.FormLemmas.{IsFinish, IsFormed, of_finish, of_leaf_put, of_pair_put, of_remove, of_start}
 use Rattle.ist_links.proofs.InductionLemmas.{changes_by, sound_behind}
 use Rattle.ist_links.proofs.OriginLemmas.{ChangeComes, change_was, is_decided, is_installed}
-use Rattle.ist_links.proofs.ReadLemmas.{ReadsAs, change_past, side_undecided}
+use Rattle.ist_links.proofs.ReadEventLemmas.{change_past}
+use Rattle.ist_links.proofs.ReadLemmas.{ReadsAs, side_undecided}
 use Rattle.ist_core.specs.Installing as kinds
 
 -- ---- changes that name a rebuild
@@ -74,8 +75,10 @@ pub side_rebuild : (t : Snapshot) → WordsName t → (base : ℕ) (x : ChangeRo
     → (rebuild : ℕ) → (ref_of x.from ≡ Some (RebuildAt rebuild))
     ⊎ (ref_of x.to ≡ Some (RebuildAt rebuild))
     → IsRebuildFor t.pieces x.node x.index rebuild
-side_rebuild t o base x e rebuild (inl from) = subst (λ r. SideNames t.pieces x.node x.index r) from (o.rows base (Change x) e).0
-side_rebuild t o base x e rebuild (inr to) = subst (λ r. SideNames t.pieces x.node x.index r) to (o.rows base (Change x) e).1
+side_rebuild t o base x e rebuild (inl from) =
+    subst (λ r. SideNames t.pieces x.node x.index r) from (o.rows base (Change x) e).0
+side_rebuild t o base x e rebuild (inr to) =
+    subst (λ r. SideNames t.pieces x.node x.index r) to (o.rows base (Change x) e).1
 
 module _ (pairs : List Pair) (words : ℕ) (opens : CanOpen pairs words) where
   -- an undecided change reads as what it takes out
@@ -88,7 +91,8 @@ module _ (pairs : List Pair) (words : ℕ) (opens : CanOpen pairs words) where
       record {
         word = word_of (ChangeAt base);
         holds = undecided_stands pairs words opens log h base x e none;
-        reads = change_past pairs words opens log h base x e ∙ ap ref_of (side_undecided x none) ∙ is;
+        reads =
+            change_past pairs words opens log h base x e ∙ ap ref_of (side_undecided x none) ∙ is;
       }
 
   -- ---- one start
@@ -120,13 +124,15 @@ module _ (pairs : List Pair) (words : ℕ) (opens : CanOpen pairs words) where
           clash q = cc
       at (kinds.a_start f) =
           let held = subst (λ xs. HoldsRows (state_of pairs words log) caller (row_at base (Change can.change) ∷ xs)) f.fresh_are (holds_installed (start pairs words) log caller base rows can) in
-          subst (λ b. (state_of pairs words log).pieces b ≡ None) (one (sym f.to ∙ to)) (s.unpublished record { caller = caller; base = f.rebuild; size = 5 } held.1.0)
+          subst (λ b. (state_of pairs words log).pieces b ≡ None) (one (sym f.to ∙ to))
+          (s.unpublished record { caller = caller; base = f.rebuild; size = 5 } held.1.0)
         where
           one : Some (RebuildAt f.rebuild) ≡ Some (RebuildAt rebuild) → f.rebuild ≡ rebuild
           one q = cc
       at (kinds.a_finish f) =
           let row = (names pairs words opens log h.0).rows f.rebuild (Rebuild f.row) f.published in
-          absurd (subst (λ o. RootNames (state_of pairs words log).pieces f.row.target o) (ap ref_of (sym f.to) ∙ to) row.2)
+          absurd
+          (subst (λ o. RootNames (state_of pairs words log).pieces f.row.target o) (ap ref_of (sym f.to) ∙ to) row.2)
 
   -- while a start is undecided its rebuild isn't started
   pub undecided_unstarted : (log : Log) → EachEnabled (start pairs words) log
@@ -135,7 +141,8 @@ module _ (pairs : List Pair) (words : ℕ) (opens : CanOpen pairs words) where
       → (rebuild : ℕ)
       → ref_of x.to ≡ Some (RebuildAt rebuild) → ¬ (IsStarted (state_of pairs words log) rebuild)
   undecided_unstarted =
-      changes_by pairs words (λ log base x. x.decision ≡ undecided → (rebuild : ℕ) → ref_of x.to ≡ Some (RebuildAt rebuild) → ¬ (IsStarted (state_of pairs words log) rebuild))
+      changes_by pairs words
+      (λ log base x. x.decision ≡ undecided → (rebuild : ℕ) → ref_of x.to ≡ Some (RebuildAt rebuild) → ¬ (IsStarted (state_of pairs words log) rebuild))
       (λ log event h base x old there before none rebuild to s.
       kept log s.base s.change event h base x old there none rebuild to (before none rebuild to) s.kind s.decision s.to s.published (change_comes pairs words log event h s.base s.change s.published))
       (λ log caller base rows h can none rebuild to s.
@@ -152,12 +159,15 @@ module _ (pairs : List Pair) (words : ℕ) (opens : CanOpen pairs words) where
           → ChangeComes (start pairs words) log s.base s.change event → ⊥
       fresh log caller base rows h can rebuild to s event (change_was old) =
           let it = side_rebuild (state_of pairs words log) (names pairs words opens log h.0) s.base s.change old rebuild (inr s.to) in
-          no_piece ((state_of pairs words log).pieces rebuild) (Rebuild it.row) (start_new log caller base rows h can rebuild to) it.published
+          no_piece ((state_of pairs words log).pieces rebuild) (Rebuild it.row)
+          (start_new log caller base rows h can rebuild to) it.published
       fresh log caller base rows h can rebuild to s _ (is_installed other same) =
-          let none = other.unset in let is = s.decision in let also = ap (λ c. c.decision) same in omega arith
+          let none =
+          other.unset in let is = s.decision in let also = ap (λ c. c.decision) same in omega arith
       fresh log caller base rows h can rebuild to s _ (is_decided other same) =
           let it = side_rebuild (state_of pairs words log) (names pairs words opens log h.0) s.base other.change other.pending.published rebuild (inr (ap (λ c. ref_of c.to) (sym same) ∙ s.to)) in
-          no_piece ((state_of pairs words log).pieces rebuild) (Rebuild it.row) (start_new log caller base rows h can rebuild to) it.published
+          no_piece ((state_of pairs words log).pieces rebuild) (Rebuild it.row)
+          (start_new log caller base rows h can rebuild to) it.published
 
       -- two undecided starts of one rebuild are one
       kept : (log : Log) (at : ℕ) (c : ChangeRow) (event : Event)
@@ -170,18 +180,24 @@ module _ (pairs : List Pair) (words : ℕ) (opens : CanOpen pairs words) where
           → c.kind ≡ start_kind → c.decision ≡ decided_yes → ref_of c.to ≡ Some (RebuildAt rebuild)
           → (state_of pairs words (event ∷ log)).pieces at ≡ Some (Change c)
           → ChangeComes (start pairs words) log at c event → ⊥
-      kept log at c event h base x old there none rebuild to before kind is also_to now (change_was was) =
-          before record { base = at; change = c; published = was; kind = kind; decision = is; to = also_to }
-      kept log at c _ h base x old there none rebuild to before kind is also_to now (is_installed other same) =
+      kept log at c event h base x old there none rebuild to before kind is also_to now
+          (change_was was) =
+          before
+          record { base = at; change = c; published = was; kind = kind; decision = is; to = also_to }
+      kept log at c _ h base x old there none rebuild to before kind is also_to now
+          (is_installed other same) =
           let unset = other.unset in let also = ap (λ y. y.decision) same in omega arith
-      kept log at c _ h base x old there none rebuild to before kind is also_to now (is_decided {caller = caller} {said = said} other same) =
+      kept log at c _ h base x old there none rebuild to before kind is also_to now
+          (is_decided {caller = caller} {said = said} other same) =
           let t = state_of pairs words log in
           let o = names pairs words opens log h.0 in
           let mine = side_rebuild t o base x old rebuild (inr to) in
           let its = side_rebuild t o at other.change other.pending.published rebuild (inr (ap (λ y. ref_of y.to) (sym same) ∙ also_to)) in
           let row = same_rebuild (t.pieces rebuild) mine.row its.row mine.published its.published in
-          let node : other.change.node ≡ x.node = sym its.parent ∙ ap (λ r. r.parent) (sym row) ∙ mine.parent in
-          let i : other.change.index ≡ x.index = sym its.index ∙ ap (λ r. r.index) (sym row) ∙ mine.index in
+          let node : other.change.node ≡ x.node =
+          sym its.parent ∙ ap (λ r. r.parent) (sym row) ∙ mine.parent in
+          let i : other.change.index ≡ x.index =
+          sym its.index ∙ ap (λ r. r.index) (sym row) ∙ mine.index in
           let here = undecided_stands pairs words opens log h.0 base x old none in
           let also = undecided_stands pairs words opens log h.0 at other.change other.pending.published other.pending.unset in
           let slot = subst (λ n. SlotHolds t n x.index (word_of (ChangeAt at))) node (subst (λ j. SlotHolds t other.change.node j (word_of (ChangeAt at))) i also) in

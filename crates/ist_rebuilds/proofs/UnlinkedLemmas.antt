@@ -44,13 +44,15 @@ pub ideal_among : (ps : Pieces) (ref : Ref) (leaves : List PlacedLeaf) (above : 
     → IsIdeal ps ref leaves above rows → ref ≡ InnerAt base → Among base rows
 ideal_among ps _ _ _ _ base of_none e = absurd (cc)
 ideal_among ps _ _ _ _ base (of_one same k) e = absurd (cc)
-ideal_among ps _ _ _ _ base (of_more {base = b} r top under) e = inl (let one : base ≡ b = cc in one)
+ideal_among ps _ _ _ _ base (of_more {base = b} r top under) e =
+    inl (let one : base ≡ b = cc in one)
 
 -- so is that of a root
 pub root_among : (ps : Pieces) (word k : ℕ) (leaves : List PlacedLeaf) (target : ℕ) (rows : List ℕ)
     (base : ℕ)
     → IsRoot ps word k leaves target rows → ref_of word ≡ Some (InnerAt base) → Among base rows
-root_among ps word k leaves target rows base (root_whole ref few is ideal) e = ideal_among ps ref leaves target rows base ideal (one (ref_of word) ref (InnerAt base) is e)
+root_among ps word k leaves target rows base (root_whole ref few is ideal) e =
+    ideal_among ps ref leaves target rows base ideal (one (ref_of word) ref (InnerAt base) is e)
   where
     one : (o : Option Ref) (a b : Ref) → o ≡ Some a → o ≡ Some b → a ≡ b
     one o a b x y = cc
@@ -67,7 +69,8 @@ module _ (pairs : List Pair) (words : ℕ) (opens : CanOpen pairs words) where
       → (state_of pairs words log).pieces base ≡ Some (Rebuild r) → r.root ≢ unset_word
       → IsStarted (state_of pairs words log) base
   rooted_is_started =
-      rebuilds_by pairs words (λ log base r. r.root ≢ unset_word → IsStarted (state_of pairs words log) base)
+      rebuilds_by pairs words
+      (λ log base r. r.root ≢ unset_word → IsStarted (state_of pairs words log) base)
       (λ log event h base r old there before set. started_grows (state_of pairs words log) (state_of pairs words (event ∷ log)) (grow_behind pairs words log event h) base (before set))
       (λ log caller change rows h can s set. absurd (set refl))
       (λ log caller base word rows h can before set. started_grows (state_of pairs words log) (state_of pairs words (Root caller base word rows ∷ log)) (grow_behind pairs words log (Root caller base word rows) h) base can.started)
@@ -112,7 +115,8 @@ module _ (pairs : List Pair) (words : ℕ) (opens : CanOpen pairs words) where
       let slot = subst (λ j. SlotHolds t r.parent j c.word) home.1 (subst (λ n. SlotHolds t n i c.word) home.0 c.holds) in
       let same = slot_once t r.parent r.index c.word reads.word (anchor_free pairs words log h) slot reads.holds in
       let target : r.target ≡ base = one r.target base (sym (ap rebuild_reads e) ∙ sym (ap (past_rebuild t.pieces) reads.reads) ∙ ap (logical t.pieces) (sym same) ∙ c.reads) in
-      let high : (r.target < base) × InnerHere t.pieces base = subst (λ x. RootNames t.pieces r.target x) is (o.rows rebuild (Rebuild r) e).2 in
+      let high : (r.target < base) × InnerHere t.pieces base =
+      subst (λ x. RootNames t.pieces r.target x) is (o.rows rebuild (Rebuild r) e).2 in
       let higher = high.0 in
       omega arith
     where
@@ -127,9 +131,12 @@ module _ (pairs : List Pair) (words : ℕ) (opens : CanOpen pairs words) where
       → ¬ (IsReplaced (state_of pairs words log) rebuild)
       → ¬ (WasLinked (start pairs words) log base)
   root_never_linked [] h rebuild base r e is unr was = start_quiet pairs words rebuild (Rebuild r) e
-  root_never_linked (event ∷ log) h rebuild base r e is unr (inl now) = root_unlinked (event ∷ log) h rebuild base r e is unr now
+  root_never_linked (event ∷ log) h rebuild base r e is unr (inl now) =
+      root_unlinked (event ∷ log) h rebuild base r e is unr now
   root_never_linked (event ∷ log) h rebuild base r e is unr (inr before) =
-      at event h (root_apart (event ∷ log) h rebuild base r e is) (rebuild_comes pairs words log event h rebuild r e) (unreplaced_before pairs words opens log event h rebuild unr)
+      at event h (root_apart (event ∷ log) h rebuild base r e is)
+      (rebuild_comes pairs words log event h rebuild r e)
+      (unreplaced_before pairs words opens log event h rebuild unr)
       (λ s old named k. root_never_linked log h.0 rebuild base s old named k before)
     where
       at : (event : Event) → EachEnabled (start pairs words) (event ∷ log) → base ≢ anchor
@@ -140,15 +147,18 @@ module _ (pairs : List Pair) (words : ℕ) (opens : CanOpen pairs words) where
           → ¬ (IsReplaced (state_of pairs words log) rebuild) → ⊥)
           → ⊥
       at event all ne (rebuild_was old) k again = again r old is k
-      at _ all ne (is_begun can s here same) k again = inner_set r.root base is (ap (λ x. x.root) same)
+      at _ all ne (is_begun can s here same) k again =
+          inner_set r.root base is (ap (λ x. x.root) same)
       at _ all ne (is_rooted {caller = caller} {word = word} {rows = rows} can same) k again =
           let t = state_of pairs words log in
           let named : ref_of word ≡ Some (InnerAt base) = ap (λ x. ref_of x.root) (sym same) ∙ is in
           let among = root_among (with_inners t.pieces rows) word can.k can.leaves can.row.target (bases_of rows) base can.root named in
-          let none = held_free t caller rows can.held (sound_behind pairs words log all.0) base among in
+          let none =
+          held_free t caller rows can.held (sound_behind pairs words log all.0) base among in
           let there = was_linked_here pairs words opens log all.0 base ne before in
           no_piece (t.pieces base) (Inner there.0) none there.1
-      at _ all ne (is_drawn can same) k again = again can.row can.published (ap (λ x. ref_of x.root) (sym same) ∙ is) k
+      at _ all ne (is_drawn can same) k again =
+          again can.row can.published (ap (λ x. ref_of x.root) (sym same) ∙ is) k
 
   -- a row that hangs in a slot of a row that was never linked wasn't either
   child_never : (log : Log) → EachEnabled (start pairs words) log → (node i word child : ℕ)
@@ -159,13 +169,15 @@ module _ (pairs : List Pair) (words : ℕ) (opens : CanOpen pairs words) where
       let named = slot_mentions t node i word (InnerAt child) slot is in
       let row = mentioned_here t node i child (names pairs words opens log h) named in
       let it = was_linked_parent pairs words opens log h child (not_the_anchor pairs words opens log h child row.0 row.1) was in
-      let home = (one_home pairs words opens log h).one it.parent it.i node i child it.named named in
+      let home =
+      (one_home pairs words opens log h).one it.parent it.i node i child it.named named in
       never (subst (λ n. WasLinked (start pairs words) log n) home.0 it.linked)
 
   -- what hangs in a row that was never linked wasn't either
   pub never_down : (log : Log) → EachEnabled (start pairs words) log
       → GoesDown (state_of pairs words log).pieces (λ node. ¬ (WasLinked (start pairs words) log node))
-  never_down log h node r never e j word child at is = child_never log h node j word child (in_row r e at) is never
+  never_down log h node r never e j word child at is =
+      child_never log h node j word child (in_row r e at) is never
 
   -- whole rows that were never linked stand behind an event
   pub never_stand : (log : Log) (event : Event) → EachEnabled (start pairs words) (event ∷ log)
@@ -177,7 +189,8 @@ module _ (pairs : List Pair) (words : ℕ) (opens : CanOpen pairs words) where
       let t = state_of pairs words log in
       let u = state_of pairs words (event ∷ log) in
       record {
-        leaf = λ base r e. leaf_there t.pieces u.pieces (grow_behind pairs words log event h) base r e;
+        leaf =
+            λ base r e. leaf_there t.pieces u.pieces (grow_behind pairs words log event h) base r e;
         inner = λ base r i e.
             let it = each-among (StandsWhole t.pieces) base rows whole_rows i in
             let same = same_inner (t.pieces base) it.row r it.published e in

@@ -44,7 +44,8 @@ use Rattle.ist_core.specs.Installing as kinds
 root_partly : (ps : Pieces) (word k : ℕ) (leaves : List PlacedLeaf) (target : ℕ) (rows : List ℕ)
     → IsRoot ps word k leaves target rows → (ref : Ref) × (ref_of word ≡ Some ref)
     × (built : List ℕ) × IsPartly ps ref leaves target built
-root_partly ps word k leaves target rows (root_whole ref few is ideal) = (ref, is, rows, whole ideal)
+root_partly ps word k leaves target rows (root_whole ref few is ideal) =
+    (ref, is, rows, whole ideal)
 root_partly ps word k leaves target rows (root_top base row many is top unset one) = (
   InnerAt base,
   is,
@@ -59,7 +60,9 @@ partly_moved : (ps qs : Pieces) (ref : Ref) (leaves : List PlacedLeaf) (above : 
     → ((base : ℕ) (r : LeafRow) → ps base ≡ Some (Leaf r) → qs base ≡ Some (Leaf r))
     → ((base : ℕ) (r : InnerRow) → ps base ≡ Some (Inner r) → qs base ≡ Some (Inner r))
     → IsPartly qs ref leaves above rows
-partly_moved ps qs _ leaves above rows (whole {ref = ref} ideal) leaf inner = whole (ideal_kept ps qs ref leaves above rows ideal record { leaf = leaf; inner = λ b r i e. inner b r e })
+partly_moved ps qs _ leaves above rows (whole {ref = ref} ideal) leaf inner =
+    whole
+    (ideal_kept ps qs ref leaves above rows ideal record { leaf = leaf; inner = λ b r i e. inner b r e })
 partly_moved ps qs _ leaves above rows (in_parts {base = base} r top under) leaf inner =
     in_parts r (top_kept ps qs base r leaves above top (inner base r top.published))
     (partly_kept ps qs r.slots (parts leaves) base rows under record { leaf = leaf; inner = λ b x i e. inner b x e })
@@ -74,7 +77,8 @@ module _ (pairs : List Pair) (words : ℕ) (opens : CanOpen pairs words) where
       → HasLeaves (state_of pairs words log).pieces (Some (InnerAt r.target)) leaves
       → HasLeaves (state_of pairs words (event ∷ log)).pieces (Some (InnerAt r.target)) leaves
   target_leaves_kept log event h at r e set leaves reached =
-      leaves_kept pairs words opens log event h r.target leaves (rooted_is_finished pairs words log h.0 at r e set) reached
+      leaves_kept pairs words opens log event h r.target leaves
+      (rooted_is_finished pairs words log h.0 at r e set) reached
 
   -- what is built over stays so over an event that leaves the rebuild's root
   built_step : (log : Log) (event : Event) → EachEnabled (start pairs words) (event ∷ log)
@@ -104,11 +108,14 @@ module _ (pairs : List Pair) (words : ℕ) (opens : CanOpen pairs words) where
       let it = root_partly qs word can.k can.leaves can.row.target (bases_of rows) can.root in
       record {
         leaves = can.leaves;
-        reached = leaves_kept pairs words opens log (Root caller at word rows) h can.row.target can.leaves (can.k, can.finished) can.reached;
+        reached =
+            leaves_kept pairs words opens log (Root caller at word rows) h can.row.target can.leaves (can.k, can.finished) can.reached;
         ref = it.0;
         root_is = it.1;
         rows = it.2;
-        built = partly_moved qs (changed_at qs at (with_root word)) it.0 can.leaves can.row.target it.2 it.3
+        built =
+            partly_moved qs
+            (changed_at qs at (with_root word)) it.0 can.leaves can.row.target it.2 it.3
             (λ b r e. changed_at-fixed qs at b (with_root word) (Leaf r) e refl) (λ b r e. changed_at-fixed qs at b (with_root word) (Inner r) e refl);
       }
 
@@ -118,7 +125,8 @@ module _ (pairs : List Pair) (words : ℕ) (opens : CanOpen pairs words) where
       → ¬ (IsReplaced (state_of pairs words log) at) → IsBuiltOver (state_of pairs words log) r
   built_over [] h at r e set unr = absurd (start_quiet pairs words at (Rebuild r) e)
   built_over (event ∷ log) h at r e set unr =
-      by_origin event h (rebuild_comes pairs words log event h at r e) (unreplaced_before pairs words opens log event h at unr)
+      by_origin event h (rebuild_comes pairs words log event h at r e)
+      (unreplaced_before pairs words opens log event h at unr)
       (λ s old has k. built_over log h.0 at s old has k)
     where
       by_origin : (event : Event) → EachEnabled (start pairs words) (event ∷ log)
@@ -128,10 +136,12 @@ module _ (pairs : List Pair) (words : ℕ) (opens : CanOpen pairs words) where
           → s.root ≢ unset_word → ¬ (IsReplaced (state_of pairs words log) at)
           → IsBuiltOver (state_of pairs words log) s)
           → IsBuiltOver (state_of pairs words (event ∷ log)) r
-      by_origin event all (rebuild_was old) k before = built_step log event all at r old set k (before r old set k)
+      by_origin event all (rebuild_was old) k before =
+          built_step log event all at r old set k (before r old set k)
       by_origin _ all (is_begun can s here same) k before = absurd (set (ap (λ x. x.root) same))
       by_origin _ all (is_rooted {caller = caller} {word = word} {rows = rows} can same) k before =
-          subst (λ x. IsBuiltOver (state_of pairs words (Root caller at word rows ∷ log)) x) (sym same) (built_root log caller at word rows all can)
+          subst (λ x. IsBuiltOver (state_of pairs words (Root caller at word rows ∷ log)) x)
+          (sym same) (built_root log caller at word rows all can)
       by_origin _ all (is_drawn {caller = caller} {part = part} can same) k before =
           let has : can.row.root ≢ unset_word = λ none. set (ap (λ x. x.root) same ∙ none) in
           let b = built_step log (Draw caller at part) all at can.row can.published has k (before can.row can.published has k) in
@@ -169,7 +179,8 @@ module _ (pairs : List Pair) (words : ℕ) (opens : CanOpen pairs words) where
         to = w.to ∙ sym root;
         set = λ none. w.set (sym root ∙ none);
         leaves = w.leaves;
-        reached = subst (λ n. HasLeaves u.pieces (Some (InnerAt n)) w.leaves) (sym it.2.target) (target_leaves_kept log event h rebuild w.row w.published w.set w.leaves w.reached);
+        reached =
+            subst (λ n. HasLeaves u.pieces (Some (InnerAt n)) w.leaves) (sym it.2.target) (target_leaves_kept log event h rebuild w.row w.published w.set w.leaves w.reached);
         ref = w.ref;
         to_is = w.to_is;
         rows = w.rows;
@@ -239,7 +250,9 @@ module _ (pairs : List Pair) (words : ℕ) (opens : CanOpen pairs words) where
             rows = it.0;
             ideal = it.1;
           } in
-          subst (λ n. IsWhole (Install caller base rows ∷ log) can.change n) (one f.rebuild rebuild (sym f.from ∙ from)) (whole_on log (Install caller base rows) h can.change f.rebuild unr now)
+          subst (λ n. IsWhole (Install caller base rows ∷ log) can.change n)
+          (one f.rebuild rebuild (sym f.from ∙ from))
+          (whole_on log (Install caller base rows) h can.change f.rebuild unr now)
         where
           one : (a b : ℕ) → Some (RebuildAt a) ≡ Some (RebuildAt b) → a ≡ b
           one a b q = cc
@@ -251,7 +264,8 @@ module _ (pairs : List Pair) (words : ℕ) (opens : CanOpen pairs words) where
       → (rebuild : ℕ)
       → ref_of x.from ≡ Some (RebuildAt rebuild) → IsWhole log x rebuild
   finish_is_whole =
-      changes_by pairs words (λ log base x. x.decision ≡ undecided → (rebuild : ℕ) → ref_of x.from ≡ Some (RebuildAt rebuild) → IsWhole log x rebuild)
+      changes_by pairs words
+      (λ log base x. x.decision ≡ undecided → (rebuild : ℕ) → ref_of x.from ≡ Some (RebuildAt rebuild) → IsWhole log x rebuild)
       (λ log event h base x old there before none rebuild from. whole_on log event h x rebuild (finish_unreplaced pairs words opens log h.0 base x old none rebuild from) (before none rebuild from))
       (λ log caller base rows h can none rebuild from. whole_install log caller base rows h can rebuild from)
       (λ log caller base said h can before none. absurd (said_something said none))

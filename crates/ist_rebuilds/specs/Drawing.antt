@@ -8,7 +8,8 @@ use Rattle.ist_core.specs.Logs.{Log}
 use Rattle.ist_core.specs.Pieces.{Rebuild}
 use Rattle.ist_core.specs.RowLayout.{place_limit}
 
--- a draw word is at most the number of places and that of callers, so that adding 1 to it never wraps
+-- a draw word is at most the number of places and that of callers, so that adding 1 to it never
+-- wraps
 abbrev pub DrawsStayLow : Type 0
 DrawsStayLow =
     (pairs : List Pair) (words : ℕ) (log : Log) → Lawful pairs words log

@@ -18,7 +18,8 @@ RebuildsAreDone t =
     (rebuild : ℕ) (row : RebuildRow) → t.pieces rebuild ≡ Some (Rebuild row) → IsStarted t rebuild
     → IsReplaced t rebuild ⊎ ¬ (IsOpen t row.parent)
 
--- where rebuilds are done, no linked row is marked or finished. It doesn't matter whether each change was resolved
+-- where rebuilds are done, no linked row is marked or finished. It doesn't matter whether each
+-- change was resolved
 abbrev pub RowsAreOpenAtRest : Type 0
 RowsAreOpenAtRest =
     (pairs : List Pair) (words : ℕ) (log : Log) → Lawful pairs words log

@@ -64,8 +64,8 @@ RootsComeLate =
 
 -- ---- roots
 
--- the change puts the root of the rebuild in the place of its target, and the root is the ideal subtree over exactly the leaves
--- below the target, with inner rows above it
+-- the change puts the root of the rebuild in the place of its target, and the root is the ideal
+-- subtree over exactly the leaves below the target, with inner rows above it
 pub record PutsIdealRoot (t : Snapshot) (change : ChangeRow) (row : RebuildRow) : Type 0 where
   pub root : change.to ≡ row.root
   pub ref : Ref
@@ -75,8 +75,8 @@ pub record PutsIdealRoot (t : Snapshot) (change : ChangeRow) (row : RebuildRow) 
   pub rows : List ℕ
   pub ideal : IsIdeal t.pieces ref leaves row.target rows
 
--- where a finish of a rebuild is decided yes, it puts an ideal root over the target's leaves in its place, before the event
--- and behind it
+-- where a finish of a rebuild is decided yes, it puts an ideal root over the target's leaves in its
+-- place, before the event and behind it
 abbrev pub RootsAreIdeal : Type 0
 RootsAreIdeal =
     (pairs : List Pair) (words : ℕ) (log : Log) (caller base : ℕ)
@@ -124,7 +124,8 @@ abbrev pub FinishedRowsHaveLeaves : Type 0
 FinishedRowsHaveLeaves =
     (pairs : List Pair) (words : ℕ) (log : Log) → Lawful pairs words log → (node k : ℕ)
     → IsFinishedWith (state_of pairs words log) node k
-    → (leaves : List PlacedLeaf) × HasLeaves (state_of pairs words log).pieces (Some (InnerAt node)) leaves
+    → (leaves : List PlacedLeaf)
+    × HasLeaves (state_of pairs words log).pieces (Some (InnerAt node)) leaves
 
 -- a finished row's number is the number of leaves below it
 abbrev pub NumbersCountLeaves : Type 0

@@ -3,8 +3,10 @@ ghost use Rattle.ist_rebuilds.specs.Returning.{UnlinkedRowsStayOut};
 ghost use Rattle.ist_rebuilds.specs.Replacing.{StartedRebuildsStand, ReplacedRebuildsAreGone};
 ghost use Rattle.ist_rebuilds.specs.Replacing.{ReplacedTargetsAreOut, RootsComeLate};
 ghost use Rattle.ist_rebuilds.specs.Replacing.{RootsAreIdeal};
-ghost use Rattle.ist_rebuilds.specs.Replacing.{FinishedRowsHaveLeaves, NumbersCountLeaves, NumbersAreLow};
-ghost use Rattle.ist_rebuilds.specs.Replacing.{ContentsExist, UpdatesAloneChange, LinkedSlotsAreSet};
+ghost use Rattle.ist_rebuilds.specs.Replacing.{FinishedRowsHaveLeaves, NumbersAreLow};
+ghost use Rattle.ist_rebuilds.specs.Replacing.{NumbersCountLeaves};
+ghost use Rattle.ist_rebuilds.specs.Replacing.{ContentsExist, UpdatesAloneChange};
+ghost use Rattle.ist_rebuilds.specs.Replacing.{LinkedSlotsAreSet};
 ghost use Rattle.ist_rebuilds.specs.Drawing.{DrawsStayLow};
 ghost use Rattle.ist_rebuilds.specs.Opening.{RowsAreOpenAtRest};
 
@@ -13,8 +15,8 @@ pub fn unlinked_rows_stay_out()
     ensures out { UnlinkedRowsStayOut }
 {}
 
-/// A started rebuild stands in its slot until it is replaced, and never again then; its target isn't
-/// linked from then on. A rebuild gets its root once its target is finished.
+/// A started rebuild stands in its slot until it is replaced, and never again then; its target
+/// isn't linked from then on. A rebuild gets its root once its target is finished.
 pub fn rebuilds_stand()
     ensures stand { StartedRebuildsStand }
     ensures gone { ReplacedRebuildsAreGone }
@@ -37,8 +39,8 @@ pub fn updates_alone_change()
     ensures set { LinkedSlotsAreSet }
 {}
 
-/// A finished row has leaves below it, and its number is how many they are. No two leaves share a word,
-/// so that the number is no greater than that of a table's places.
+/// A finished row has leaves below it, and its number is how many they are. No two leaves share a
+/// word, so that the number is no greater than that of a table's places.
 pub fn numbers_count_leaves()
     ensures leaves { FinishedRowsHaveLeaves }
     ensures number { NumbersCountLeaves }

@@ -17,3 +17,4 @@ pub mod SplitLemmas
 pub mod JoinLemmas
 pub mod OpenLemmas
 pub mod GoingOnLemmas
+pub mod WatchLemmas

@@ -1,5 +1,5 @@
 -- What a seat owes for a step: that its event is enabled whatever others do meanwhile, and that its call allows it.
-use Rattle.std.specs.Prelude.{◌≡◌, ℕ, ◌+◌, ◌^◌, ◌<◌, List, [], ◌∷◌, ◌++◌, length, slice_get, Some, None}
+use Rattle.std.specs.Prelude.{◌≡◌, ◌≢◌, ◌⊎◌, ℕ, ◌+◌, ◌^◌, ◌<◌, List, [], ◌∷◌, ◌++◌, length, slice_get, Some, None}
 use Rattle.ist_core.specs.declared.calls.Call.{Call}
 use Rattle.ist_core.specs.declared.events.Event.{Event}
 use Rattle.ist_core.specs.declared.events.Event.TheVariants.{Enter, Install}
@@ -23,7 +23,7 @@ use Rattle.ist_rule.specs.Authors.{author, Later}
 use Rattle.ist_rule.specs.Shown.{IsShown}
 use Rattle.ist_rule.specs.Rule.{own_at}
 use Rattle.ist_rule.specs.Standings.{HasMade}
-use Rattle.ist_rule.specs.Learning.{now}
+use Rattle.ist_rule.specs.Learning.{now, Naming}
 
 -- the seat may come to see this log: it is lawful, and goes on by events of others
 pub record MayCome (v : View) (log : Log) : Type 0 where
@@ -88,6 +88,26 @@ pub record CanAdd (v : View) (place : ℕ) (named : ℕ → Event) : Type 0 wher
       → ComesAt v log (named found) place found (found + 1)
   pub fits : (log : Log) → MayCome v log → (found : ℕ) → IsShown (state_of v.start v.words log) place found
       → found + 1 < 2 ^ 64
+
+-- the event is enabled behind the log, and a step that leaves the word at the place as it is may be it
+pub record LeavesAt (v : View) (log : Log) (event : Event) (place word : ℕ) : Type 0 where
+  pub enabled : Enabled (start v.start v.words) log event
+  pub leaves : (touch_of (state_of v.start v.words log) event ≡ Some record { place = place; found = word; left = word })
+      ⊎ (touch_of (state_of v.start v.words log) event ≡ None)
+
+-- a load of the place is the event that is named for the log before it and the word, where one is
+pub record CanLoadAs (v : View) (place : ℕ) (named : Naming) : Type 0 where
+  pub known : IsKnown v place
+  pub comes : (log : Log) → MayCome v log → (word : ℕ) → IsShown (state_of v.start v.words log) place word
+      → (event : Event) → named log word ≡ Some event
+      → CanMake v event × LeavesAt v log event place word
+
+-- an exchange is the event where it finds `old`, and otherwise the other one
+pub record CanExchangeOrLose (v : View) (place old new : ℕ) (event lost : Event) : Type 0 where
+  pub hit : CanExchange v place old new event
+  pub make : CanMake v lost
+  pub miss : (log : Log) → MayCome v log → (found : ℕ) → IsShown (state_of v.start v.words log) place found
+      → found ≢ old → LeavesAt v log lost place found
 
 -- ---- own rows
 

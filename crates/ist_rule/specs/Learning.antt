@@ -74,6 +74,33 @@ pub record Logged (v : View) (event : Event) (w : View) : Type 0 where
   pub view : w ≡ logging v before event
   pub sound : IsSound w
 
+-- the view behind a load, or a failed exchange, that is an event of its own
+abbrev pub logging_load : View → Log → Event → View
+logging_load v before event = record (logging v before event) { loaded = v.loaded + 1 }
+
+-- the event came at a load that gave this word at the place: it is the last of the log, and all before it is seen
+pub record LoggedLoad (v : View) (event : Event) (place word : ℕ) (w : View) : Type 0 where
+  pub before : Log
+  pub later : Later v.who v.log before
+  pub view : w ≡ logging_load v before event
+  pub sound : IsSound w
+  pub stood : (shown : ℕ) → IsShown (state_of v.start v.words before) place shown → word ≡ shown
+
+-- what a load is, by the log before it and the word that it gives: an event, or none
+abbrev pub Naming : Type 0
+Naming = Log → ℕ → Option Event
+
+-- a load that is an event where it is named so, and nothing but a load otherwise
+pub data LoadedAs (v : View) (named : Naming) (place word : ℕ) (w : View) : Type 0 where
+  as_event : (event : Event) (l : LoggedLoad v event place word w) → named l.before word ≡ Some event
+      → LoadedAs v named place word w
+  as_load : Looked v place word w → named w.log word ≡ None → LoadedAs v named place word w
+
+-- an exchange that found `old` is the event, and one that found another word is the other event
+abbrev pub ExchangedOrLost : View → Event → Event → ℕ → ℕ → ℕ → View → Type 0
+ExchangedOrLost v event lost place old found w =
+    (found ≡ old → Logged v event w) × (found ≢ old → LoggedLoad v lost place found w)
+
 -- an exchange that found `old` is the event, and one that found another word is a load
 abbrev pub Exchanged : View → Event → ℕ → ℕ → ℕ → View → Type 0
 Exchanged v event place old found w = (found ≡ old → Logged v event w) × (found ≢ old → Looked v place found w)

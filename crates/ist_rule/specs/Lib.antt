@@ -7,5 +7,6 @@ pub mod Faces
 pub mod Learning
 pub mod Conditions
 pub mod Seating
+pub mod Watching
 -- what the functions inside this crate promise each other
 pub mod Playing

@@ -5,7 +5,7 @@ use Rattle.ist_core.specs.declared.calls.Call.{Call}
 use Rattle.ist_core.specs.declared.commands.Command.{Command}
 use Rattle.ist_core.specs.declared.events.Event.{Event}
 use Rattle.ist_rule.specs.declared.view.View.{View}
-use Rattle.ist_rule.specs.Learning.{Looked, Logged, Exchanged, Turned, storing, beginning, searching, ending, giving_up}
+use Rattle.ist_rule.specs.Learning.{Looked, Logged, LoadedAs, Naming, Exchanged, ExchangedOrLost, Turned, storing, beginning, searching, ending, giving_up}
 
 -- a seat: its view, and the slots that it has taken, of which there are none
 abbrev pub Seated : Type 0
@@ -46,3 +46,12 @@ ends call step me found you = Turned me.0 (ending me.0 call) you.0 × (you.1 ≡
 -- a load that gives up a call
 abbrev pub gives_up : Told
 gives_up step me found you = Turned me.0 (giving_up me.0) you.0 × (you.1 ≡ me.1)
+
+-- a load that is an event where it is named so
+abbrev pub loads_as : Naming → Told
+loads_as named step me found you = LoadedAs me.0 named step.word found you.0 × (you.1 ≡ me.1)
+
+-- an exchange that is an event either way
+abbrev pub exchanges_or_loses : Event × Event → Told
+exchanges_or_loses events step me found you =
+    ExchangedOrLost me.0 events.0 events.1 step.word step.first found you.0 × (you.1 ≡ me.1)

@@ -1,7 +1,8 @@
 //! The table under its rule: between any two atomic steps its words are the image of a lawful log, and each step is one
 //! event of it or changes no state.
 //!
-//! Read `specs/Lib.antt`, then `view.rt`, then `steps.rt`. Stands on `ist_core` and `atomic_table`.
+//! Read `specs/Lib.antt`, then `view.rt`, then `steps.rt`. Stands on `ist_core`,
+//! `ist_layout` and `atomic_table`.
 #![tactic(auto)]
 
 mod calling;
@@ -11,11 +12,13 @@ mod seating;
 mod steps;
 mod table;
 mod view;
+mod watching;
 
 pub use calling::{begin_call, begin_search, end_call, give_up};
 pub use opening::{close, know, open_table};
-pub use plays::{Answered, Asked, Named, NamedByWord};
+pub use plays::{Answered, Asked, Named, NamedByLog, NamedByWord, NamedEitherWay};
 pub use seating::{join, split};
-pub use steps::{add, exchange, load, store};
+pub use steps::{add, exchange, exchange_or_lose, load, store};
 pub use table::{TreeSeat, TreeTable, word_count};
 pub use view::{About, Load, Loads, OwnWord, Pending, Taken, TreeRule, View, Who};
+pub use watching::{load_okay, load_pass, load_past};

@@ -93,6 +93,32 @@ impl NamedByWord for Brand {
     ghost event = { λ found. Enter found };
 }
 
+/// The event of a load, for each log before it and each word that it may give, or none.
+pub trait NamedByLog {
+    ghost use Rattle.ist_rule.specs.Learning.{Naming};
+
+    ghost event: { Naming };
+}
+
+impl NamedByLog for Brand {
+    ghost use Rattle.std.specs.Prelude.{None};
+
+    ghost event = { λ log word. None };
+}
+
+/// The events of an exchange: where it finds its word, and where it doesn't.
+pub trait NamedEitherWay {
+    ghost use Rattle.ist_core.specs.declared.events.Event.{Event};
+
+    ghost events: { Event × Event };
+}
+
+impl NamedEitherWay for Brand {
+    ghost use Rattle.ist_core.specs.declared.events.Event.TheVariants.{Enter};
+
+    ghost events = { (Enter 0, Enter 0) };
+}
+
 /// The command of a call that begins.
 pub trait Asked {
     ghost use Rattle.std.specs.Prelude.{Option};
@@ -163,4 +189,26 @@ impl<A: Answered> Play<(), View> for Ends<A> {
     ghost use Rattle.ist_rule.specs.Playing.{ends};
 
     ghost then = { ends A.call };
+}
+
+// A load that is an event where it is named so.
+pub(crate) struct LoadsAs<N> {
+    named: PhantomData<N>,
+}
+
+impl<N: NamedByLog> Play<(), View> for LoadsAs<N> {
+    ghost use Rattle.ist_rule.specs.Playing.{loads_as};
+
+    ghost then = { loads_as N.event };
+}
+
+// An exchange that is an event either way.
+pub(crate) struct ExchangesOrLoses<N> {
+    named: PhantomData<N>,
+}
+
+impl<N: NamedEitherWay> Play<(), View> for ExchangesOrLoses<N> {
+    ghost use Rattle.ist_rule.specs.Playing.{exchanges_or_loses};
+
+    ghost then = { exchanges_or_loses N.events };
 }

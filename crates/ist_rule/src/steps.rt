@@ -2,10 +2,12 @@
 ghost use Rattle.std.specs.Prelude.{◌≡◌, ◌<◌, ℕ};
 ghost use Rattle.ist_core.specs.declared.events.Event.{Event};
 ghost use Rattle.ist_rule.specs.Faces.{word_count_of};
-ghost use Rattle.ist_rule.specs.Learning.{Looked, Logged, Exchanged, storing};
-ghost use Rattle.ist_rule.specs.Conditions.{IsOwn, CanExchange, CanAdd};
+ghost use Rattle.ist_rule.specs.Learning.{Looked, Logged, Exchanged, ExchangedOrLost, storing};
+ghost use Rattle.ist_rule.specs.Conditions.{IsOwn, CanExchange, CanAdd, CanExchangeOrLose};
 
-use crate::plays::{Adds, Exchanges, Looks, Named, NamedByWord, Stores};
+use crate::plays::{
+    Adds, Exchanges, ExchangesOrLoses, Looks, Named, NamedByWord, NamedEitherWay, Stores,
+};
 use crate::table::{TreeSeat, TreeTable};
 use std::marker::Brand;
 
@@ -94,4 +96,45 @@ pub fn exchange(table: &TreeTable, seat: &mut TreeSeat, place: u64, old: u64, ne
     ensures exchanged { Exchanged seat.old.view event place old result seat.new.view }
 {
     exchange_as::<Brand>(table, seat, place, old, new)
+}
+
+fn exchange_or_lose_as<N: NamedEitherWay>(
+    table: &TreeTable,
+    seat: &mut TreeSeat,
+    place: u64,
+    old: u64,
+    new: u64,
+) -> u64
+    requires same_table { seat.old.table ≡ table.now.table }
+    requires within { place < word_count_of table.now }
+    requires events { CanExchangeOrLose seat.old.view place old new N.events.0 N.events.1 }
+    ensures same_table { seat.new.table ≡ seat.old.table }
+    ensures exchanged { ExchangedOrLost seat.old.view N.events.0 N.events.1 place old result seat.new.view }
+{
+    table
+        .table
+        .shared
+        .compare_exchange::<ExchangesOrLoses<N>>(&mut seat.seat, place as usize, old, new)
+}
+
+/// Writes `new` where the word at the place is `old`, and answers the word that stood there.
+///
+/// Where that was `old`, the step is the first of the events that are named: the last of the seat's
+/// log. Otherwise no word changes, and the step is the second: the loss of the rows that would have
+/// been published.
+pub fn exchange_or_lose(
+    table: &TreeTable,
+    seat: &mut TreeSeat,
+    place: u64,
+    old: u64,
+    new: u64,
+) -> u64
+    ghost events: { Event × Event }
+    requires same_table { seat.old.table ≡ table.now.table }
+    requires within { place < word_count_of table.now }
+    requires events { CanExchangeOrLose seat.old.view place old new events.0 events.1 }
+    ensures same_table { seat.new.table ≡ seat.old.table }
+    ensures exchanged { ExchangedOrLost seat.old.view events.0 events.1 place old result seat.new.view }
+{
+    exchange_or_lose_as::<Brand>(table, seat, place, old, new)
 }
