@@ -12,10 +12,12 @@ use Rattle.ist_histories.specs.Searching.{ReadsSide, no_change, by_to, by_from, 
 -- a log that goes on is no shorter
 length_rises : (log longer : Log) → GoesOn log longer → length log ≤ length longer
 length_rises log _ same_log = omega arith
-length_rises log _ (one_event {log = rest} event g) = let low = length_rises log rest g in omega arith
+length_rises log _ (one_event {log = rest} event g) =
+    let low = length_rises log rest g in omega arith
 
 -- a log keeps at each length what it was
-at_same : (log longer : Log) → GoesOn log longer → (n : ℕ) → n ≤ length log → log_at longer n ≡ log_at log n
+at_same : (log longer : Log) → GoesOn log longer → (n : ℕ) → n ≤ length log
+    → log_at longer n ≡ log_at log n
 at_same log _ same_log n h = refl
 at_same log _ (one_event {log = rest} event g) n h =
     let low = length_rises log rest g in
@@ -55,17 +57,20 @@ module _ (pairs : List Pair) (words : ℕ) (log longer : Log) (g : GoesOn log lo
   target_on : (least word : ℕ) (ref : Ref) → ReadsTarget pairs words log least word ref
       → ReadsTarget pairs words longer least word ref
   target_on least word _ (no_rebuild ref is plain) = no_rebuild ref is plain
-  target_on least word _ (by_target base target is load) = by_target base target is (load_on _ _ target load)
+  target_on least word _ (by_target base target is load) =
+      by_target base target is (load_on _ _ target load)
 
   -- a look at a slot is one there too
-  pub look_on : (key least last node : ℕ) (ref : Ref) → LooksAt pairs words log key least last node ref
+  pub look_on : (key least last node : ℕ) (ref : Ref)
+      → LooksAt pairs words log key least last node ref
       → LooksAt pairs words longer key least last node ref
   look_on key least last node ref h =
       let same = sym (at_same log longer g h.slot.length h.is_load.within) in
       record {
         slot = h.slot;
         index = h.index;
-        index_is = subst (λ l. IsChildFor (state_of pairs words l) node key h.index) same h.index_is;
+        index_is =
+            subst (λ l. IsChildFor (state_of pairs words l) node key h.index) same h.index_is;
         is_load =
             subst (λ l. IsLoad pairs words longer (place_of_slot (state_of pairs words l) node h.index) least h.slot) same
             (load_on _ _ h.slot h.is_load);
@@ -82,14 +87,17 @@ module _ (pairs : List Pair) (words : ℕ) (log longer : Log) (g : GoesOn log lo
       goes_down (come_on key began least node c) (look_on key least last node _ look)
 
   -- what a leaf gave stays
-  value_on : (key least : ℕ) (ref : Ref) (value : Option ℕ) → ReadsValue pairs words log key least ref value
+  value_on : (key least : ℕ) (ref : Ref) (value : Option ℕ)
+      → ReadsValue pairs words log key least ref value
       → ReadsValue pairs words longer key least ref value
   value_on key least _ _ of_nothing = of_nothing
   value_on key least _ _ (of_other load is other) = of_other load (load_on _ _ load is) other
-  value_on key least _ _ (of_key load value is same at) = of_key load value (load_on _ _ load is) same (load_on _ _ value at)
+  value_on key least _ _ (of_key load value is same at) =
+      of_key load value (load_on _ _ load is) same (load_on _ _ value at)
 
   -- a search that ended, ended so
-  pub end_on : (key began node : ℕ) (value : Option ℕ) → Searched pairs words log key began node value
+  pub end_on : (key began node : ℕ) (value : Option ℕ)
+      → Searched pairs words log key began node value
       → Searched pairs words longer key began node value
   end_on key began node value h =
       record {

@@ -47,7 +47,8 @@ pub legal_append : (m : Map) (xs ys : List Answered) → IsLegal m xs → IsLega
     → IsLegal m (xs ++ ys)
 legal_append m [] ys h k = k
 legal_append m (x ∷ xs) ys h k =
-    same_cons _ _ _ _ (same_head _ _ _ _ h) (legal_append (map_after m x.command) xs ys (same_tail _ _ _ _ h) k)
+    same_cons _ _ _ _ (same_head _ _ _ _ h)
+    (legal_append (map_after m x.command) xs ys (same_tail _ _ _ _ h) k)
 
 -- ---- commands that leave the map
 
