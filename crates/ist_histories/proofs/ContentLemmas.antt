@@ -27,7 +27,8 @@ use Rattle.ist_histories.proofs.ValueLemmas.{value_of, get-map_of, same_gets}
 use Rattle.ist_histories.proofs.FindLemmas.{finds_once}
 use Rattle.ist_histories.proofs.BelowLemmas.{pairs_rise}
 use Rattle.ist_histories.proofs.RootLemmas.{named_value}
-use Rattle.ist_histories.proofs.TellLemmas.{Told, told}
+use Rattle.ist_histories.proofs.TellLemmas.{Told}
+use Rattle.ist_histories.proofs.ToldLemmas.{told}
 use Rattle.ist_histories.proofs.OpeningLemmas.{start_contents}
 use Rattle.ist_histories.proofs.NeededLemmas.{all_needed}
 

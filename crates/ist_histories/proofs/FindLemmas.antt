@@ -86,10 +86,10 @@ module _ (pairs : List Pair) (words : ℕ) (opens : CanOpen pairs words) (log : 
       → Finds Behind.pieces key (Some (InnerAt base)) value
   finds_through key base i r ref value e is read f =
       let it =
-          inner_there Before.pieces Behind.pieces (grow_behind pairs words log event h) base r e in
+      inner_there Before.pieces Behind.pieces (grow_behind pairs words log event h) base r e in
       let held =
-          row_holds Behind base i read.word it.0
-          (anchor_free pairs words (event ∷ log) h) it.1 read.holds in
+      row_holds Behind base i read.word it.0
+      (anchor_free pairs words (event ∷ log) h) it.1 read.holds in
       in_node it.0 it.1
       (subst (λ k. slice_get it.0.slots k ≡ Some read.word) (is ∙ ap (λ ks. child_count ks key) (sym it.2.keys)) held)
       (subst (λ x. Finds Behind.pieces key x value) (sym read.reads) f)

@@ -1,5 +1,5 @@
 -- A search by its loads is a search by the logs at which it looked. Serves the search law.
-use Rattle.std.proofs.Common.{◌≡◌, ◌≢◌, ℕ, zero, suc, ◌+◌, ◌-◌, ◌<◌, ◌≤◌, ◌==◌, nat_le, if◌then◌else◌, Bool, true, false, List, [], ◌∷◌, length, drop, slice_get, Option, Some, None, refl, sym, ap, ◌∙◌, subst, arith, le_refl}
+use Rattle.std.proofs.Common.{◌≡◌, ◌≢◌, ℕ, zero, suc, ◌+◌, ◌<◌, ◌≤◌, ◌==◌, nat_le, if◌then◌else◌, Bool, true, false, List, [], ◌∷◌, length, slice_get, Option, Some, None, refl, sym, ap, ◌∙◌, subst, arith, le_refl}
 use Rattle.std.proofs.lemmas.Bool.Decides.{nat_tests}
 use Rattle.std.proofs.lemmas.List.Sums.{count_by-le-length}
 use Rattle.ist_core.specs.declared.pairs.Pair.{Pair}
@@ -13,7 +13,7 @@ use Rattle.ist_core.specs.Pieces.{Piece, Leaf, Inner, Change, Rebuild, words_of,
 use Rattle.ist_core.specs.Snapshots.{Snapshot}
 use Rattle.ist_core.specs.StartLayout.{start}
 use Rattle.ist_core.specs.After.{side_of}
-use Rattle.ist_core.specs.Logs.{Log, GoesOn, same_log, one_event}
+use Rattle.ist_core.specs.Logs.{Log, GoesOn}
 use Rattle.ist_core.specs.Slots.{SlotHolds, in_anchor, in_row, IsChildFor, of_anchor, of_row, rebuild_reads, past_rebuild, logical}
 use Rattle.ist_core.specs.Writing.{place_in, place_of_slot}
 use Rattle.ist_core.specs.Changes.{value_in}
@@ -35,30 +35,8 @@ use Rattle.ist_histories.specs.Loads.{Load, log_at, in_anchor_slot, in_published
 use Rattle.ist_histories.specs.Searching.{ReadsSide, no_change, by_to, by_from, ReadsTarget, no_rebuild, by_target, LooksAt, ComesTo, begins, goes_down, ReadsValue, of_nothing, of_other, of_key}
 use Rattle.ist_histories.proofs.ChangeLemmas.{on_trans}
 use Rattle.ist_histories.proofs.ReadLemmas.{change_logical}
+use Rattle.ist_histories.proofs.LoadOnLemmas.{at_on, at_rises}
 use Rattle.ist_histories.proofs.SearchLemmas as search
-
--- ---- the log at a length
-
--- a log goes on from what is left without its newest events
-drop_on : (k : ℕ) (log : Log) → GoesOn (drop k log) log
-drop_on zero log = same_log
-drop_on (suc k) [] = same_log
-drop_on (suc k) (event ∷ log) = one_event event (drop_on k log)
-
--- and the more is left, the longer it is
-drop_rises : (a b : ℕ) (log : Log) → b ≤ a → GoesOn (drop a log) (drop b log)
-drop_rises a zero log h = drop_on a log
-drop_rises zero (suc b) log h = absurd (omega arith)
-drop_rises (suc a) (suc b) [] h = same_log
-drop_rises (suc a) (suc b) (event ∷ log) h = drop_rises a b log (omega arith)
-
--- the log goes on from what it was
-pub at_on : (log : Log) (n : ℕ) → GoesOn (log_at log n) log
-at_on log n = drop_on (length log - n) log
-
--- with more events it is a longer one
-pub at_rises : (log : Log) (m n : ℕ) → m ≤ n → GoesOn (log_at log m) (log_at log n)
-at_rises log m n h = drop_rises (length log - m) (length log - n) log (omega arith)
 
 -- ---- words of rows
 

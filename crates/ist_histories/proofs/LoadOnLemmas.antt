@@ -1,5 +1,5 @@
 -- What was loaded stays so as the log goes on. Serves `laws.searches_go_on`.
-use Rattle.std.proofs.Common.{◌≡◌, ℕ, suc, ◌-◌, ◌≤◌, List, ◌∷◌, length, drop, Option, refl, sym, ap, ◌∙◌, subst, arith}
+use Rattle.std.proofs.Common.{◌≡◌, ℕ, zero, suc, ◌-◌, ◌≤◌, List, [], ◌∷◌, length, drop, Option, refl, sym, ap, ◌∙◌, subst, arith}
 use Rattle.ist_core.specs.declared.pairs.Pair.{Pair}
 use Rattle.ist_core.specs.References.{Ref}
 use Rattle.ist_core.specs.Logs.{Log, GoesOn, same_log, one_event}
@@ -8,6 +8,29 @@ use Rattle.ist_core.specs.Writing.{place_of_slot}
 use Rattle.ist_core.specs.Lawful.{state_of}
 use Rattle.ist_histories.specs.Loads.{Load, log_at, HasWord, IsLoad}
 use Rattle.ist_histories.specs.Searching.{ReadsSide, no_change, by_to, by_from, ReadsTarget, no_rebuild, by_target, LooksAt, ComesTo, begins, goes_down, ReadsValue, of_nothing, of_other, of_key, Searched}
+
+-- ---- the log at a length
+
+-- a log goes on from what is left without its newest events
+drop_on : (k : ℕ) (log : Log) → GoesOn (drop k log) log
+drop_on zero log = same_log
+drop_on (suc k) [] = same_log
+drop_on (suc k) (event ∷ log) = one_event event (drop_on k log)
+
+-- and the more is left, the longer it is
+drop_rises : (a b : ℕ) (log : Log) → b ≤ a → GoesOn (drop a log) (drop b log)
+drop_rises a zero log h = drop_on a log
+drop_rises zero (suc b) log h = absurd (omega arith)
+drop_rises (suc a) (suc b) [] h = same_log
+drop_rises (suc a) (suc b) (event ∷ log) h = drop_rises a b log (omega arith)
+
+-- the log goes on from what it was
+pub at_on : (log : Log) (n : ℕ) → GoesOn (log_at log n) log
+at_on log n = drop_on (length log - n) log
+
+-- with more events it is a longer one
+pub at_rises : (log : Log) (m n : ℕ) → m ≤ n → GoesOn (log_at log m) (log_at log n)
+at_rises log m n h = drop_rises (length log - m) (length log - n) log (omega arith)
 
 -- a log that goes on is no shorter
 length_rises : (log longer : Log) → GoesOn log longer → length log ≤ length longer

@@ -23,7 +23,8 @@ use Rattle.ist_histories.specs.Telling.{map_now}
 use Rattle.ist_histories.proofs.ChangeLemmas.{on_trans, changes_on, changes_rise}
 use Rattle.ist_histories.proofs.CallLemmas.{add_reading}
 use Rattle.ist_histories.proofs.SearchLemmas.{seen, standing, goes_up, ever_at, leads_linked, leads_there, there_on, finds_below}
-use Rattle.ist_histories.proofs.LoadLemmas.{at_on, look_of, comes_of, value_of}
+use Rattle.ist_histories.proofs.LoadOnLemmas.{at_on}
+use Rattle.ist_histories.proofs.LoadLemmas.{look_of, comes_of, value_of}
 use Rattle.ist_histories.proofs.NeededLemmas.{all_needed}
 use Rattle.ist_histories.proofs.ContentLemmas.{told_at}
 

@@ -78,7 +78,7 @@ module _ (pairs : List Pair) (words : ℕ) (opens : CanOpen pairs words)
       ⊎_elim
       (λ x.
       let s =
-          saw_led pairs words opens needs key look.loaded now look.later h node look.index look.word ref x look.index_is look.held look.reads in
+      saw_led pairs words opens needs key look.loaded now look.later h node look.index look.word ref x look.index_is look.held look.reads in
       record { at = s.at; since = on_trans first look.loaded s.at on s.since; until = s.until; led = s.led; index = s.index; index_is = s.index_is; read = s.read })
       (λ w. left record { at = w.at; since = on_trans first before w.at g w.since; until = w.until; led = w.led; finished = w.finished })
       (led_on pairs words opens needs before look.loaded look.after l key node led))
@@ -99,11 +99,11 @@ module _ (pairs : List Pair) (words : ℕ) (opens : CanOpen pairs words)
   standing first _ _ h begins = inl from_anchor
   standing first _ _ h (goes {before = before} {now = now} {node = node} {child = child} c look) =
       let l =
-          enabled_before (start pairs words) before now
-          (on_trans before look.loaded now look.after look.later) h in
+      enabled_before (start pairs words) before now
+      (on_trans before look.loaded now look.after look.later) h in
       let s =
-          saw first before now (comes_on pairs words key first before node c) h node
-          (Some (InnerAt child)) (standing first before node l c) look in
+      saw first before now (comes_on pairs words key first before node c) h node
+      (Some (InnerAt child)) (standing first before node l c) look in
       ⊎_elim
       (λ x. inl x)
       (λ w. inr record { at = w.at; since = on_trans first s.at w.at s.since w.since; until = w.until; led = w.led; finished = w.finished })
@@ -116,8 +116,8 @@ module _ (pairs : List Pair) (words : ℕ) (opens : CanOpen pairs words)
       → Saw pairs words key first now node ref
   seen first before now node ref h c look =
       let l =
-          enabled_before (start pairs words) before now
-          (on_trans before look.loaded now look.after look.later) h in
+      enabled_before (start pairs words) before now
+      (on_trans before look.loaded now look.after look.later) h in
       saw first before now (comes_on pairs words key first before node c) h node ref
       (standing first before node l c) look
 
@@ -164,8 +164,8 @@ module _ (pairs : List Pair) (words : ℕ) (opens : CanOpen pairs words) (key : 
   there_on earlier log g h node (inl e) = inl e
   there_on earlier log g h node (inr e) =
       let it =
-          inner_there (state_of pairs words earlier).pieces (state_of pairs words log).pieces
-          (grow_between pairs words earlier log h g) node e.0 e.1 in
+      inner_there (state_of pairs words earlier).pieces (state_of pairs words log).pieces
+      (grow_between pairs words earlier log h g) node e.0 e.1 in
       inr (it.0, it.1)
 
 -- ---- what is found below a slot
@@ -184,8 +184,8 @@ pub row_finds : (ps : Pieces) (key base : ℕ) (value : Option ℕ) (r : InnerRo
 row_finds ps key base value r i word (in_node {word = other} x e g f) there is read =
     let one = same_inner (ps base) x r e there in
     let same : other ≡ word =
-        same_read x r (child_count x.keys key) i other word one
-        (ap (λ y. child_count y.keys key) one ∙ sym is) g read in
+    same_read x r (child_count x.keys key) i other word one
+    (ap (λ y. child_count y.keys key) one ∙ sym is) g read in
     subst (λ w. Finds ps key (logical ps w) value) same f
 
 -- what the tree gives the key is found from a slot on to which the key leads

@@ -1,14 +1,12 @@
 -- The tree gives each key what the map behind the changes has, and each change has the reply of the map at its place. Serves
 -- the changes law.
-use Rattle.std.proofs.Common.{◌≡◌, ◌≢◌, ℕ, true, List, [], ◌∷◌, ◌++◌, map, Option, Some, None, option_map, refl, sym, ap, ◌∙◌, subst, inl, inr, ⊎_elim, arith}
+use Rattle.std.proofs.Common.{◌≡◌, ◌≢◌, ℕ, true, List, [], ◌∷◌, ◌++◌, Option, Some, None, option_map, refl, sym, ap, ◌∙◌, subst, inl, inr, ⊎_elim, arith}
 use Rattle.std.proofs.lemmas.Bool.Decides.{eqb_tells}
-use Rattle.std.proofs.lemmas.List.{map-append}
 use Rattle.std.specs.FinMap as fin
 use Rattle.ist_core.specs.declared.pairs.Pair.{Pair}
 use Rattle.ist_core.specs.declared.states.ChangeRow.{ChangeRow}
-use Rattle.ist_core.specs.declared.events.Event.{Event}
 use Rattle.ist_core.specs.declared.events.Event.TheVariants.{Decide}
-use Rattle.ist_core.specs.Map.{Map, map_of, map_after, replay}
+use Rattle.ist_core.specs.Map.{Map, map_of, map_after}
 use Rattle.ist_core.specs.References.{Ref, InnerAt, ChangeAt, ref_of, word_of}
 use Rattle.ist_core.specs.Statuses.{decided_yes}
 use Rattle.ist_core.specs.Pieces.{Leaf, Inner, Change, with_decision}
@@ -20,7 +18,6 @@ use Rattle.ist_core.specs.Links.{Leads}
 use Rattle.ist_core.specs.Changes.{Entry, command_of, reply_of, entry_for, entry_of, changes_of, map_behind}
 use Rattle.ist_core.specs.Rebuilding.{IsUpdate}
 use Rattle.ist_core.specs.Lawful.{EachEnabled, CanOpen, state_of}
-use Rattle.ist_core.specs.Histories.{told_by_entry, IsLegal}
 use Rattle.ist_core.proofs.RowLemmas.{changed_at-same}
 use Rattle.ist_core.proofs.FateLemmas.{grow_between}
 use Rattle.ist_core.proofs.PlaceLemmas.{anchor_free}
@@ -35,7 +32,6 @@ use Rattle.ist_links.proofs.InductionLemmas.{sound_behind, grow_behind}
 use Rattle.ist_links.proofs.ReadLemmas.{side_yes}
 use Rattle.ist_histories.specs.Finding.{Finds, Gives}
 use Rattle.ist_histories.specs.Telling.{AreLegal}
-use Rattle.ist_histories.proofs.MapLemmas.{replay-append, map_told, legal_append}
 use Rattle.ist_histories.proofs.NeedLemmas.{HasForm, into_nothing, over_leaf, beside_low, beside_high, takes_out, begins, ends, Needs, AllNeeds}
 use Rattle.ist_histories.proofs.ReadLemmas.{side_reads, change_logical, Turns}
 use Rattle.ist_histories.proofs.LedLemmas.{child_stays, led_step, led_on}
@@ -43,34 +39,8 @@ use Rattle.ist_histories.proofs.DecisionLemmas.{unfinished}
 use Rattle.ist_histories.proofs.FindLemmas.{finds_once, finds_above, gives_step, IsHigh, finds_high}
 use Rattle.ist_histories.proofs.CameLemmas.{came}
 use Rattle.ist_histories.proofs.SideLemmas.{start_commands, finish_commands, Sides, sides}
+use Rattle.ist_histories.proofs.MapLemmas.{map_behind-append, entries_append}
 use Rattle.ist_histories.proofs.RootLemmas.{root_finds}
-
--- ---- entries
-
--- the map behind what entries were told is the map behind the entries
-map_told-entries : (m : Map) (entries : List Entry)
-    → map_told m (map told_by_entry entries) ≡ map_behind m entries
-map_told-entries m [] = refl
-map_told-entries m (entry ∷ entries) = map_told-entries (map_after m entry.command) entries
-
--- entries that are legal one list behind the other
-entries_append : (m : Map) (xs ys : List Entry) → AreLegal m xs → AreLegal (map_behind m xs) ys
-    → AreLegal m (xs ++ ys)
-entries_append m xs ys h k =
-    subst (λ hs. IsLegal m hs) (sym (map-append told_by_entry xs ys))
-    (legal_append m (map told_by_entry xs) (map told_by_entry ys) h (subst (λ n. AreLegal n ys) (sym (map_told-entries m xs)) k))
-
--- the map behind two lists of entries
-map_behind-append : (m : Map) (xs ys : List Entry)
-    → map_behind m (xs ++ ys) ≡ map_behind (map_behind m xs) ys
-map_behind-append m xs ys =
-    ap (replay m) (map-append (λ e. e.command) xs ys)
-    ∙ replay-append m (map (λ e. e.command) xs) (map (λ e. e.command) ys)
-
--- an event that decides no change yes
-abbrev pub IsNoYes : Event → Type 0
-IsNoYes (Decide caller base true) = ⊥
-IsNoYes _ = Unit {0}
 
 -- one event decides one change
 pub same_base : (a b c d : ℕ) → Decide a b true ≡ Decide c d true → b ≡ d
@@ -317,27 +287,3 @@ module _ (pairs : List Pair) (words : ℕ) (opens : CanOpen pairs words)
       at (ends rebuild row kind from e f set) =
           let it = needed.same_leaves base change h.1.pending h.1.outcome kind in
           told_rebuild (λ key value g. root_finds pairs words opens log h.0 base rebuild change row h.1.pending.published from e f set it.0 it.1 it.2 key value g) (finish_commands change kind) told
-
-module _ (pairs : List Pair) (words : ℕ) (opens : CanOpen pairs words)
-    (needs : AllNeeds pairs words)
-    (opening : (key : ℕ) → Gives (start pairs words) key (fin.get (map_of pairs) key)) where
-  quiet_gives : (log : Log) (event : Event) → EachEnabled (start pairs words) (event ∷ log)
-      → IsNoYes event → (key : ℕ) (value : Option ℕ)
-      → Gives (state_of pairs words log) key value
-      → Gives (state_of pairs words (event ∷ log)) key value
-  quiet_gives log event h quiet key =
-      gives_step pairs words opens log event h key
-      (λ node i ref value turn f. absurd (subst IsNoYes turn.decides.is quiet))
-
-  -- what the tree tells of the changes of each log
-  pub told : (log : Log) → EachEnabled (start pairs words) log → Told pairs words log
-  told [] h = record { gives = opening; legal = refl }
-  told (Decide caller base true ∷ log) h =
-      told_yes pairs words opens needs log caller base h (told log h.0)
-  told (event ∷ log) h =
-      let before = told log h.0 in
-      record {
-        gives =
-            λ key. quiet_gives log event h tt key (fin.get (map_behind (map_of pairs) (changes_of pairs words log)) key) (before.gives key);
-        legal = before.legal;
-      }
