@@ -39,6 +39,23 @@ stand_on pairs words earlier log number calls g none h =
     subst (λ es. StandAmong (map_of pairs) es number calls) (sym on.1)
     (stand_more (map_of pairs) old on.0 number calls (subst (λ es. entries_by number es ≡ entries_by number old) on.1 none) h)
 
+-- stamps up to one are up to a higher one
+stamps_up : (told stamp : ℕ) (calls : List Call) → told ≤ stamp → Each (λ call. call.stamp ≤ told) calls
+    → Each (λ call. call.stamp ≤ stamp) calls
+stamps_up told stamp [] h all = tt
+stamps_up told stamp (call ∷ calls) h all =
+    let low = all.0 in (omega arith, stamps_up told stamp calls h all.1)
+
+-- a pass has its calls in a log that goes on
+pub keep_calls : (pairs : List Pair) (words : ℕ) (earlier log : Log) (number told stamp : ℕ) (calls : List Call)
+    → GoesOn earlier log → MadeNoEntry pairs words number earlier log → told ≤ stamp
+    → HasCalls pairs words earlier number told calls → HasCalls pairs words log number stamp calls
+keep_calls pairs words earlier log number told stamp calls g none low has =
+    record {
+      stand = stand_on pairs words earlier log number calls g none has.stand;
+      stamps = stamps_up told stamp calls low has.stamps;
+    }
+
 -- ---- order
 
 -- a call that stands is behind no later position than the number of entries
