@@ -1,5 +1,5 @@
 //! Small lists, which contracts see as lists: words of a row, rows of an event, bases, held rows.
-ghost use Rattle.std.specs.Prelude.{◌≡◌};
+ghost use Rattle.std.specs.Prelude.{◌≡◌, slice_set};
 
 use std::marker::Model;
 
@@ -37,6 +37,15 @@ impl Words {
         ensures value { result.items ≡ self }
     {
         self.items
+    }
+
+    /// Writes word `i`, if there are so many.
+    pub fn set(&mut self, i: usize, word: u64)
+        ensures value { self.new ≡ slice_set self.old i word }
+    {
+        if i < self.items.len() {
+            self.items[i] = word;
+        }
     }
 }
 

@@ -3,3 +3,4 @@ pub mod BuildLemmas
 pub mod EnterLemmas
 pub mod ReserveLemmas
 pub mod CallerLemmas
+pub mod EmptyLemmas

@@ -7,6 +7,8 @@ mod callers;
 mod entering;
 mod kinds;
 mod reserving;
+#[cfg(test)]
+mod tests;
 
 pub use callers::Caller;
 pub use entering::enter;

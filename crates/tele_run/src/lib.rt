@@ -4,6 +4,8 @@
 //! `tele_lines`, `plain_map` and `tele_lanes`.
 #![tactic(auto)]
 
+mod jobs;
+mod made;
 mod outcomes;
 mod replies;
 mod rounds;

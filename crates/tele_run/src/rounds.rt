@@ -1,6 +1,6 @@
 //! The open round: the point lines that are to be answered next, and the map that answers them.
 ghost use Rattle.std.specs.Prelude.{◌≡◌, ◌<◌, ◌↔◌, [], ◌∷◌, ◌++◌, length, OnOk, IsTrue};
-ghost use Rattle.ist_core.specs.Map.{map_of, replay, listed};
+ghost use Rattle.ist_core.specs.Map.{map_of, replay, pairs_of, listed};
 ghost use Rattle.tele_lanes.specs.Lines.{commands_of};
 ghost use Rattle.tele_lanes.specs.Lanes.{ArePlainAnswers};
 ghost use Rattle.tele_run.specs.Open.{Closes, map_in};
@@ -74,6 +74,13 @@ impl Round {
         ensures value { result.now ≡ self.now.answers }
     {
         &self.answers
+    }
+
+    /// All pairs behind the lines that were closed.
+    pub(crate) fn pairs(&self) -> &[Pair]
+        ensures value { result.now ≡ pairs_of (map_in self.now) }
+    {
+        self.plain.pairs()
     }
 
     /// The pairs from one key to another, both included, behind the lines that were closed.

@@ -7,6 +7,7 @@ ghost use Rattle.tele_lines.specs.Lines.{line_limit};
 ghost use Rattle.tele_lines.specs.Rounds.{round_limit};
 ghost use Rattle.tele_lines.specs.Answer.{Good, Bad, text_of};
 ghost use Rattle.tele_lines.specs.Progress.{limit_of, count_of, stop_of, mode_of, has_ended, unread, TellsEnd, Waits};
+ghost use Rattle.tele_run.specs.declared.jobs.Job.TheVariants as job;
 ghost use Rattle.tele_run.specs.Causes.{IsAnswer, IsCutShort, IsStatus};
 ghost use Rattle.tele_run.specs.Open.{asked, map_in};
 ghost use Rattle.tele_run.specs.Due.{due, moment_of, Takes, GoesOn, Ends};
@@ -56,7 +57,7 @@ pub(crate) fn step<S: Source, O: Sink>(
         AppendsPart (O.written out.old) (O.written out.new)
         (due (moment_of lines.old round.old) bytes).text)) }
 
-    ensures statuses { IfSome result (IsStatus false) }
+    ensures statuses { IfSome result (IsStatus job.Read) }
     ensures read_failed { result ≡ Some READ_FAILED →
         HaveRisen (S.faults source.old) (S.faults source.new) }
     ensures write_failed { result ≡ Some WRITE_FAILED →

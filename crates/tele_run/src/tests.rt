@@ -1,9 +1,11 @@
 //! Worked inputs, with the output that they are to have.
 
 use crate::{Outcome, run};
+use plain_map::Plain;
 use std::alloc::{AllocError, Global};
 use std::test::Fail;
 use tele_io::{MemorySink, MemorySource, QuietSink, QuietSource, Sink, Source};
+use tele_made::Maker;
 
 /// Runs over a source and a sink, with no words of a command line.
 fn run_over<S: Source, O: Sink>(alloc: Global, source: &mut S, out: &mut O) -> Outcome {
@@ -124,29 +126,82 @@ fn a_line_has_at_most_80_bytes(rt: HostRuntime) -> Result<(), Fail> {
     Ok(())
 }
 
+/// Runs with these words behind the program's name, over a source that fails if it is read.
+fn run_unread(alloc: Global, more: &[&str]) -> Result<(Vec<u8>, u8), AllocError> {
+    let mut words = Vec::new(alloc);
+    words.push("tele".to_string(alloc)?)?;
+    for word in more {
+        words.push(word.to_string(alloc)?)?;
+    }
+    let mut source = MemorySource::new(b"P 5 7\n".to_vec(alloc)?, 6, [0].to_vec(alloc)?);
+    let mut out = QuietSink::new(alloc);
+    let outcome = run(&(), alloc, words.as_slice(), &mut source, &mut out);
+    Ok((out.bytes().to_vec(alloc)?, outcome.status))
+}
+
 #[test]
-fn refused_words_are_named_and_nothing_is_read(rt: HostRuntime) -> Result<(), Fail> {
+fn the_source_is_read_only_where_the_words_say_so(rt: HostRuntime) -> Result<(), Fail> {
     // the words behind the program's name, the output, the status
-    let rows: [(&[&str], &[u8], u8); 6] = [
-        (&[], b"1 -\n", 0),
+    let rows: [(&[&str], &[u8], u8); 14] = [
+        (&[], b"", 4),
+        (&["--workers", "2", "--words=64"], b"", 4),
+        (&["--seed", "7"], b"", 4),
         (&["--workers", "0"], b"! usage\n", 2),
         (&["--workers", "65"], b"! usage\n", 2),
         (&["--words", "63"], b"! usage\n", 2),
         (&["--help"], b"! usage\n", 2),
         (&["x"], b"! usage\n", 2),
+        (&["--generate", "1048577"], b"! usage\n", 2),
+        (&["--generate", "1", "--seed"], b"! usage\n", 2),
+        (
+            &["--generate", "2", "--seed", "0"],
+            b"made 2 keys 2 found 0 sum 74222\n",
+            0,
+        ),
+        (&["--generate", "0"], b"made 0 keys 0 found 0 sum 0\n", 0),
+        (
+            &["--generate=1", "--seed=0", "--workers=1"],
+            b"made 1 keys 1 found 0 sum 26497\n",
+            0,
+        ),
+        (&["--generate", "1", "x"], b"! usage\n", 2),
     ];
     for (more, output, status) in rows {
-        let mut words = Vec::new(rt.alloc());
-        words.push("tele".to_string(rt.alloc())?)?;
-        for word in more {
-            words.push(word.to_string(rt.alloc())?)?;
-        }
-        let mut source = QuietSource::new(b"P 5 7\n".to_vec(rt.alloc())?);
-        let mut out = QuietSink::new(rt.alloc());
-        let outcome = run(&(), rt.alloc(), words.as_slice(), &mut source, &mut out);
-        assert_eq!(rt; out.bytes(), output, "the text for {more:?}");
-        assert_eq!(rt; outcome.status, status, "the status for {more:?}");
+        let (written, ended) = run_unread(rt.alloc(), more)?;
+        assert_eq!(rt; written.as_slice(), output, "the text for {more:?}");
+        assert_eq!(rt; ended, status, "the status for {more:?}");
     }
+    Ok(())
+}
+
+#[test]
+fn no_word_is_read_like_the_name_alone(rt: HostRuntime) -> Result<(), Fail> {
+    let (written, status) = answer(rt.alloc(), b"P 5 7\n")?;
+    assert_eq!(rt; written.as_slice(), b"1 -\n".as_slice());
+    assert_eq!(rt; status, 0);
+    Ok(())
+}
+
+#[test]
+fn many_made_lines_are_summed_up_as_one_map_has_them(rt: HostRuntime) -> Result<(), Fail> {
+    let mut plain = Plain::new(rt.alloc());
+    let mut maker = Maker::new(1);
+    let mut found: u64 = 0;
+    for _ in 0..20_000 {
+        let reply = plain.apply(maker.make())?;
+        if reply.is_some() {
+            found = found.wrapping_add(1);
+        }
+    }
+    let keys = plain.pairs().len();
+    let sum = plain
+        .pairs()
+        .iter()
+        .fold(0u64, |sum, pair| sum.wrapping_add(pair.value));
+    let text = format!(in rt.alloc(); "made 20000 keys {keys} found {found} sum {sum}\n")?;
+    let (written, status) = run_unread(rt.alloc(), &["--generate", "20000", "--seed", "1"])?;
+    assert_eq!(rt; written.as_slice(), text.as_bytes());
+    assert_eq!(rt; status, 0);
     Ok(())
 }
 

@@ -1,0 +1,4 @@
+pub mod WriteLemmas
+pub mod PublishLemmas
+pub mod FreshLemmas
+pub mod EventLemmas

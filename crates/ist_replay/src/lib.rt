@@ -1,0 +1,17 @@
+//! Brings the checker's copy of a table forward by an event.
+//!
+//! Read `writes.rt`, then `advancing.rt`. Stands on `ist_core`, `ist_layout`, `ist_math`, `ist_check`
+//! and `ist_ideal`.
+#![tactic(auto)]
+
+mod advancing;
+mod holding;
+mod installing;
+mod publishing;
+mod writes;
+
+pub use advancing::advance;
+pub use holding::{give_up, give_up_rows};
+pub use installing::install;
+pub use publishing::{put_as_inner, put_as_leaf, put_as_rebuild, put_change, put_inners};
+pub use writes::{count_at, decide, draw, set_root, set_row_slot, set_slot, set_status};
