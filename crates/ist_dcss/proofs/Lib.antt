@@ -4,3 +4,7 @@ pub mod SlotPlaceLemmas
 pub mod FieldLemmas
 pub mod DecideLemmas
 pub mod ResolveLemmas
+pub mod SetSlotLemmas
+pub mod FitsLemmas
+pub mod InstallLemmas
+pub mod InstalledLemmas

@@ -26,7 +26,7 @@ use Rattle.ist_rule.specs.Shown.{IsShown, shown_next, shown_callers, shown_statu
 use Rattle.ist_rule.proofs.WatchLemmas.{shown_in_row, place_inner}
 
 -- a word stands in each place of a list
-word_in : (xs : List ℕ) (k : ℕ) → k < length xs → (word : ℕ) × (slice_get xs k ≡ Some word)
+pub word_in : (xs : List ℕ) (k : ℕ) → k < length xs → (word : ℕ) × (slice_get xs k ≡ Some word)
 word_in xs k low = (get_or xs k 0, slice_get-get_or xs k 0 low)
 
 -- a slot is one still where rows grow
