@@ -8,3 +8,4 @@ pub mod SetSlotLemmas
 pub mod FitsLemmas
 pub mod InstallLemmas
 pub mod InstalledLemmas
+pub mod CallingLemmas
