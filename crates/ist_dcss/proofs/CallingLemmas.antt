@@ -1,4 +1,5 @@
--- How a seat comes to what an install or a help asks: by a call that it began, by a node that it saw open, by a word
+-- How a seat comes to what an install or a help asks: by a call that it began, by a node that it
+-- saw open, by a word
 -- that it met in a slot. Serves the crates above.
 use Rattle.std.proofs.Common.{◌≡◌, ℕ, [], ◌∷◌, length, Option, Some, None, refl, sym, ap, ◌∙◌, subst, inl, inr, arith}
 use Rattle.ist_core.specs.declared.commands.Command.{Command}

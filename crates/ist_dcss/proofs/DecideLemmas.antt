@@ -288,7 +288,8 @@ pub decided_as : (v : View) → IsSound v → (change : ℕ) (row : ChangeRow)
     → (said : Bool) → said ≡ (row.decision == decided_yes) → IsDecided v change said
 decided_as v s change row there set said is =
     record { row = row; published = there; decision =
-        at (fate v.start v.words v.log s.lawful.enabled change row there) ∙ ap decision_word (sym is) }
+        at (fate v.start v.words v.log s.lawful.enabled change row there) ∙ ap decision_word
+            (sym is) }
   where
     at : HasFate v.start v.words v.log change row
         → row.decision ≡ decision_word (row.decision == decided_yes)

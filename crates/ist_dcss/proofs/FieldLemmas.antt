@@ -128,7 +128,8 @@ pub tells_slot : (v : View) (node i : ℕ) → HasPlace v node i → (degree : �
     → Looked v (node + inner_degree_offset) degree w → TellsSlot w node i degree
 tells_slot v node i k degree w l =
     let h = looked_helped 0 v (node + inner_degree_offset) degree w l in
-    let r = inner_there (now v).pieces (now w).pieces (helped_grow 0 v w h) node k.row k.published in
+    let r = inner_there (now v).pieces (now w).pieces (helped_grow 0 v w h) node k.row k.published
+            in
     let is : degree ≡ r.0.degree = looked_row v (node + inner_degree_offset) degree w l node
             (Inner r.0) 2 r.0.degree r.1 refl refl in
     let same : r.0.degree ≡ k.row.degree = r.2.degree in
@@ -151,7 +152,8 @@ pub record NamesSlot (v : View) (change node index : ℕ) : Type 0 where
   pub slot : IsSlot v node index
 
 -- the words of a change that name its slot name one
-pub names_slot : (u : View) (change node : ℕ) → IsField u change change_node_offset node → (v : View)
+pub names_slot : (u : View) (change node : ℕ) → IsField u change change_node_offset node
+    → (v : View)
     → Helped change u v → (index : ℕ) → IsField v change change_index_offset index
     → NamesSlot v change node index
 names_slot u change node first v h index second =
@@ -159,7 +161,8 @@ names_slot u change node first v h index second =
     let s = h.sound in
     let node_is : node ≡ row.node = field_is u change change_node_offset node first (λ r. r.node)
             (λ r. refl) (λ a b g. ap (λ x. x.node) g.others) v h row second.published in
-    let index_is = field_now v change change_index_offset index second (λ r. r.index) (λ r. refl) row
+    let index_is = field_now v change change_index_offset index second (λ r. r.index) (λ r. refl)
+            row
             second.published in
     let slot = change_slot v.start v.words v.log s.lawful.enabled change row second.published in
     record {
@@ -172,7 +175,8 @@ names_slot u change node first v h index second =
     }
 
 -- behind more loads, the place of that slot is the place of the change's slot
-pub place_of_change : (v : View) (change node index : ℕ) → NamesSlot v change node index → (w : View)
+pub place_of_change : (v : View) (change node index : ℕ) → NamesSlot v change node index
+    → (w : View)
     → GoesOnTo v w → (place : ℕ) → place ≡ place_of_slot (now w) node index
     → IsSlotOf w change place
 place_of_change v change node index k w g place at =

@@ -128,7 +128,8 @@ module _ (pairs : List Pair) (words : ℕ) (opens : CanOpen pairs words) (old lo
 
   -- a change that fits its kind fits it
   pub fits_later : (change : ChangeRow) (fresh : List Row)
-      → FitsKind (start pairs words) old change fresh → FitsKind (start pairs words) log change fresh
+      → FitsKind (start pairs words) old change fresh → FitsKind (start pairs words) log change
+          fresh
   fits_later change fresh (a_put h) =
       a_put record { kind = h.kind; by_key = comes_later change h.by_key; from =
           room_later t u grow change.key change.from h.from; leaf = h.leaf; to = h.to; fresh_are =
@@ -158,7 +159,8 @@ module _ (pairs : List Pair) (words : ℕ) (opens : CanOpen pairs words) (old lo
   fits_later change fresh (a_finish h) =
       let it = rebuild_there t.pieces u.pieces grow h.rebuild h.row h.published in
       let root : it.0.root ≡ h.row.root = it.2.rooted h.built.set in
-      a_finish record { kind = h.kind; key = h.key; value = h.value; rebuild = h.rebuild; row = it.0;
+      a_finish record { kind = h.kind; key = h.key; value = h.value; rebuild = h.rebuild; row =
+          it.0;
           from = h.from; published = it.1; started = started_later t u grow h.rebuild h.started;
           parent = it.2.parent ∙ h.parent; index = it.2.index ∙ h.index; to = h.to ∙ sym root;
           built = subst (IsBuilt u) (sym root) (built_later h.row.root

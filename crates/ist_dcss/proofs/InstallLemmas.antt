@@ -1,11 +1,11 @@
 -- Installing: when it may be made, whatever others do meanwhile. Serves `install`.
-use Rattle.std.proofs.Common.{◌≡◌, ◌≢◌, ℕ, ◌+◌, ◌*◌, ◌/◌, ◌<◌, List, length, slice_get, Some, refl, sym, ap, ap₂, ◌∙◌, subst, arith}
+use Rattle.std.proofs.Common.{◌≡◌, ◌≢◌, ℕ, ◌+◌, ◌<◌, List, length, slice_get, Some, refl, sym, ap, ap₂, ◌∙◌, subst, arith}
 use Rattle.ist_core.specs.declared.pairs.Pair.{Pair}
 use Rattle.ist_core.specs.declared.lists.HeldRow.{HeldRow}
 use Rattle.ist_core.specs.declared.states.ChangeRow.{ChangeRow}
 use Rattle.ist_core.specs.declared.events.Event.{Event}
 use Rattle.ist_core.specs.declared.events.Event.TheVariants.{Install}
-use Rattle.ist_core.specs.References.{ChangeAt, word_of, tag_count}
+use Rattle.ist_core.specs.References.{ChangeAt, word_of}
 use Rattle.ist_core.specs.Statuses.{undecided}
 use Rattle.ist_core.specs.Elements.{Among}
 use Rattle.ist_core.specs.Pieces.{Change, words_of}
@@ -31,7 +31,6 @@ use Rattle.ist_rule.specs.Shown.{IsShown}
 use Rattle.ist_rule.specs.Rule.{IsSound, own_at}
 use Rattle.ist_rule.specs.Learning.{now, GoesOnTo, Looked}
 use Rattle.ist_rule.specs.Conditions.{MayCome, MayInstall, CanExchange}
-use Rattle.ist_rule.specs.Watching.{number_of}
 use Rattle.ist_rule.proofs.LaterLemmas.{later-goes_on, later_more}
 use Rattle.ist_rule.proofs.GoingOnLemmas.{callers_later, looked_goes_on}
 use Rattle.ist_rule.proofs.FitLemmas.{each_map}
@@ -41,7 +40,7 @@ use Rattle.ist_rule.proofs.ChangeLemmas.{ChangeComes, stood, is_installed, chang
 use Rattle.ist_rule.proofs.StandingLemmas.{resolved_decided}
 use Rattle.ist_rule.proofs.CallLemmas.{between_later, resolved_later}
 use Rattle.ist_dcss.specs.Installing.{Filling, rows_of, IsInstallable}
-use Rattle.ist_dcss.specs.Naming.{IsFilled, IsSlot, installing}
+use Rattle.ist_dcss.specs.Naming.{IsFilled, IsSlot}
 use Rattle.ist_dcss.proofs.GoingLemmas.{goes_on_helped, helped_now, helped_lawful, helped_grow}
 use Rattle.ist_dcss.proofs.SlotPlaceLemmas.{slot_later, slot_shown, shown_in_slot, slot_place_later}
 use Rattle.ist_dcss.proofs.FitsLemmas.{ever_later, fits_later}
@@ -101,7 +100,8 @@ filled v base f m =
 pub slot_on : (v w : View) → GoesOnTo v w → (node i word : ℕ) → SlotHolds (now v) node i word
     → IsSlot w node i
 slot_on v w g node i word s =
-    let it = slot_later (now v) (now w) (helped_grow 0 v w (goes_on_helped 0 v w g)) node i word s in
+    let it = slot_later (now v) (now w) (helped_grow 0 v w (goes_on_helped 0 v w g)) node i word s
+            in
     record { word = it.0; holds = it.1 }
 
 -- ---- what stays of the caller's changes
@@ -119,7 +119,8 @@ came_before pairs words number old _ h (one_more {log = log} event l other) base
   where
     at : (ev : Event) → author ev ≢ Caller number
         → ((x : ChangeRow) → (state_of pairs words log).pieces base ≡ Some (Change x)
-        → x.owner ≡ number → (y : ChangeRow) × ((state_of pairs words old).pieces base ≡ Some (Change y)))
+        → x.owner ≡ number → (y : ChangeRow) × ((state_of pairs words old).pieces base ≡ Some
+            (Change y)))
         → ChangeComes (start pairs words) log base r ev
         → (x : ChangeRow) × ((state_of pairs words old).pieces base ≡ Some (Change x))
     at ev ne before (stood x there g) =
@@ -137,7 +138,8 @@ unrefused_later pairs words number node old log before h l all none base r e own
     let t = state_of pairs words old in
     let u = state_of pairs words log in
     let was = came_before pairs words number old log h l base r e own in
-    let on = change_there t.pieces u.pieces (grow_between pairs words old log h (later-goes_on l)) base
+    let on = change_there t.pieces u.pieces (grow_between pairs words old log h (later-goes_on l))
+            base
             was.0 was.1 in
     let same : on.0 ≡ r = same_row on.0 r on.1 e in
     let owner : was.0.owner ≡ number =
@@ -173,7 +175,8 @@ module _ (v : View) (base : ℕ) (f : Filling) (m : IsInstallable v base f) (sv 
   later_all : (log : Log) → Later v.who l log → Later (Caller number) v.log log
   later_all log more = subst (λ x. Later x v.log log) m.mine (later_more seen more)
 
-  rows_held : (log : Log) → MayCome w log → HoldsRows (state_of v.start v.words log) number (rows_of f base)
+  rows_held : (log : Log) → MayCome w log → HoldsRows (state_of v.start v.words log) number
+      (rows_of f base)
   rows_held log c =
       each_map (λ row. HoldsRow (now v) number row.base (length row.words))
           (λ row. HoldsRow (state_of v.start v.words log) number row.base (length row.words))
@@ -286,12 +289,3 @@ can_install v base f m sv w g place old new at old_is new_is =
         place old new
         (subst (λ x. place ≡ place_of_slot (now x) f.change.node f.change.index) g.same at) old_is
         new_is)
-
--- the event that the exchange names
-pub installing_is : (v : View) (f : Filling) (number base new : ℕ) → v.who ≡ Caller number
-    → new ≡ word_of (ChangeAt base)
-    → installing v f (new / tag_count) ≡ Install number base (rows_of f base)
-installing_is v f number base new who is =
-    let number_is : new ≡ base * 8 + 3 = is in
-    let at : new / 8 ≡ base = omega arith in
-    ap₂ (λ n b. Install n b (rows_of f b)) (ap number_of who) at

@@ -1,8 +1,8 @@
 -- What an installing tells, whether it found its word or another. Serves `install`.
-use Rattle.std.proofs.Common.{◌≡◌, ◌≢◌, ℕ, ◌<◌, List, ◌∷◌, length, slice_get, Some, sym, ap, ap₂, ◌∙◌, subst, arith}
+use Rattle.std.proofs.Common.{◌≡◌, ◌≢◌, ℕ, ◌+◌, ◌*◌, ◌/◌, ◌<◌, List, ◌∷◌, length, slice_get, Some, sym, ap, ap₂, ◌∙◌, subst, arith}
 use Rattle.ist_core.specs.declared.states.ChangeRow.{ChangeRow}
 use Rattle.ist_core.specs.declared.events.Event.TheVariants.{Install}
-use Rattle.ist_core.specs.References.{ChangeAt, word_of, IsGoodBase}
+use Rattle.ist_core.specs.References.{ChangeAt, word_of, tag_count, IsGoodBase}
 use Rattle.ist_core.specs.RowLayout.{change_node_offset, change_index_offset, change_from_offset}
 use Rattle.ist_core.specs.Pieces.{Change, words_of}
 use Rattle.ist_core.specs.Elements.{Among}
@@ -18,6 +18,8 @@ use Rattle.ist_core.proofs.SlotStepLemmas.{install_writes}
 use Rattle.ist_core.proofs.FateLemmas.{grow_between}
 use Rattle.ist_links.proofs.InductionLemmas.{sound_behind}
 use Rattle.ist_rule.specs.declared.view.View.{View}
+use Rattle.ist_rule.specs.declared.view.Who.TheVariants.{Caller}
+use Rattle.ist_rule.specs.Watching.{number_of}
 use Rattle.ist_rule.specs.Shown.{IsShown}
 use Rattle.ist_rule.specs.Rule.{IsSound}
 use Rattle.ist_rule.specs.Learning.{now, GoesOnTo, Looked, Logged}
@@ -25,11 +27,20 @@ use Rattle.ist_rule.proofs.LaterLemmas.{later-goes_on}
 use Rattle.ist_rule.proofs.GoingOnLemmas.{goes_on_more, looked_goes_on}
 use Rattle.ist_rule.proofs.FitLemmas.{each_map}
 use Rattle.ist_dcss.specs.Installing.{Filling, rows_of, IsInstallable, IsInstalled, IsOther}
-use Rattle.ist_dcss.specs.Naming.{IsFilled, IsSlot}
+use Rattle.ist_dcss.specs.Naming.{IsFilled, IsSlot, installing}
 use Rattle.ist_dcss.proofs.GoingLemmas.{goes_on_helped, helped_now, helped_lawful}
 use Rattle.ist_dcss.proofs.SlotPlaceLemmas.{slot_shown, slot_place_later}
 use Rattle.ist_dcss.proofs.InstallLemmas.{held_on, slot_on, own_low}
 use Rattle.ist_dcss.proofs.FieldLemmas.{some_word}
+
+-- the event that the exchange names
+pub installing_is : (v : View) (f : Filling) (number base new : ℕ) → v.who ≡ Caller number
+    → new ≡ word_of (ChangeAt base)
+    → installing v f (new / tag_count) ≡ Install number base (rows_of f base)
+installing_is v f number base new who is =
+    let number_is : new ≡ base * 8 + 3 = is in
+    let at : new / 8 ≡ base = omega arith in
+    ap₂ (λ n b. Install n b (rows_of f b)) (ap number_of who) at
 
 -- the rows of two changes are of one change
 one_change : (a b : ChangeRow) → Some a ≡ Some b → a ≡ b
@@ -46,7 +57,8 @@ installed_tells v base f m u g w l =
             lawful.enabled.1 in
     let t = state_of u.start u.words l.before in
     let is : now w ≡ state_of u.start u.words (event ∷ l.before) = ap now l.view in
-    let same : f.change ≡ can.change = one_change f.change can.change (ap first_change can.rows_are) in
+    let same : f.change ≡ can.change = one_change f.change can.change
+            (ap first_change can.rows_are) in
     let writes = install_writes (start u.start u.words) l.before m.number base (rows_of f base) can
             (sound_behind u.start u.words l.before lawful.enabled.0)
             (anchor_free u.start u.words l.before lawful.enabled.0) in

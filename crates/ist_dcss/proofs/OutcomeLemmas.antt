@@ -18,7 +18,8 @@ use Rattle.ist_links.proofs.InductionLemmas.{changes_by}
 use Rattle.ist_dcss.specs.Helping.{WasSeen}
 
 -- what was seen was seen
-pub seen_on : (P : Snapshot → ℕ → Type 0) (pairs : List Pair) (words : ℕ) (log : Log) (event : Event)
+pub seen_on : (P : Snapshot → ℕ → Type 0) (pairs : List Pair) (words : ℕ) (log : Log)
+    (event : Event)
     (change : ℕ) → WasSeen P pairs words log change → WasSeen P pairs words (event ∷ log) change
 seen_on P pairs words log event change s =
     record { prefix = s.prefix; goes_on = one_event event s.goes_on; row = s.row; installed =
@@ -48,7 +49,8 @@ module _ (pairs : List Pair) (words : ℕ) where
           (record (h.change) { decision = decision_word said })
   fate_decided log caller base true h = inr (inl refl)
   fate_decided log caller base false h =
-      inr (inr (refl, record { prefix = log; goes_on = one_event (Decide caller base false) same_log;
+      inr (inr (refl, record { prefix = log; goes_on = one_event (Decide caller base false)
+          same_log;
           row = h.change; installed = h.pending.published; node = h.outcome }))
 
   -- each change has a fate

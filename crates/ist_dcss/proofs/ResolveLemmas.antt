@@ -89,7 +89,8 @@ module _ (v : View) (s : IsSound v) (change number : ℕ) (mine : v.who ≡ Call
           row.index it.0 it.1
 
   -- what the slot's word is once the change is decided
-  side_behind : row.decision ≢ undecided → (r : ChangeRow) → ChangeGrows row r → side_of r ≡ side_of row
+  side_behind : row.decision ≢ undecided → (r : ChangeRow) → ChangeGrows row r
+      → side_of r ≡ side_of row
   side_behind set r g =
       ap (λ d. if d == decided_yes then r.to else r.from) (g.decided set)
       ∙ ap₂ (λ a b. if row.decision == decided_yes then a else b) (ap (λ x. x.to) g.others)
@@ -106,7 +107,8 @@ module _ (v : View) (s : IsSound v) (change number : ℕ) (mine : v.who ≡ Call
             let u = state_of v.start v.words log in (
               slot.0,
               subst (λ p. IsShown u p slot.0) (place_behind log m ∙ sym at)
-                  (slot_shown v.start v.words log m.lawful.enabled row.node row.index slot.0 slot.1),
+                  (slot_shown v.start v.words log m.lawful.enabled row.node row.index slot.0
+                      slot.1),
             );
         comes = λ log m shown.
             let u = state_of v.start v.words log in

@@ -97,7 +97,8 @@ module _ (pairs : List Pair) (words : ℕ) where
       → (node i was now : ℕ) → SlotHolds (state_of pairs words log) node i was → was ≢ unset_word
       → SlotHolds (state_of pairs words (event ∷ log)) node i now → now ≢ unset_word
   quiet log event h none node i was now before set behind =
-      let stays = slot_stays (start pairs words) log event h.1 (sound_behind pairs words log h.0) none
+      let stays = slot_stays (start pairs words) log event h.1 (sound_behind pairs words log h.0)
+              none
               node i was before in
       λ e. set (slot_once (state_of pairs words (event ∷ log)) node i was now
           (anchor_free pairs words (event ∷ log) h) stays behind ∙ e)

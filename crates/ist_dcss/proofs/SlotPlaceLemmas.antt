@@ -54,7 +54,8 @@ change_slot pairs words =
     (λ log caller base said h can was.
         on log (Decide caller base said) h can.change.node can.change.index was)
   where
-    on : (log : Log) (event : Event) (h : EachEnabled (start pairs words) (event ∷ log)) (node i : ℕ)
+    on : (log : Log) (event : Event) (h : EachEnabled (start pairs words) (event ∷ log))
+        (node i : ℕ)
         → (word : ℕ) × SlotHolds (state_of pairs words log) node i word
         → (word : ℕ) × SlotHolds (state_of pairs words (event ∷ log)) node i word
     on log event h node i was =
@@ -130,7 +131,8 @@ pub slot_place_later : (pairs : List Pair) (words : ℕ) (old log : Log)
     (before : EachEnabled (start pairs words) old) (enabled : EachEnabled (start pairs words) log)
     → AllGrow (state_of pairs words old).pieces (state_of pairs words log).pieces
     → (node i word : ℕ) → SlotHolds (state_of pairs words old) node i word
-    → place_of_slot (state_of pairs words log) node i ≡ place_of_slot (state_of pairs words old) node i
+    → place_of_slot (state_of pairs words log) node i ≡ place_of_slot (state_of pairs words old)
+        node i
 slot_place_later pairs words old log before enabled g node i word (in_anchor e f is) =
     ap (λ n. place_of_slot (state_of pairs words log) n i) e
     ∙ sym (ap (λ n. place_of_slot (state_of pairs words old) n i) e)

@@ -26,16 +26,17 @@ fn own_word(table: &TreeTable, seat: &mut TreeSeat, base: u32, offset: u64) -> u
 
 /// Installs a change whose row is filled, where its slot holds the word that it expects.
 ///
-/// Yes comes exactly where the slot held that word at the last step of the call: the slot then holds
-/// the change, and none of its rows is held any more. Otherwise the answer is the word that the slot
-/// held, no word changes, and the rows stay held.
+/// Yes comes exactly where the slot held that word at the last step of the call: the slot then
+/// holds the change, and none of its rows is held any more. Otherwise the answer is the word that
+/// the slot held, no word changes, and the rows stay held.
 pub fn install(table: &TreeTable, seat: &mut TreeSeat, change: u32) -> Installed
     ghost filling: { Filling }
     requires same_table { seat.old.table ≡ table.now.table }
     requires may_install { IsInstallable seat.old.view change filling }
     ensures same_table { seat.new.table ≡ seat.old.table }
     ensures yes { result ≡ Yes → IsInstalled seat.old.view change filling seat.new.view }
-    ensures other { (word : ℕ) → result ≡ Other word → IsOther seat.old.view change filling word seat.new.view }
+    ensures other { (word : ℕ) → result ≡ Other word
+        → IsOther seat.old.view change filling word seat.new.view }
 {
     know(seat);
     let node = own_word(table, seat, change, CHANGE_NODE_OFFSET);

@@ -54,7 +54,8 @@ returns-clause-helped c =
             (subst (λ n. IsField v c.args.change n c.field-side.result) c.side_offset.ensures.value
             c.field-side.ensures.field) in
     helped_more c.args.change _ v _ it.helped
-        (resolve_tells v c.know.ensures.sound c.args.change c.requires.may_help.number _ _ _ _ it.row
+        (resolve_tells v c.know.ensures.sound c.args.change c.requires.may_help.number _ _ _ _
+            it.row
         it.published it.at c.to_word-word.ensures.value
         (subst (λ (e : Event). Exchanged v e c.slot_of-place.result c.to_word-word.result
         c.exchange.result c.exchange.new.seat.view)

@@ -6,8 +6,8 @@ use Rattle.ist_rule.proofs.GoingOnLemmas.{goes_on_more, goes_on_who}
 use Rattle.ist_rule.proofs.WatchedLoadLemmas.{known_low}
 use Rattle.ist_dcss.specs.declared.decisions.Installed.TheVariants.{Other}
 use Rattle.ist_dcss.specs.Installing.{IsOther}
-use Rattle.ist_dcss.proofs.InstallLemmas.{filled, filled_on, can_install, installing_is}
-use Rattle.ist_dcss.proofs.InstalledLemmas.{installed_tells, other_tells, good_held, has_loaded, loaded_slot, loaded_place}
+use Rattle.ist_dcss.proofs.InstallLemmas.{filled, filled_on, can_install}
+use Rattle.ist_dcss.proofs.InstalledLemmas.{installing_is, installed_tells, other_tells, good_held, has_loaded, loaded_slot, loaded_place}
 use Rattle.ist_dcss.proofs.installing.install.Goals as goal
 
 -- the row is filled
@@ -32,7 +32,8 @@ own_word-from-requires g c =
     (
       c.own_word-index.ensures.same_table ∙ c.own_word-node.ensures.same_table ∙ c.requires.0,
       (
-        filled_on _ _ (goes_on_more _ _ _ c.own_word-node.ensures.seen c.own_word-index.ensures.seen)
+        filled_on _ _ (goes_on_more _ _ _ c.own_word-node.ensures.seen
+            c.own_word-index.ensures.seen)
             c.args.change _ (filled _ c.args.change g.filling c.requires.1),
         omega arith,
       ),
@@ -64,7 +65,8 @@ exchange-found-requires g c =
     let m = c.requires.1 in
     let on = goes_on_more _ _ v h.seen c.slot_at-place.ensures.seen in
     let can = can_install _ c.args.change g.filling m c.know.ensures.sound v on _ _ _
-            (loaded_place _ g.filling _ _ _ _ h v c.slot_at-place.result c.slot_at-place.ensures.place)
+            (loaded_place _ g.filling _ _ _ _ h v c.slot_at-place.result
+                c.slot_at-place.ensures.place)
             (sym h.from_is) c.to_word-word.ensures.value in
     let low = known_low v c.slot_at-place.result c.know-2.ensures.sound can.known in
     let known = c.know-2.ensures.words in
