@@ -9,3 +9,4 @@ pub mod FitsLemmas
 pub mod InstallLemmas
 pub mod InstalledLemmas
 pub mod CallingLemmas
+pub mod ExampleLemmas

@@ -8,6 +8,8 @@ mod decisions;
 mod helping;
 mod installing;
 mod slots;
+#[cfg(test)]
+mod tests;
 
 pub use decisions::{Decision, Installed};
 pub use helping::help;
