@@ -50,15 +50,15 @@ open_unrefused v s number node is base r e own at refused =
     shut : WasSeen IsShut v.start v.words v.log base → ⊥
     shut w =
         let before = enabled_before (start v.start v.words) w.prefix v.log w.goes_on
-                s.lawful.enabled in
+        s.lawful.enabled in
         let t = state_of v.start v.words w.prefix in
         let grow = grow_between v.start v.words w.prefix v.log s.lawful.enabled w.goes_on in
         let on = change_there t.pieces (now v).pieces grow base w.row w.installed in
         let node_is : node ≡ w.row.node = sym at ∙ sym (ap (λ x. x.node)
-                (same_row on.0 r on.1 e)) ∙ ap (λ x. x.node) on.2.others in
+        (same_row on.0 r on.1 e)) ∙ ap (λ x. x.node) on.2.others in
         w.node (open_before t (now v) grow w.row.node
-            (change_node v.start v.words w.prefix before base w.row w.installed)
-            (subst (IsOpen (now v)) node_is is))
+        (change_node v.start v.words w.prefix before base w.row w.installed)
+        (subst (IsOpen (now v)) node_is is))
 
     refuse : HasFate v.start v.words v.log base r → ⊥
     refuse (inl x) = let two : ◌≡◌ {A = ℕ} 2 0 = sym refused ∙ x in omega arith
@@ -71,8 +71,8 @@ pub met_change : (v : View) → IsSound v → (number : ℕ) → v.who ≡ Calle
     → MayHelp v base
 met_change v s number mine node i word base slot is =
     let named = subst (SlotNames (now v).pieces node i) is
-            (slot_names (now v) node i word
-            (names v.start v.words s.lawful.opens v.log s.lawful.enabled) slot) in
+    (slot_names (now v) node i word
+    (names v.start v.words s.lawful.opens v.log s.lawful.enabled) slot) in
     record { number = number; mine = mine; row = named.row; installed = named.published }
 
 -- a call that has begun allows the first install of its command
@@ -97,4 +97,4 @@ begun_allows v number command w s mine none t change told =
     later =
         let here : IsSound (beginning v command w.log) = subst IsSound t.view t.sound in
         between_later v.start v.words number v.calls v.log w.log here.lawful.enabled
-            (subst (λ x. Later x v.log w.log) mine t.later) between
+        (subst (λ x. Later x v.log w.log) mine t.later) between

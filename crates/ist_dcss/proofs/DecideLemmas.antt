@@ -1,5 +1,5 @@
 -- Deciding: when it may be made, and what it tells. Serves `decide`.
-use Rattle.std.proofs.Common.{◌≡◌, ◌≢◌, ℕ, ◌+◌, ◌<◌, ◌⊎◌, ◌&&◌, ◌==◌, Bool, true, false, if◌then◌else◌, ◌∷◌, option_map, Some, None, refl, sym, ap, ap₂, ◌∙◌, subst, inl, inr, arith}
+use Rattle.std.proofs.Common.{◌≡◌, ◌≢◌, ℕ, ◌+◌, ◌<◌, ◌⊎◌, ◌&&◌, ◌==◌, Bool, true, false, if◌then◌else◌, Some, None, refl, sym, ap, ap₂, ◌∙◌, subst, inl, inr, arith}
 use Rattle.std.proofs.lemmas.Bool.Decides.{eqb_tells}
 use Rattle.ist_core.specs.declared.states.InnerRow.{InnerRow}
 use Rattle.ist_core.specs.declared.states.ChangeRow.{ChangeRow}
@@ -7,7 +7,7 @@ use Rattle.ist_core.specs.declared.events.Event.{Event}
 use Rattle.ist_core.specs.declared.events.Event.TheVariants.{Okay, Decide}
 use Rattle.ist_core.specs.RowLayout.{change_decision_offset, change_node_offset}
 use Rattle.ist_core.specs.Statuses.{open_word, undecided, decided_yes}
-use Rattle.ist_core.specs.Pieces.{Inner, Change, as_change, with_decision}
+use Rattle.ist_core.specs.Pieces.{Inner, Change, as_change}
 use Rattle.ist_core.specs.Snapshots.{Snapshot}
 use Rattle.ist_core.specs.Growing.{AllGrow, StatusGoesOn, status_stays, is_marked, is_finished, is_closed, ChangeGrows}
 use Rattle.ist_core.specs.After.{decision_word}
@@ -18,23 +18,21 @@ use Rattle.ist_core.specs.Lawful.{state_of}
 use Rattle.ist_core.specs.Writing.{place_of_status}
 use Rattle.ist_core.proofs.GrowingLemmas.{inner_there, change_there}
 use Rattle.ist_core.proofs.FateLemmas.{grow_between}
-use Rattle.ist_core.proofs.RowLemmas.{changed_at-same}
 use Rattle.ist_rule.specs.declared.view.View.{View}
 use Rattle.ist_rule.specs.declared.view.Who.TheVariants.{Caller}
 use Rattle.ist_rule.specs.Shown.{IsShown, shown_status, shown_row}
 use Rattle.ist_rule.specs.Rule.{IsSound}
-use Rattle.ist_rule.specs.Learning.{now, made_behind, Looked, Logged, LoadedAs, as_event, as_load, Exchanged}
+use Rattle.ist_rule.specs.Learning.{now, made_behind, LoadedAs, as_event, as_load}
 use Rattle.ist_rule.specs.Conditions.{MayCome, CanExchange}
 use Rattle.ist_rule.specs.Watching.{number_of, waits, okay_of}
 use Rattle.ist_rule.proofs.LaterLemmas.{later-goes_on}
 use Rattle.ist_rule.proofs.GoingOnLemmas.{callers_later}
 use Rattle.ist_rule.proofs.WatchLemmas.{shown_in_row, IsNode, is_anchor, is_inner, change_node, both_true, if_some, status_place_inner, status_place_anchor}
-use Rattle.ist_dcss.specs.Helping.{MayHelp, Serves, Helped, IsDecided}
-use Rattle.ist_dcss.specs.Naming.{IsReady, settled, okayed, closed, IsField, standing, deciding}
-use Rattle.ist_dcss.proofs.GoingLemmas.{looked_helped, logged_helped, logged_load_helped, helped_now, helped_row, helped_more, helped_who}
+use Rattle.ist_dcss.specs.Helping.{MayHelp, Serves, Helped}
+use Rattle.ist_dcss.specs.Naming.{IsReady, settled, okayed, closed, IsField, deciding}
+use Rattle.ist_dcss.proofs.GoingLemmas.{looked_helped, logged_load_helped, helped_now, helped_row, helped_more, helped_who}
 use Rattle.ist_dcss.proofs.SlotPlaceLemmas.{no_anchor}
 use Rattle.ist_dcss.proofs.FieldLemmas.{field_now}
-use Rattle.ist_dcss.proofs.OutcomeLemmas.{HasFate, fate}
 
 -- what happened in a log happened in each that goes on from it
 pub happened_later : (P : Event → Type 0) (a b : Log) → GoesOn a b → Happened P a → Happened P b
@@ -69,8 +67,8 @@ module _ (v : View) (s : IsSound v) (change number : ℕ) (mine : v.who ≡ Call
       × ((state_of v.start v.words log).pieces change ≡ Some (Change r)) × ChangeGrows row r
   row_behind log m =
       change_there (now v).pieces (state_of v.start v.words log).pieces
-          (grow_between v.start v.words v.log log m.lawful.enabled (later-goes_on m.later)) change
-          row installed
+      (grow_between v.start v.words v.log log m.lawful.enabled (later-goes_on m.later)) change
+      row installed
 
   -- the caller is one of the table
   pub number_low : (log : Log) → MayCome v log → number < (state_of v.start v.words log).callers
@@ -89,9 +87,9 @@ module _ (v : View) (s : IsSound v) (change number : ℕ) (mine : v.who ≡ Call
   outcome _ (closed shut) log m r g unset =
       let u = state_of v.start v.words log in
       λ opened. shut (open_before (now v) u
-          (grow_between v.start v.words v.log log m.lawful.enabled (later-goes_on m.later)) row.node
-          (change_node v.start v.words v.log s.lawful.enabled change row installed)
-          (subst (IsOpen u) (ap (λ x. x.node) g.others) opened))
+      (grow_between v.start v.words v.log log m.lawful.enabled (later-goes_on m.later)) row.node
+      (change_node v.start v.words v.log s.lawful.enabled change row installed)
+      (subst (IsOpen u) (ap (λ x. x.node) g.others) opened))
 
   -- a caller may decide a change by what it knows of it
   pub can_decide : (said : Bool) → IsReady v change row said → (place new : ℕ)
@@ -109,8 +107,8 @@ module _ (v : View) (s : IsSound v) (change number : ℕ) (mine : v.who ≡ Call
         comes = λ log m shown.
             let r = row_behind log m in
             let unset : r.0.decision ≡ undecided =
-                    sym (shown_in_row v.start v.words log m.lawful.enabled change (Change r.0) 0
-                    r.0.decision r.1 refl place undecided shown at) in
+            sym (shown_in_row v.start v.words log m.lawful.enabled change (Change r.0) 0
+            r.0.decision r.1 refl place undecided shown at) in
             record {
               enabled = record {
                 known = number_low log m;
@@ -132,8 +130,8 @@ open_shown v s node (anchor_is e) =
     subst (λ p. IsShown (now v) p open_word) (sym (status_place_anchor node e)) shown_status
 open_shown v s node (row_is q e o) =
     subst (λ p. IsShown (now v) p open_word)
-        (sym (status_place_inner node (no_anchor v.start v.words v.log s.lawful.enabled node q e)))
-        (shown_row node (Inner q) 0 e (ap Some o))
+    (sym (status_place_inner node (no_anchor v.start v.words v.log s.lawful.enabled node q e)))
+    (shown_row node (Inner q) 0 e (ap Some o))
 
 -- where a test names an event and it is named none, the test fails
 not_named : {A : Type 0} (b : Bool) (x : A) → (if b then Some x else None) ≡ None → b ≡ false
@@ -145,10 +143,10 @@ pub okay_helped : (v : View) (change place word : ℕ) (w : View)
     → LoadedAs v (okay_of v change) place word w → Helped change v w
 okay_helped v change place word w (as_event event l named) =
     let it = if_some ((word == open_word)
-            && waits (as_change ((state_of v.start v.words l.before).pieces change)))
-            (Okay (number_of v.who) change) event named in
+    && waits (as_change ((state_of v.start v.words l.before).pieces change)))
+    (Okay (number_of v.who) change) event named in
     logged_load_helped change v event place word w l (subst (Serves change) it.1 refl)
-        (subst (λ e. made_behind e v.made ≡ v.made) it.1 refl)
+    (subst (λ e. made_behind e v.made ≡ v.made) it.1 refl)
 okay_helped v change place word w (as_load l none) = looked_helped change v place word w l
 
 -- the change is ready for a yes where the load gave an open node, and for a no otherwise
@@ -159,11 +157,11 @@ okay_ready : (v : View) (change place word : ℕ) (w : View) (node : ℕ) (r : C
 okay_ready v change place word w node r at (as_event event l named) here same =
     let t = state_of v.start v.words l.before in
     let it = if_some ((word == open_word) && waits (as_change (t.pieces change)))
-            (Okay (number_of v.who) change) event named in
+    (Okay (number_of v.who) change) event named in
     let both = both_true (word == open_word) (waits (as_change (t.pieces change))) it.0 in
     let happened : Happened (Okays change) w.log =
-            subst (Happened (Okays change)) (sym (ap (λ x. x.log) l.view))
-            (inl (subst (Okays change) it.1 refl)) in
+    subst (Happened (Okays change)) (sym (ap (λ x. x.log) l.view))
+    (inl (subst (Okays change) it.1 refl)) in
     subst (IsReady w change r) (sym both.0) (okayed happened)
 okay_ready v change place word w node r at (as_load l none) here same =
     by_word (eqb_tells word open_word)
@@ -182,17 +180,17 @@ okay_ready v change place word w node r at (as_load l none) here same =
         let is = helped_now change v w (looked_helped change v place word w l) in
         let piece : t.pieces change ≡ Some (Change r) = ap (λ u. u.pieces change) (sym is) ∙ here in
         let off : ((word == open_word) && waits (as_change (t.pieces change))) ≡ false =
-                not_named ((word == open_word) && waits (as_change (t.pieces change)))
-                (Okay (number_of v.who) change) none in
+        not_named ((word == open_word) && waits (as_change (t.pieces change)))
+        (Okay (number_of v.who) change) none in
         let rest : (r.decision == undecided) ≡ false =
-                ap (λ o. waits (as_change o)) (sym piece)
-                ∙ ap (λ b. b && waits (as_change (t.pieces change))) (sym k.0) ∙ off in
+        ap (λ o. waits (as_change o)) (sym piece)
+        ∙ ap (λ b. b && waits (as_change (t.pieces change))) (sym k.0) ∙ off in
         settled (set_when rest)
     by_word (inr k) =
         subst (IsReady w change r) (sym k.0)
         (closed (λ is. k.1 (l.stood open_word
-            (subst (λ p. IsShown (now w) p open_word) (ap place_of_status same ∙ sym at)
-            (open_shown w l.sound r.node is)))))
+        (subst (λ p. IsShown (now w) p open_word) (ap place_of_status same ∙ sym at)
+        (open_shown w l.sound r.node is)))))
 
 -- what a helper knows once it loaded the status of the node
 pub record MayDecide (change number : ℕ) (said : Bool) (v w : View) : Type 0 where
@@ -213,7 +211,7 @@ may_decide v change m u h node field place at word w l =
     let all = helped_more change v u w h more in
     let on = helped_row change u w more field.row field.published in
     let same : node ≡ field.row.node = field_now u change change_node_offset node field
-            (λ r. r.node) (λ r. refl) field.row field.published in
+    (λ r. r.node) (λ r. refl) field.row field.published in
     record {
       helped = all;
       mine = helped_who change v w all ∙ m.mine;
@@ -234,65 +232,3 @@ deciding_is v number change place new said who at is =
     ap (λ n. Decide n place (new == decided_yes)) (ap number_of who)
     ∙ ap (λ b. Decide number b (new == decided_yes)) at
     ∙ ap (Decide number change) (ap (λ n. n == decided_yes) is ∙ said_word said)
-
--- ---- what the exchange of the decision tells
-
--- a seat that exchanged the decision helped, and the change has the decision that stands
-pub decide_tells : (v : View) (change number : ℕ) (said : Bool) (place stood : ℕ) (w : View)
-    (row : ChangeRow) → (now v).pieces change ≡ Some (Change row)
-    → place ≡ change + change_decision_offset
-    → Exchanged v (Decide number change said) place undecided stood w
-    → Helped change v w × ((r : ChangeRow) × ((now w).pieces change ≡ Some (Change r))
-        × (r.decision ≡ standing (decision_word said) stood) × (r.decision ≢ undecided))
-decide_tells v change number said place stood w row there at x =
-    by_word (eqb_tells stood undecided)
-  where
-    said_set : (b : Bool) → decision_word b ≢ undecided
-    said_set true e = let one : ◌≡◌ {A = ℕ} 1 0 = e in omega arith
-    said_set false e = let two : ◌≡◌ {A = ℕ} 2 0 = e in omega arith
-
-    by_word : (((stood == undecided) ≡ true) × (stood ≡ undecided))
-        ⊎ (((stood == undecided) ≡ false) × (stood ≢ undecided))
-        → Helped change v w × ((r : ChangeRow) × ((now w).pieces change ≡ Some (Change r))
-        × (r.decision ≡ standing (decision_word said) stood) × (r.decision ≢ undecided))
-    by_word (inl k) =
-        let l : Logged v (Decide number change said) w = x.0 k.1 in
-        let helped = logged_helped change v (Decide number change said) w l refl refl in
-        let t = state_of v.start v.words l.before in
-        let can = (subst IsSound l.view l.sound).lawful.enabled.1 in
-        let is : now w ≡ state_of v.start v.words (Decide number change said ∷ l.before) =
-                helped_now change v w helped ∙ ap (λ y. state_of v.start v.words y.log) l.view in
-        let piece : (now w).pieces change
-                ≡ Some (Change record (can.change) { decision = decision_word said }) =
-                ap (λ u. u.pieces change) is
-                ∙ changed_at-same t.pieces change (with_decision (decision_word said))
-                ∙ ap (option_map (with_decision (decision_word said))) can.pending.published in
-        (helped, (record (can.change) { decision = decision_word said }, piece,
-            ap (λ b. if b then decision_word said else stood) (sym k.0), said_set said))
-    by_word (inr k) =
-        let l : Looked v place stood w = x.1 k.1 in
-        let helped = looked_helped change v place stood w l in
-        let on = helped_row change v w helped row there in
-        let same : stood ≡ on.0.decision = l.stood on.0.decision
-                (subst (λ p. IsShown (now w) p on.0.decision) (sym at)
-                (shown_row change (Change on.0) 0 on.1 refl)) in
-        (helped, (on.0, on.1, sym same
-            ∙ ap (λ b. if b then decision_word said else stood) (sym k.0),
-            (λ e. k.1 (same ∙ e))))
-
--- ---- the answer
-
--- a change whose decision isn't undecided is decided as the test of it says
-pub decided_as : (v : View) → IsSound v → (change : ℕ) (row : ChangeRow)
-    → (now v).pieces change ≡ Some (Change row) → row.decision ≢ undecided
-    → (said : Bool) → said ≡ (row.decision == decided_yes) → IsDecided v change said
-decided_as v s change row there set said is =
-    record { row = row; published = there; decision =
-        at (fate v.start v.words v.log s.lawful.enabled change row there) ∙ ap decision_word
-            (sym is) }
-  where
-    at : HasFate v.start v.words v.log change row
-        → row.decision ≡ decision_word (row.decision == decided_yes)
-    at (inl e) = absurd (set e)
-    at (inr (inl e)) = e ∙ ap (λ d. decision_word (d == decided_yes)) (sym e)
-    at (inr (inr e)) = e.0 ∙ ap (λ d. decision_word (d == decided_yes)) (sym e.0)

@@ -1,5 +1,5 @@
 -- A put of 1 and 1 into the anchor's slot, by rows at 4 and 6. Serves the tests.
-use Rattle.std.proofs.Common.{◌≡◌, ℕ, zero, suc, ◌+◌, ◌<◌, List, [], ◌∷◌, length, slice_get, Some, None, refl, sym, ap, ap₂, ◌∙◌, subst, inl, inr, arith}
+use Rattle.std.proofs.Common.{◌≡◌, ℕ, zero, suc, ◌+◌, ◌<◌, List, [], ◌∷◌, slice_get, Some, None, refl, sym, ap, ◌∙◌, subst, arith}
 use Rattle.ist_core.specs.declared.commands.Command.TheVariants.{Put}
 use Rattle.ist_core.specs.declared.lists.HeldRow.{HeldRow}
 use Rattle.ist_core.specs.References.{Empty, LeafAt, ChangeAt}
@@ -7,11 +7,9 @@ use Rattle.ist_core.specs.Pieces.{Change, Leaf, row_at, words_of}
 use Rattle.ist_core.specs.Elements.{Among}
 use Rattle.ist_core.specs.Snapshots.{HoldsRow}
 use Rattle.ist_core.specs.StartLayout.{start}
-use Rattle.ist_core.specs.Logs.{Log}
 use Rattle.ist_core.specs.Links.{Linked, at_anchor, Leads, from_anchor}
-use Rattle.ist_core.specs.Slots.{SlotHolds, in_anchor, anchor_is, of_anchor}
+use Rattle.ist_core.specs.Slots.{in_anchor, anchor_is, of_anchor}
 use Rattle.ist_core.specs.Installing.{nothing, a_put}
-use Rattle.ist_core.specs.Lawful.{state_of}
 use Rattle.ist_core.proofs.ReferenceLemmas.{ref_of-word_of}
 use Rattle.ist_rule.specs.declared.view.View.{View}
 use Rattle.ist_rule.specs.declared.view.OwnWord.{OwnWord}
@@ -22,15 +20,24 @@ use Rattle.ist_rule.specs.Rule.{IsSound, own_at}
 use Rattle.ist_rule.specs.Learning.{now, storing, Turned, beginning, Looked}
 use Rattle.ist_rule.proofs.HeldLemmas.{held_later}
 use Rattle.ist_dcss.specs.Helping.{MayHelp}
-use Rattle.ist_dcss.specs.Installing.{Filling, rows_of, IsInstallable, IsInstalled}
+use Rattle.ist_dcss.specs.Installing.{Filling, IsInstallable, IsInstalled}
 use Rattle.ist_dcss.proofs.CallingLemmas.{ever_now, open_unrefused, met_change, begun_allows}
 
 -- the put
 abbrev pub example_put : Filling
 example_put =
     record {
-      change = record { decision = 0; kind = 1; node = 2; index = 0; from = 0; to = 33; owner = 0;
-          key = 1; value = 1 };
+      change = record {
+        decision = 0;
+        kind = 1;
+        node = 2;
+        index = 0;
+        from = 0;
+        to = 33;
+        owner = 0;
+        key = 1;
+        value = 1;
+      };
       fresh = row_at 4 (Leaf record { key = 1; value = 1 }) ∷ [];
     }
 
@@ -67,7 +74,7 @@ change_words old (suc (suc (suc (suc (suc (suc (suc (suc (suc k))))))))) less =
 -- and of the leaf
 leaf_words : (old : List OwnWord) (k : ℕ) → k < 2
     → slice_get (words_of (Leaf record { key = 1; value = 1 })) k
-        ≡ Some (own_at (example_words old) (4 + k))
+    ≡ Some (own_at (example_words old) (4 + k))
 leaf_words old zero less = refl
 leaf_words old (suc zero) less = refl
 leaf_words old (suc (suc k)) less = absurd (omega arith)
@@ -101,8 +108,11 @@ example_installable v old s mine none own change leaf w t =
         };
         from = nothing (ref_of-word_of Empty tt);
         leaf = 4;
-        to = ref_of-word_of (LeafAt 4) record { behind_fixed = omega arith; below_limit =
-            omega arith };
+        to = ref_of-word_of (LeafAt 4) record {
+          behind_fixed = omega arith;
+          below_limit =
+              omega arith;
+        };
         fresh_are = refl;
       };
       allowed = begun_allows v 0 (Some (Put 1 1)) w s mine none t example_put.change (λ _. refl);
@@ -114,21 +124,27 @@ example_installable v old s mine none own change leaf w t =
         let row : HeldRow = record { caller = 0; base = base; size = size } in
         subst (λ (x : View). Among row (now x).held) (sym t.view)
         (held_later v.start v.words row v.log w.log here.lawful.enabled
-            (subst (λ x. Later x v.log w.log) mine t.later) h)
+        (subst (λ x. Later x v.log w.log) mine t.later) h)
 
 -- whoever installed it may help it
 pub installed_helps : (v w : View) → IsInstalled v 6 example_put w → IsSound w → w.who ≡ Caller 0
     → MayHelp w 6
 installed_helps v w i s mine =
     met_change w s 0 mine 2 0 51 6 i.in_slot
-        (ref_of-word_of (ChangeAt 6) record { behind_fixed = omega arith; below_limit =
-            omega arith })
+    (ref_of-word_of (ChangeAt 6) record {
+      behind_fixed = omega arith;
+      below_limit =
+          omega arith;
+    })
 
 -- whoever loads its word from the anchor's slot may help it
 pub loaded_helps : (v : View) (number word : ℕ) (w : View) → v.who ≡ Caller number
     → Looked v 3 word w → word ≡ 51 → MayHelp w 6
 loaded_helps v number word w mine l is =
     met_change w l.sound number (ap (λ x. x.who) l.view ∙ mine) 2 0 51 6
-        (in_anchor refl refl (sym (l.stood (now w).anchor shown_slot) ∙ is))
-        (ref_of-word_of (ChangeAt 6) record { behind_fixed = omega arith; below_limit =
-            omega arith })
+    (in_anchor refl refl (sym (l.stood (now w).anchor shown_slot) ∙ is))
+    (ref_of-word_of (ChangeAt 6) record {
+      behind_fixed = omega arith;
+      below_limit =
+          omega arith;
+    })

@@ -29,7 +29,7 @@ pub row_low : (v : View) → IsSound v → (base : ℕ) (p : Piece) → (now v).
     → (k : ℕ) → k < size_of p → (base + k < v.words) × (v.words ≤ place_limit)
 row_low v s base p there k less =
     let high = (claimed_within v.start v.words v.log base (size_of p) s.lawful.enabled
-            ((placed v.start v.words v.log s.lawful.enabled).published base p there)).below_next in
+    ((placed v.start v.words v.log s.lawful.enabled).published base p there)).below_next in
     let low = next_within v.start v.words s.lawful.opens v.log s.lawful.enabled in
     let all = words_same v.start v.words s.lawful.opens v.log in
     (omega arith, s.lawful.opens.within)
@@ -49,9 +49,9 @@ looked_field v place word w l change offset m less at =
     let on = helped_row change v w (looked_helped change v place word w l) m.row m.installed in
     let words = words_of (Change on.0) in
     let got : slice_get words offset ≡ Some (get_or words offset 0) =
-            slice_get-get_or words offset 0 less in
+    slice_get-get_or words offset 0 less in
     let same = looked_row v place word w l change (Change on.0) offset (get_or words offset 0) on.1
-            got at in
+    got at in
     record { row = on.0; published = on.1; is = got ∙ ap Some (sym same) }
 
 -- two words that are given are one
@@ -67,7 +67,7 @@ pub field_now : (v : View) (change offset word : ℕ) → IsField v change offse
     → (row : ChangeRow) → (now v).pieces change ≡ Some (Change row) → word ≡ f row
 field_now v change offset word i f at row there =
     let same : i.row ≡ row = one_change i.row row
-            (one_piece ((now v).pieces change) (Change i.row) (Change row) i.published there) in
+    (one_piece ((now v).pieces change) (Change i.row) (Change row) i.published there) in
     some_word word (f i.row) (sym i.is ∙ at i.row) ∙ ap f same
 
 -- a word of the change that doesn't change is the same in each later view
@@ -78,7 +78,7 @@ pub field_is : (v : View) (change offset word : ℕ) → IsField v change offset
 field_is v change offset word i f at stays w h row there =
     let on = helped_row change v w h i.row i.published in
     let same : on.0 ≡ row = one_change on.0 row
-            (one_piece ((now w).pieces change) (Change on.0) (Change row) on.1 there) in
+    (one_piece ((now w).pieces change) (Change on.0) (Change row) on.1 there) in
     some_word word (f i.row) (sym i.is ∙ at i.row) ∙ sym (stays i.row on.0 on.2) ∙ ap f same
 
 -- ---- where a slot lies
@@ -105,7 +105,7 @@ has_place v s node i slot ne = at slot.word slot.holds
         let slots = d.slots in
         let less = get_below r.slots i word got in
         let far = get_below (words_of (Inner r)) (4 + length r.keys + i) word
-                (get-words_of_slot r i ∙ got) in
+        (get-words_of_slot r i ∙ got) in
         let low = row_low v s node (Inner r) e (4 + length r.keys + i) far in
         let place = low.0 in
         let all = low.1 in
@@ -129,9 +129,9 @@ pub tells_slot : (v : View) (node i : ℕ) → HasPlace v node i → (degree : �
 tells_slot v node i k degree w l =
     let h = looked_helped 0 v (node + inner_degree_offset) degree w l in
     let r = inner_there (now v).pieces (now w).pieces (helped_grow 0 v w h) node k.row k.published
-            in
+    in
     let is : degree ≡ r.0.degree = looked_row v (node + inner_degree_offset) degree w l node
-            (Inner r.0) 2 r.0.degree r.1 refl refl in
+    (Inner r.0) 2 r.0.degree r.1 refl refl in
     let same : r.0.degree ≡ k.row.degree = r.2.degree in
     let less = k.index in
     let low = k.degree in
@@ -160,18 +160,21 @@ names_slot u change node first v h index second =
     let row = second.row in
     let s = h.sound in
     let node_is : node ≡ row.node = field_is u change change_node_offset node first (λ r. r.node)
-            (λ r. refl) (λ a b g. ap (λ x. x.node) g.others) v h row second.published in
+    (λ r. refl) (λ a b g. ap (λ x. x.node) g.others) v h row second.published in
     let index_is = field_now v change change_index_offset index second (λ r. r.index) (λ r. refl)
-            row
-            second.published in
+    row
+    second.published in
     let slot = change_slot v.start v.words v.log s.lawful.enabled change row second.published in
     record {
       row = row;
       published = second.published;
       node_is = node_is;
       index_is = index_is;
-      slot = record { word = slot.0; holds = subst (λ n. SlotHolds (now v) n index slot.0)
-          (sym node_is) (subst (λ i. SlotHolds (now v) row.node i slot.0) (sym index_is) slot.1) };
+      slot = record {
+        word = slot.0;
+        holds = subst (λ n. SlotHolds (now v) n index slot.0)
+            (sym node_is) (subst (λ i. SlotHolds (now v) row.node i slot.0) (sym index_is) slot.1);
+      };
     }
 
 -- behind more loads, the place of that slot is the place of the change's slot
@@ -193,7 +196,7 @@ pub good_base : (v : View) → IsSound v → (base : ℕ) (p : Piece) → (now v
     → 0 < size_of p → IsGoodBase base
 good_base v s base p there some =
     let claim = claimed_within v.start v.words v.log base (size_of p) s.lawful.enabled
-            ((placed v.start v.words v.log s.lawful.enabled).published base p there) in
+    ((placed v.start v.words v.log s.lawful.enabled).published base p there) in
     let low = row_low v s base p there 0 some in
     let place = low.0 in
     let all = low.1 in

@@ -36,8 +36,11 @@ module _ (t u : Snapshot) (g : AllGrow t.pieces u.pieces) where
   -- a leaf of a key stays one
   leaf_later : (base key : ℕ) → IsLeafOf t base key → IsLeafOf u base key
   leaf_later base key l =
-      record { row = l.row; published = leaf_there t.pieces u.pieces g base l.row l.published;
-          key_is = l.key_is }
+      record {
+        row = l.row;
+        published = leaf_there t.pieces u.pieces g base l.row l.published;
+        key_is = l.key_is;
+      }
 
   -- a word that leaves room for a key does still
   room_later : (key word : ℕ) → HasRoomFor t key word → HasRoomFor u key word
@@ -56,7 +59,7 @@ module _ (t u : Snapshot) (g : AllGrow t.pieces u.pieces) where
   started_later rebuild s =
       let on = change_there t.pieces u.pieces g s.base s.change s.published in
       let set : s.change.decision ≢ 0 =
-              λ e. let one : ◌≡◌ {A = ℕ} 1 0 = sym s.decision ∙ e in omega arith in
+      λ e. let one : ◌≡◌ {A = ℕ} 1 0 = sym s.decision ∙ e in omega arith in
       record {
         base = s.base;
         change = on.0;
@@ -102,8 +105,8 @@ module _ (pairs : List Pair) (words : ℕ) (opens : CanOpen pairs words) (old lo
         set = b.set;
         whole = λ base i word is slot.
             set_later pairs words old log on enabled base i
-                (λ w s. b.whole base i w is s)
-                (slot_before base i word (stands base is) slot) word slot;
+            (λ w s. b.whole base i w is s)
+            (slot_before base i word (stands base is) slot) word slot;
       }
     where
       slot_before : (base i word : ℕ) → (r : InnerRow) × (t.pieces base ≡ Some (Inner r))
@@ -123,46 +126,104 @@ module _ (pairs : List Pair) (words : ℕ) (opens : CanOpen pairs words) (old lo
       → ref_of r.root ≡ Some (InnerAt base) → (s : InnerRow) × (t.pieces base ≡ Some (Inner s))
   root_stands rebuild r e base is =
       let row = (names pairs words opens old (enabled_before (start pairs words) old log on
-              enabled)).rows rebuild (Rebuild r) e in
+      enabled)).rows rebuild (Rebuild r) e in
       (subst (RootNames t.pieces r.target) is row.2).1
 
   -- a change that fits its kind fits it
   pub fits_later : (change : ChangeRow) (fresh : List Row)
       → FitsKind (start pairs words) old change fresh → FitsKind (start pairs words) log change
-          fresh
+      fresh
   fits_later change fresh (a_put h) =
-      a_put record { kind = h.kind; by_key = comes_later change h.by_key; from =
-          room_later t u grow change.key change.from h.from; leaf = h.leaf; to = h.to; fresh_are =
-          h.fresh_are }
+      a_put record {
+        kind = h.kind;
+        by_key = comes_later change h.by_key;
+        from =
+            room_later t u grow change.key change.from h.from;
+        leaf = h.leaf;
+        to = h.to;
+        fresh_are =
+            h.fresh_are;
+      }
   fits_later change fresh (a_pair h) =
-      a_pair record { kind = h.kind; by_key = comes_later change h.by_key; other = h.other;
-          other_key = h.other_key; from = h.from; stands =
-          leaf_later t u grow h.other h.other_key h.stands; differs = h.differs; pair = h.pair;
-          leaf = h.leaf; to = h.to; above = h.above; fresh_are = h.fresh_are }
+      a_pair record {
+        kind = h.kind;
+        by_key = comes_later change h.by_key;
+        other = h.other;
+        other_key = h.other_key;
+        from = h.from;
+        stands =
+            leaf_later t u grow h.other h.other_key h.stands;
+        differs = h.differs;
+        pair = h.pair;
+        leaf = h.leaf;
+        to = h.to;
+        above = h.above;
+        fresh_are = h.fresh_are;
+      }
   fits_later change fresh (a_remove h) =
-      a_remove record { kind = h.kind; by_key = comes_later change h.by_key; leaf = h.leaf; from =
-          h.from; stands = leaf_later t u grow h.leaf change.key h.stands; to = h.to; value =
-          h.value; fresh_are = h.fresh_are }
+      a_remove record {
+        kind = h.kind;
+        by_key = comes_later change h.by_key;
+        leaf = h.leaf;
+        from =
+            h.from;
+        stands = leaf_later t u grow h.leaf change.key h.stands;
+        to = h.to;
+        value =
+            h.value;
+        fresh_are = h.fresh_are;
+      }
   fits_later change fresh (a_start h) =
       ⊎_elim
       (λ due.
       let it = due_later t u grow h.target h.row h.published due in
-      a_start record { kind = h.kind; key = h.key; value = h.value; target = h.target; row = it.0;
-          from = h.from; published = it.1; due = inl it.2; rebuild = h.rebuild; to = h.to;
-          fresh_are = h.fresh_are })
+      a_start record {
+        kind = h.kind;
+        key = h.key;
+        value = h.value;
+        target = h.target;
+        row = it.0;
+        from = h.from;
+        published = it.1;
+        due = inl it.2;
+        rebuild = h.rebuild;
+        to = h.to;
+        fresh_are = h.fresh_are;
+      })
       (λ anchor.
       let it = inner_there t.pieces u.pieces grow h.target h.row h.published in
-      a_start record { kind = h.kind; key = h.key; value = h.value; target = h.target; row = it.0;
-          from = h.from; published = it.1; due = inr anchor; rebuild = h.rebuild; to = h.to;
-          fresh_are = h.fresh_are })
+      a_start record {
+        kind = h.kind;
+        key = h.key;
+        value = h.value;
+        target = h.target;
+        row = it.0;
+        from = h.from;
+        published = it.1;
+        due = inr anchor;
+        rebuild = h.rebuild;
+        to = h.to;
+        fresh_are = h.fresh_are;
+      })
       h.due
   fits_later change fresh (a_finish h) =
       let it = rebuild_there t.pieces u.pieces grow h.rebuild h.row h.published in
       let root : it.0.root ≡ h.row.root = it.2.rooted h.built.set in
-      a_finish record { kind = h.kind; key = h.key; value = h.value; rebuild = h.rebuild; row =
-          it.0;
-          from = h.from; published = it.1; started = started_later t u grow h.rebuild h.started;
-          parent = it.2.parent ∙ h.parent; index = it.2.index ∙ h.index; to = h.to ∙ sym root;
-          built = subst (IsBuilt u) (sym root) (built_later h.row.root
-          (root_stands h.rebuild h.row h.published) h.built); fresh_are =
-          h.fresh_are }
+      a_finish record {
+        kind = h.kind;
+        key = h.key;
+        value = h.value;
+        rebuild = h.rebuild;
+        row =
+            it.0;
+        from = h.from;
+        published = it.1;
+        started = started_later t u grow h.rebuild h.started;
+        parent = it.2.parent ∙ h.parent;
+        index = it.2.index ∙ h.index;
+        to = h.to ∙ sym root;
+        built = subst (IsBuilt u) (sym root) (built_later h.row.root
+            (root_stands h.rebuild h.row h.published) h.built);
+        fresh_are =
+            h.fresh_are;
+      }

@@ -54,7 +54,7 @@ held_on v w g h who i =
     let helped = goes_on_helped 0 v w g in
     subst (λ t. Among h t.held) (sym (helped_now 0 v w helped))
     (held_later v.start v.words h v.log w.log (helped_lawful 0 v w helped).enabled
-        (subst (λ x. Later x v.log w.log) who g.later) i)
+    (subst (λ x. Later x v.log w.log) who g.later) i)
 
 -- what was filled is filled
 pub filled_on : (v w : View) → GoesOnTo v w → (base : ℕ) (words : List ℕ) → IsFilled v base words
@@ -76,7 +76,7 @@ pub own_tells : (v : View) (place word : ℕ) (w : View) → Looked v place word
 own_tells v place word w l base words f k less at =
     let row : HeldRow = record { caller = f.number; base = base; size = length words } in
     let is = l.mine row (held_on v w (looked_goes_on v place word w l) row f.mine f.held) f.mine k
-            less at in
+    less at in
     f.stored k less ∙ ap (λ p. Some (own_at v.own p)) (sym at) ∙ ap Some (sym is)
 
 -- such a word lies within the table
@@ -84,7 +84,7 @@ pub own_low : (v : View) → IsSound v → (base : ℕ) (words : List ℕ) → I
     → k < length words → base + k < v.words
 own_low v s base words f k less =
     let loose = held_loose v.start v.words v.log s.lawful.enabled
-            record { caller = f.number; base = base; size = length words } f.held k less in
+    record { caller = f.number; base = base; size = length words } f.held k less in
     let below = loose.below in
     let low = next_within v.start v.words s.lawful.opens v.log s.lawful.enabled in
     let all = words_same v.start v.words s.lawful.opens v.log in
@@ -101,7 +101,7 @@ pub slot_on : (v w : View) → GoesOnTo v w → (node i word : ℕ) → SlotHold
     → IsSlot w node i
 slot_on v w g node i word s =
     let it = slot_later (now v) (now w) (helped_grow 0 v w (goes_on_helped 0 v w g)) node i word s
-            in
+    in
     record { word = it.0; holds = it.1 }
 
 -- ---- what stays of the caller's changes
@@ -114,13 +114,13 @@ came_before : (pairs : List Pair) (words number : ℕ) (old log : Log)
 came_before pairs words number old _ h no_more base r e own = (r, e)
 came_before pairs words number old _ h (one_more {log = log} event l other) base r e own =
     at event other (λ x there mine. came_before pairs words number old log h.0 l base x there mine)
-        (change_comes (start pairs words) log event h.1
-        (sound (start pairs words) log (sound_start pairs words) h.0) base r e)
+    (change_comes (start pairs words) log event h.1
+    (sound (start pairs words) log (sound_start pairs words) h.0) base r e)
   where
     at : (ev : Event) → author ev ≢ Caller number
         → ((x : ChangeRow) → (state_of pairs words log).pieces base ≡ Some (Change x)
         → x.owner ≡ number → (y : ChangeRow) × ((state_of pairs words old).pieces base ≡ Some
-            (Change y)))
+        (Change y)))
         → ChangeComes (start pairs words) log base r ev
         → (x : ChangeRow) × ((state_of pairs words old).pieces base ≡ Some (Change x))
     at ev ne before (stood x there g) =
@@ -139,18 +139,18 @@ unrefused_later pairs words number node old log before h l all none base r e own
     let u = state_of pairs words log in
     let was = came_before pairs words number old log h l base r e own in
     let on = change_there t.pieces u.pieces (grow_between pairs words old log h (later-goes_on l))
-            base
-            was.0 was.1 in
+    base
+    was.0 was.1 in
     let same : on.0 ≡ r = same_row on.0 r on.1 e in
     let owner : was.0.owner ≡ number =
-            sym (ap (λ x. x.owner) on.2.others) ∙ ap (λ x. x.owner) same ∙ own in
+    sym (ap (λ x. x.owner) on.2.others) ∙ ap (λ x. x.owner) same ∙ own in
     let node_is : was.0.node ≡ node =
-            sym (ap (λ x. x.node) on.2.others) ∙ ap (λ x. x.node) same ∙ at in
+    sym (ap (λ x. x.node) on.2.others) ∙ ap (λ x. x.node) same ∙ at in
     let d = resolved_decided pairs words old before base (all base was.0 was.1 owner) in
     let set : was.0.decision ≢ undecided = λ x. d.decided
-            (ap (λ y. y.decision) (same_row_old d.change was.0 d.published was.1) ∙ x) in
+    (ap (λ y. y.decision) (same_row_old d.change was.0 d.published was.1) ∙ x) in
     λ no. none base was.0 was.1 owner node_is
-        (sym (on.2.decided set) ∙ ap (λ x. x.decision) same ∙ no)
+    (sym (on.2.decided set) ∙ ap (λ x. x.decision) same ∙ no)
   where
     same_row : (a b : ChangeRow) → (state_of pairs words log).pieces base ≡ Some (Change a)
         → (state_of pairs words log).pieces base ≡ Some (Change b) → a ≡ b
@@ -179,11 +179,11 @@ module _ (v : View) (base : ℕ) (f : Filling) (m : IsInstallable v base f) (sv 
       (rows_of f base)
   rows_held log c =
       each_map (λ row. HoldsRow (now v) number row.base (length row.words))
-          (λ row. HoldsRow (state_of v.start v.words log) number row.base (length row.words))
-          (rows_of f base)
-          (λ row _ h. held_later v.start v.words
-              record { caller = number; base = row.base; size = length row.words } v.log log
-              c.lawful.enabled (later_all log c.later) h) m.held
+      (λ row. HoldsRow (state_of v.start v.words log) number row.base (length row.words))
+      (rows_of f base)
+      (λ row _ h. held_later v.start v.words
+      record { caller = number; base = row.base; size = length row.words } v.log log
+      c.lawful.enabled (later_all log c.later) h) m.held
 
   -- the call allows it
   call_allows : MayInstall w number f.change
@@ -209,16 +209,16 @@ module _ (v : View) (base : ℕ) (f : Filling) (m : IsInstallable v base f) (sv 
       → (word : ℕ) × SlotHolds (state_of v.start v.words log) f.change.node f.change.index word
   slot_there log c =
       slot_later (now v) (state_of v.start v.words log)
-          (grow_between v.start v.words v.log log c.lawful.enabled
-          (later-goes_on (later_all log c.later))) f.change.node f.change.index m.word m.slot
+      (grow_between v.start v.words v.log log c.lawful.enabled
+      (later-goes_on (later_all log c.later))) f.change.node f.change.index m.word m.slot
 
   place_there : (log : Log) → MayCome w log
       → place_of_slot (state_of v.start v.words log) f.change.node f.change.index
-          ≡ place_of_slot (now v) f.change.node f.change.index
+      ≡ place_of_slot (now v) f.change.node f.change.index
   place_there log c =
       slot_place_later v.start v.words v.log log sv.lawful.enabled c.lawful.enabled
-          (grow_between v.start v.words v.log log c.lawful.enabled
-          (later-goes_on (later_all log c.later))) f.change.node f.change.index m.word m.slot
+      (grow_between v.start v.words v.log log c.lawful.enabled
+      (later-goes_on (later_all log c.later))) f.change.node f.change.index m.word m.slot
 
   pub can_install_here : (place old new : ℕ)
       → place ≡ place_of_slot (now w) f.change.node f.change.index → old ≡ f.change.from
@@ -226,7 +226,7 @@ module _ (v : View) (base : ℕ) (f : Filling) (m : IsInstallable v base f) (sv 
       → CanExchange w place old new (Install number base (rows_of f base))
   can_install_here place old new at_w old_is new_is =
       let at : place ≡ place_of_slot (now v) f.change.node f.change.index =
-              at_w ∙ place_there l record { later = no_more; lawful = s.lawful } in
+      at_w ∙ place_there l record { later = no_more; lawful = s.lawful } in
       record {
         make = record {
           mine = sym m.mine;
@@ -246,9 +246,9 @@ module _ (v : View) (base : ℕ) (f : Filling) (m : IsInstallable v base f) (sv 
             let slot = slot_there log c in
             let on = later-goes_on (later_all log c.later) in
             let same : old ≡ slot.0 =
-                    shown_in_slot v.start v.words log c.lawful.enabled f.change.node f.change.index
-                    slot.0 old slot.1
-                    (subst (λ p. IsShown u p old) (at ∙ sym (place_there log c)) shown) in
+            shown_in_slot v.start v.words log c.lawful.enabled f.change.node f.change.index
+            slot.0 old slot.1
+            (subst (λ p. IsShown u p old) (at ∙ sym (place_there log c)) shown) in
             let low = s.is_true.low number m.mine in
             let more = callers_later v.start v.words l log c.later in
             record {
@@ -270,10 +270,14 @@ module _ (v : View) (base : ℕ) (f : Filling) (m : IsInstallable v base f) (sv 
                 fits = fits_later v.start v.words c.lawful.opens v.log log c.lawful.enabled on
                     f.change f.fresh m.fits;
               };
-              touches = ap (λ p. Some record { place = p; found = f.change.from; left =
-                      word_of (ChangeAt base) }) (place_there log c ∙ sym at)
+              touches = ap (λ p. Some record {
+                place = p;
+                found = f.change.from;
+                left =
+                    word_of (ChangeAt base);
+              }) (place_there log c ∙ sym at)
                   ∙ ap₂ (λ a b. Some record { place = place; found = a; left = b }) (sym old_is)
-                      (sym new_is);
+                  (sym new_is);
             };
       }
 
@@ -286,6 +290,6 @@ pub can_install : (v : View) (base : ℕ) (f : Filling) (m : IsInstallable v bas
 can_install v base f m sv w g place old new at old_is new_is =
     subst (λ x. CanExchange x place old new (Install m.number base (rows_of f base))) (sym g.same)
     (can_install_here v base f m sv w.log w.loads w.loaded g.later (subst IsSound g.same g.sound)
-        place old new
-        (subst (λ x. place ≡ place_of_slot (now x) f.change.node f.change.index) g.same at) old_is
-        new_is)
+    place old new
+    (subst (λ x. place ≡ place_of_slot (now x) f.change.node f.change.index) g.same at) old_is
+    new_is)

@@ -54,14 +54,14 @@ installed_tells v base f m u g w l =
     let event = Install m.number base (rows_of f base) in
     let lawful = (subst IsSound l.view l.sound).lawful in
     let can : CanInstall (start u.start u.words) l.before m.number base (rows_of f base) =
-            lawful.enabled.1 in
+    lawful.enabled.1 in
     let t = state_of u.start u.words l.before in
     let is : now w ≡ state_of u.start u.words (event ∷ l.before) = ap now l.view in
     let same : f.change ≡ can.change = one_change f.change can.change
-            (ap first_change can.rows_are) in
+    (ap first_change can.rows_are) in
     let writes = install_writes (start u.start u.words) l.before m.number base (rows_of f base) can
-            (sound_behind u.start u.words l.before lawful.enabled.0)
-            (anchor_free u.start u.words l.before lawful.enabled.0) in
+    (sound_behind u.start u.words l.before lawful.enabled.0)
+    (anchor_free u.start u.words l.before lawful.enabled.0) in
     record {
       before = u;
       seen = g;
@@ -83,8 +83,8 @@ place_on v w s g node i word slot =
     let h = goes_on_helped 0 v w g in
     ap (λ t. place_of_slot t node i) (helped_now 0 v w h)
     ∙ slot_place_later v.start v.words v.log w.log s.lawful.enabled (helped_lawful 0 v w h).enabled
-        (grow_between v.start v.words v.log w.log (helped_lawful 0 v w h).enabled
-        (later-goes_on g.later)) node i word slot
+    (grow_between v.start v.words v.log w.log (helped_lawful 0 v w h).enabled
+    (later-goes_on g.later)) node i word slot
 
 -- an exchange that found another word tells what the slot held
 pub other_tells : (v : View) (base : ℕ) (f : Filling) (m : IsInstallable v base f) (u : View)
@@ -97,11 +97,11 @@ other_tells v base f m u g place word w at l ne =
     let before = slot_on v u g f.change.node f.change.index m.word m.slot in
     let slot = slot_on v w all f.change.node f.change.index m.word m.slot in
     let shown = slot_shown w.start w.words w.log l.sound.lawful.enabled f.change.node f.change.index
-            slot.word slot.holds in
+    slot.word slot.holds in
     let same : word ≡ slot.word = l.stood slot.word
-            (subst (λ p. IsShown (now w) p slot.word)
-            (place_on u w g.sound more f.change.node f.change.index before.word before.holds
-            ∙ sym at) shown) in
+    (subst (λ p. IsShown (now w) p slot.word)
+    (place_on u w g.sound more f.change.node f.change.index before.word before.holds
+    ∙ sym at) shown) in
     record {
       seen = all;
       in_slot = subst (SlotHolds (now w) f.change.node f.change.index) (sym same) slot.holds;
@@ -111,7 +111,7 @@ other_tells v base f m u g place word w at l ne =
       held = each_map (λ row. HoldsRow (now v) m.number row.base (length row.words))
           (λ row. HoldsRow (now w) m.number row.base (length row.words)) (rows_of f base)
           (λ row _ h. held_on v w all
-              record { caller = m.number; base = row.base; size = length row.words } m.mine h)
+          record { caller = m.number; base = row.base; size = length row.words } m.mine h)
           m.held;
     }
 
@@ -120,8 +120,8 @@ pub good_held : (v : View) → IsSound v → (base : ℕ) (words : List ℕ) →
     → 0 < length words → IsGoodBase base
 good_held v s base words f some =
     let claim = claimed_within v.start v.words v.log base (length words) s.lawful.enabled
-            ((placed v.start v.words v.log s.lawful.enabled).held
-            record { caller = f.number; base = base; size = length words } f.held) in
+    ((placed v.start v.words v.log s.lawful.enabled).held
+    record { caller = f.number; base = base; size = length words } f.held) in
     let low = own_low v s base words f 0 some in
     let all = s.lawful.opens.within in
     record { behind_fixed = claim.behind_fixed; below_limit = omega arith }
@@ -153,8 +153,11 @@ pub loaded_slot : (v : View) (base : ℕ) (f : Filling) (m : IsInstallable v bas
     (node index from : ℕ) (w : View) → HasLoaded v f node index from w → IsSlot w node index
 loaded_slot v base f m node index from w h =
     let it = slot_on v w h.seen f.change.node f.change.index m.word m.slot in
-    record { word = it.word; holds = subst (λ n. SlotHolds (now w) n index it.word) h.node_is
-        (subst (λ i. SlotHolds (now w) f.change.node i it.word) h.index_is it.holds) }
+    record {
+      word = it.word;
+      holds = subst (λ n. SlotHolds (now w) n index it.word) h.node_is
+          (subst (λ i. SlotHolds (now w) f.change.node i it.word) h.index_is it.holds);
+    }
 
 -- and its place is that of the change's slot
 pub loaded_place : (v : View) (f : Filling) (node index from : ℕ) (w : View)

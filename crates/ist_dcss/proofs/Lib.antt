@@ -3,6 +3,7 @@ pub mod OutcomeLemmas
 pub mod SlotPlaceLemmas
 pub mod FieldLemmas
 pub mod DecideLemmas
+pub mod DecidedLemmas
 pub mod ResolveLemmas
 pub mod SetSlotLemmas
 pub mod FitsLemmas

@@ -85,8 +85,8 @@ module _ (pairs : List Pair) (words : ℕ) where
       ⊎_elim
       (λ here.
       let there : SlotHolds u at j now =
-              subst (λ n. SlotHolds u n j now) here.1 (subst (λ k. SlotHolds u node k now) here.2
-              behind) in
+      subst (λ n. SlotHolds u n j now) here.1 (subst (λ k. SlotHolds u node k now) here.2
+      behind) in
       let same : now ≡ new = slot_once u at j now new free there w.now in
       ⊎_elim (λ e. absurd (set (here.0 ∙ e))) (λ ne. λ e. ne (sym same ∙ e)) how)
       (λ stays. λ e. set (slot_once u node i was now free stays behind ∙ e))
@@ -98,10 +98,10 @@ module _ (pairs : List Pair) (words : ℕ) where
       → SlotHolds (state_of pairs words (event ∷ log)) node i now → now ≢ unset_word
   quiet log event h none node i was now before set behind =
       let stays = slot_stays (start pairs words) log event h.1 (sound_behind pairs words log h.0)
-              none
-              node i was before in
+      none
+      node i was before in
       λ e. set (slot_once (state_of pairs words (event ∷ log)) node i was now
-          (anchor_free pairs words (event ∷ log) h) stays behind ∙ e)
+      (anchor_free pairs words (event ∷ log) h) stays behind ∙ e)
 
   -- an event leaves no slot Unset that wasn't
   set_on : (log : Log) (event : Event) → EachEnabled (start pairs words) (event ∷ log)
@@ -109,22 +109,22 @@ module _ (pairs : List Pair) (words : ℕ) where
       → SlotHolds (state_of pairs words (event ∷ log)) node i now → now ≢ unset_word
   set_on log (Install caller base rows) h =
       written log (Install caller base rows) h h.1.change.node h.1.change.index
-          (word_of (ChangeAt base)) h.1.change.from
-          (install_writes (start pairs words) log caller base rows h.1
-          (sound_behind pairs words log h.0) (anchor_free pairs words log h.0))
-          (inr (change_set base))
+      (word_of (ChangeAt base)) h.1.change.from
+      (install_writes (start pairs words) log caller base rows h.1
+      (sound_behind pairs words log h.0) (anchor_free pairs words log h.0))
+      (inr (change_set base))
   set_on log (Resolve caller base) h =
       written log (Resolve caller base) h h.1.change.node h.1.change.index (side_of h.1.change)
-          (word_of (ChangeAt base))
-          (resolve_writes (state_of pairs words log) caller base h.1
-          (anchor_free pairs words log h.0))
-          (inr (side_set h.1.change
-          (sides pairs words log h.0 base h.1.change h.1.published)))
+      (word_of (ChangeAt base))
+      (resolve_writes (state_of pairs words log) caller base h.1
+      (anchor_free pairs words log h.0))
+      (inr (side_set h.1.change
+      (sides pairs words log h.0 base h.1.change h.1.published)))
   set_on log (Place caller rebuild j word rows) h =
       written log (Place caller rebuild j word rows) h h.1.root j word unset_word
-          (place_writes (state_of pairs words log) caller rebuild j word rows h.1
-          (sound_behind pairs words log h.0) (anchor_free pairs words log h.0))
-          (inl refl)
+      (place_writes (state_of pairs words log) caller rebuild j word rows h.1
+      (sound_behind pairs words log h.0) (anchor_free pairs words log h.0))
+      (inl refl)
   set_on log (Enter caller) h = quiet log (Enter caller) h tt
   set_on log (Reserve caller base size) h = quiet log (Reserve caller base size) h tt
   set_on log (Okay caller change) h = quiet log (Okay caller change) h tt
@@ -140,18 +140,18 @@ module _ (pairs : List Pair) (words : ℕ) where
   -- nor does a log that goes on
   pub set_later : (old log : Log) → GoesOn old log → EachEnabled (start pairs words) log
       → (node i : ℕ) → ((word : ℕ) → SlotHolds (state_of pairs words old) node i word
-          → word ≢ unset_word)
+      → word ≢ unset_word)
       → ((w : ℕ) × SlotHolds (state_of pairs words old) node i w)
       → (word : ℕ) → SlotHolds (state_of pairs words log) node i word → word ≢ unset_word
   set_later old _ same_log h node i all is word slot = all word slot
   set_later old _ (one_event {log = log} event g) h node i all is word slot =
       let mid = slot_there old log g h.0 node i is in
       set_on log event h node i mid.0 word mid.1
-          (set_later old log g h.0 node i all is mid.0 mid.1) slot
+      (set_later old log g h.0 node i all is mid.0 mid.1) slot
     where
       slot_there : (a b : Log) → GoesOn a b → EachEnabled (start pairs words) b → (n j : ℕ)
           → ((w : ℕ) × SlotHolds (state_of pairs words a) n j w)
           → (w : ℕ) × SlotHolds (state_of pairs words b) n j w
       slot_there a b goes e n j s =
           slot_later (state_of pairs words a) (state_of pairs words b)
-              (grow_between pairs words a b e goes) n j s.0 s.1
+          (grow_between pairs words a b e goes) n j s.0 s.1

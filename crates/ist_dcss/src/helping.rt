@@ -12,9 +12,8 @@ ghost use Rattle.ist_dcss.specs.Naming.{standing, side_offset_of, IsField, IsSlo
 use crate::decisions::Decision;
 use crate::slots::slot_at;
 use ist_layout::{
-    ANCHOR, ANCHOR_STATUS_PLACE, CHANGE_DECISION_OFFSET, CHANGE_FROM_OFFSET,
-    CHANGE_INDEX_OFFSET, CHANGE_NODE_OFFSET, CHANGE_TO_OFFSET, DECIDED_NO, DECIDED_YES,
-    Ref, UNDECIDED,
+    ANCHOR, ANCHOR_STATUS_PLACE, CHANGE_DECISION_OFFSET, CHANGE_FROM_OFFSET, CHANGE_INDEX_OFFSET,
+    CHANGE_NODE_OFFSET, CHANGE_TO_OFFSET, DECIDED_NO, DECIDED_YES, Ref, UNDECIDED,
 };
 use ist_rule::{TreeSeat, TreeTable, exchange, know, load, load_okay};
 

@@ -16,6 +16,7 @@ use ist_rows::{Caller, Kind, fill, reserve};
 use ist_rule::{TreeSeat, TreeTable, add, begin_call, know, load, open_table, split};
 use std::alloc::{AllocError, Global};
 use std::test::Fail;
+use std::thread::join;
 
 // A table of so many words without pairs, and the maker's seat.
 fn empty_table(alloc: Global, words: usize) -> Result<(TreeTable, TreeSeat), AllocError>
@@ -149,6 +150,44 @@ fn the_worked_row(rt: HostRuntime) -> Result<(), Fail> {
     assert_eq!(rt; help_met(&table, &mut second), Some(Decision::Yes));
     assert_eq!(rt; load(&table, &mut maker, ANCHOR_SLOT_PLACE), 33);
     assert_eq!(rt; help(&table, &mut first.seat, 6), Decision::Yes);
+    assert_eq!(rt; load(&table, &mut maker, ANCHOR_SLOT_PLACE), 33);
+    Ok(())
+}
+
+// The same by a caller that has no more to do.
+fn help_moved(table: &TreeTable, who: Caller) -> Option<Decision>
+    requires same_table { who.seat.table ≡ table.now.table }
+    requires caller { IsCaller who }
+{
+    let mut who = who;
+    help_met(table, &mut who)
+}
+
+#[test]
+fn two_threads_help_one_change(rt: HostRuntime) -> Result<(), Fail> {
+    let (table, mut maker) = empty_table(rt.alloc(), 26)?;
+    let mut first = enter(&table, &mut maker);
+    let second = enter(&table, &mut maker);
+    let third = enter(&table, &mut maker);
+    assert_eq!(rt; reserve(&table, &rt, &mut first, Kind::Leaf), Ok(4));
+    assert_eq!(rt; reserve(&table, &rt, &mut first, Kind::Change), Ok(6));
+    assert!(rt; first.number == 0);
+    assert!(rt; first.leaf == Some(4));
+    assert!(rt; first.change == Some(6));
+    assert_eq!(rt; install_put(&table, &mut first), Installed::Yes);
+    let (left, right) = join(
+        &rt,
+        ||
+            requires same_table { second.seat.table ≡ table.table }
+            requires caller { IsCaller second }
+        { help_moved(&table, second) },
+        ||
+            requires same_table { third.seat.table ≡ table.table }
+            requires caller { IsCaller third }
+        { help_moved(&table, third) },
+    );
+    assert!(rt; left.is_some() || right.is_some());
+    assert!(rt; left != Some(Decision::No) && right != Some(Decision::No));
     assert_eq!(rt; load(&table, &mut maker, ANCHOR_SLOT_PLACE), 33);
     Ok(())
 }

@@ -17,62 +17,62 @@ own_word-node-requires g c =
 
 -- and is so still
 pub own_word-index-requires : goal.own_word-index-requires
-own_word-index-requires g c =
-    (
-      c.own_word-node.ensures.same_table ∙ c.requires.0,
-      (
-        filled_on _ _ c.own_word-node.ensures.seen c.args.change _
-            (filled _ c.args.change g.filling c.requires.1),
-        omega arith,
-      ),
-    )
+own_word-index-requires g c = (
+  c.own_word-node.ensures.same_table ∙ c.requires.0,
+  (
+    filled_on _ _ c.own_word-node.ensures.seen c.args.change _
+        (filled _ c.args.change g.filling c.requires.1),
+    omega arith,
+  ),
+)
 
 pub own_word-from-requires : goal.own_word-from-requires
-own_word-from-requires g c =
-    (
-      c.own_word-index.ensures.same_table ∙ c.own_word-node.ensures.same_table ∙ c.requires.0,
-      (
-        filled_on _ _ (goes_on_more _ _ _ c.own_word-node.ensures.seen
-            c.own_word-index.ensures.seen)
-            c.args.change _ (filled _ c.args.change g.filling c.requires.1),
-        omega arith,
-      ),
-    )
+own_word-from-requires g c = (
+  c.own_word-index.ensures.same_table ∙ c.own_word-node.ensures.same_table ∙ c.requires.0,
+  (
+    filled_on _ _ (goes_on_more _ _ _ c.own_word-node.ensures.seen
+        c.own_word-index.ensures.seen)
+        c.args.change _ (filled _ c.args.change g.filling c.requires.1),
+    omega arith,
+  ),
+)
 
 -- the slot is one
 pub slot_at-place-requires-clause-slot : goal.slot_at-place-requires-clause-slot
 slot_at-place-requires-clause-slot g c =
     let h = has_loaded _ g.filling _ _ _ _ _ _ c.own_word-node.ensures.seen
-            c.own_word-node.ensures.value c.own_word-index.ensures.seen
-            c.own_word-index.ensures.value c.own_word-from.ensures.seen
-            c.own_word-from.ensures.value in
+    c.own_word-node.ensures.value c.own_word-index.ensures.seen
+    c.own_word-index.ensures.value c.own_word-from.ensures.seen
+    c.own_word-from.ensures.value in
     loaded_slot _ c.args.change g.filling c.requires.1 _ _ _ _ h
 
 -- the change lies at a good base
 pub to_word-word-requires : goal.to_word-word-requires
 to_word-word-requires g c =
-    record { good = good_held _ c.know.ensures.sound c.args.change _
-        (filled _ c.args.change g.filling c.requires.1) (omega arith) }
+    record {
+      good = good_held _ c.know.ensures.sound c.args.change _
+          (filled _ c.args.change g.filling c.requires.1) (omega arith);
+    }
 
 -- the change may be installed
 pub exchange-found-requires : goal.exchange-found-requires
 exchange-found-requires g c =
     let h = has_loaded _ g.filling _ _ _ _ _ _ c.own_word-node.ensures.seen
-            c.own_word-node.ensures.value c.own_word-index.ensures.seen
-            c.own_word-index.ensures.value c.own_word-from.ensures.seen
-            c.own_word-from.ensures.value in
+    c.own_word-node.ensures.value c.own_word-index.ensures.seen
+    c.own_word-index.ensures.value c.own_word-from.ensures.seen
+    c.own_word-from.ensures.value in
     let v = c.slot_at-place.new.seat.view in
     let m = c.requires.1 in
     let on = goes_on_more _ _ v h.seen c.slot_at-place.ensures.seen in
     let can = can_install _ c.args.change g.filling m c.know.ensures.sound v on _ _ _
-            (loaded_place _ g.filling _ _ _ _ h v c.slot_at-place.result
-                c.slot_at-place.ensures.place)
-            (sym h.from_is) c.to_word-word.ensures.value in
+    (loaded_place _ g.filling _ _ _ _ h v c.slot_at-place.result
+    c.slot_at-place.ensures.place)
+    (sym h.from_is) c.to_word-word.ensures.value in
     let low = known_low v c.slot_at-place.result c.know-2.ensures.sound can.known in
     let known = c.know-2.ensures.words in
     let here = c.slot_at-place.ensures.same_table ∙ c.own_word-from.ensures.same_table
-            ∙ c.own_word-index.ensures.same_table ∙ c.own_word-node.ensures.same_table
-            ∙ c.requires.0 in
+    ∙ c.own_word-index.ensures.same_table ∙ c.own_word-node.ensures.same_table
+    ∙ c.requires.0 in
     let same = ap (λ t. t.words) here in (
       here,
       (
@@ -88,34 +88,34 @@ exchange-found-requires g c =
 pub returns-then-found-from-clause-yes : goal.returns-then-found-from-clause-yes
 returns-then-found-from-clause-yes g c _ =
     let h = has_loaded _ g.filling _ _ _ _ _ _ c.own_word-node.ensures.seen
-            c.own_word-node.ensures.value c.own_word-index.ensures.seen
-            c.own_word-index.ensures.value c.own_word-from.ensures.seen
-            c.own_word-from.ensures.value in
+    c.own_word-node.ensures.value c.own_word-index.ensures.seen
+    c.own_word-index.ensures.value c.own_word-from.ensures.seen
+    c.own_word-from.ensures.value in
     let v = c.slot_at-place.new.seat.view in
     let m = c.requires.1 in
     let on = goes_on_more _ _ v h.seen c.slot_at-place.ensures.seen in
     installed_tells _ c.args.change g.filling m v on _
-        (subst (λ (e : Event). Logged v e c.exchange-found.new.seat.view)
-        (installing_is v g.filling m.number c.args.change c.to_word-word.result
-        (goes_on_who on ∙ m.mine) c.to_word-word.ensures.value)
-        (c.exchange-found.ensures.exchanged.0 c.if-found-from.true))
+    (subst (λ (e : Event). Logged v e c.exchange-found.new.seat.view)
+    (installing_is v g.filling m.number c.args.change c.to_word-word.result
+    (goes_on_who on ∙ m.mine) c.to_word-word.ensures.value)
+    (c.exchange-found.ensures.exchanged.0 c.if-found-from.true))
 
 -- and where it held another, that is the answer
 pub returns-else-found-from-clause-other : goal.returns-else-found-from-clause-other
 returns-else-found-from-clause-other g c word is =
     let h = has_loaded _ g.filling _ _ _ _ _ _ c.own_word-node.ensures.seen
-            c.own_word-node.ensures.value c.own_word-index.ensures.seen
-            c.own_word-index.ensures.value c.own_word-from.ensures.seen
-            c.own_word-from.ensures.value in
+    c.own_word-node.ensures.value c.own_word-index.ensures.seen
+    c.own_word-index.ensures.value c.own_word-from.ensures.seen
+    c.own_word-from.ensures.value in
     let v = c.slot_at-place.new.seat.view in
     let m = c.requires.1 in
     let on = goes_on_more _ _ v h.seen c.slot_at-place.ensures.seen in
     subst (λ n. IsOther c.args.seat.now.view c.args.change g.filling n
-        c.exchange-found.new.seat.view) (answer c.exchange-found.result word is)
+    c.exchange-found.new.seat.view) (answer c.exchange-found.result word is)
     (other_tells _ c.args.change g.filling m v on c.slot_at-place.result _ _
-        (loaded_place _ g.filling _ _ _ _ h v c.slot_at-place.result c.slot_at-place.ensures.place)
-        (c.exchange-found.ensures.exchanged.1 c.if-found-from.false)
-        (λ e. c.if-found-from.false (e ∙ h.from_is)))
+    (loaded_place _ g.filling _ _ _ _ h v c.slot_at-place.result c.slot_at-place.ensures.place)
+    (c.exchange-found.ensures.exchanged.1 c.if-found-from.false)
+    (λ e. c.if-found-from.false (e ∙ h.from_is)))
   where
     answer : (a b : ℕ) → Other a ≡ Other b → a ≡ b
     answer a b e = cc

@@ -7,7 +7,7 @@ use Rattle.ist_dcss.proofs.installing.own_word.Goals as goal
 pub overflow_add-from : goal.overflow_add-from
 overflow_add-from g c =
     let low = own_low _ c.know.ensures.sound c.args.base g.words c.requires.1.0 c.args.offset
-            c.requires.1.1 in
+    c.requires.1.1 in
     let all = c.know.ensures.sound.lawful.opens.within in
     let from = c.from.ensures in
     let h : c.from.result + c.args.offset < 2 ^ 64 = omega arith in
@@ -16,7 +16,7 @@ overflow_add-from g c =
 pub load-requires-clause-within : goal.load-requires-clause-within
 load-requires-clause-within g c =
     let low = own_low _ c.know.ensures.sound c.args.base g.words c.requires.1.0 c.args.offset
-            c.requires.1.1 in
+    c.requires.1.1 in
     let from = c.from.ensures in
     let known = c.know.ensures.words in
     let same = ap (λ t. t.words) c.requires.0 in
@@ -30,4 +30,4 @@ returns-clause-seen g c = looked_goes_on _ _ _ _ c.load.ensures.looked
 pub returns-clause-value : goal.returns-clause-value
 returns-clause-value g c =
     own_tells _ _ _ _ c.load.ensures.looked c.args.base g.words c.requires.1.0 c.args.offset
-        c.requires.1.1 (ap (λ n. n + c.args.offset) c.from.ensures)
+    c.requires.1.1 (ap (λ n. n + c.args.offset) c.from.ensures)

@@ -5,5 +5,9 @@ use Rattle.ist_dcss.proofs.tests.change_word.Goals as goal
 -- the caller holds the change
 pub fill-requires-clause-held : goal.fill-requires-clause-held
 fill-requires-clause-held c =
-    record { size = kind_words Change; held = c.requires.caller.rows Change 6 c.requires.change; within =
-        c.requires.within }
+    record {
+      size = kind_words Change;
+      held = c.requires.caller.rows Change 6 c.requires.change;
+      within =
+          c.requires.within;
+    }

@@ -5,5 +5,9 @@ use Rattle.ist_dcss.proofs.tests.leaf_word.Goals as goal
 -- the caller holds the leaf
 pub fill-requires-clause-held : goal.fill-requires-clause-held
 fill-requires-clause-held c =
-    record { size = kind_words Leaf; held = c.requires.caller.rows Leaf 4 c.requires.leaf; within =
-        c.requires.within }
+    record {
+      size = kind_words Leaf;
+      held = c.requires.caller.rows Leaf 4 c.requires.leaf;
+      within =
+          c.requires.within;
+    }

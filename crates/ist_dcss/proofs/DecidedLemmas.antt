@@ -1,0 +1,134 @@
+-- How a change was decided, and what a help tells of it. Serves `decide` and `help`.
+use Rattle.std.proofs.Common.{◌≡◌, ◌≢◌, ℕ, ◌+◌, ◌⊎◌, ◌==◌, Bool, true, false, if◌then◌else◌, ◌∷◌, option_map, Some, refl, sym, ap, ◌∙◌, subst, inl, inr, arith}
+use Rattle.std.proofs.lemmas.Bool.Decides.{eqb_tells}
+use Rattle.ist_core.specs.declared.states.ChangeRow.{ChangeRow}
+use Rattle.ist_core.specs.declared.events.Event.TheVariants.{Decide}
+use Rattle.ist_core.specs.RowLayout.{change_decision_offset}
+use Rattle.ist_core.specs.Statuses.{undecided, decided_yes}
+use Rattle.ist_core.specs.Pieces.{Change, with_decision}
+use Rattle.ist_core.specs.After.{decision_word}
+use Rattle.ist_core.specs.Lawful.{state_of}
+use Rattle.ist_core.proofs.RowLemmas.{changed_at-same}
+use Rattle.ist_rule.specs.declared.view.View.{View}
+use Rattle.ist_rule.specs.Shown.{IsShown, shown_row}
+use Rattle.ist_rule.specs.Rule.{IsSound}
+use Rattle.ist_rule.specs.Learning.{now, Looked, Logged, Exchanged}
+use Rattle.ist_dcss.specs.Helping.{Helped, IsDecided, WasOpen, WasClosed}
+use Rattle.ist_dcss.specs.Naming.{standing}
+use Rattle.ist_dcss.proofs.GoingLemmas.{looked_helped, logged_helped, helped_now, helped_row}
+use Rattle.ist_dcss.proofs.OutcomeLemmas.{HasFate, fate, okay_seen}
+use Rattle.ist_links.proofs.ChangeLemmas.{yes_has_okay}
+
+-- the word of a decision isn't undecided
+pub said_set : (b : Bool) → decision_word b ≢ undecided
+said_set true e = let one : ◌≡◌ {A = ℕ} 1 0 = e in omega arith
+said_set false e = let two : ◌≡◌ {A = ℕ} 2 0 = e in omega arith
+
+-- ---- what the exchange of the decision tells
+
+-- a seat that exchanged the decision helped, and the change has the decision that stands
+pub decide_tells : (v : View) (change number : ℕ) (said : Bool) (place stood : ℕ) (w : View)
+    (row : ChangeRow) → (now v).pieces change ≡ Some (Change row)
+    → place ≡ change + change_decision_offset
+    → Exchanged v (Decide number change said) place undecided stood w
+    → Helped change v w × ((r : ChangeRow) × ((now w).pieces change ≡ Some (Change r))
+    × (r.decision ≡ standing (decision_word said) stood) × (r.decision ≢ undecided))
+decide_tells v change number said place stood w row there at x =
+    by_word (eqb_tells stood undecided)
+  where
+    said_set : (b : Bool) → decision_word b ≢ undecided
+    said_set true e = let one : ◌≡◌ {A = ℕ} 1 0 = e in omega arith
+    said_set false e = let two : ◌≡◌ {A = ℕ} 2 0 = e in omega arith
+
+    by_word : (((stood == undecided) ≡ true) × (stood ≡ undecided))
+        ⊎ (((stood == undecided) ≡ false) × (stood ≢ undecided))
+        → Helped change v w × ((r : ChangeRow) × ((now w).pieces change ≡ Some (Change r))
+        × (r.decision ≡ standing (decision_word said) stood) × (r.decision ≢ undecided))
+    by_word (inl k) =
+        let l : Logged v (Decide number change said) w = x.0 k.1 in
+        let helped = logged_helped change v (Decide number change said) w l refl refl in
+        let t = state_of v.start v.words l.before in
+        let can = (subst IsSound l.view l.sound).lawful.enabled.1 in
+        let is : now w ≡ state_of v.start v.words (Decide number change said ∷ l.before) =
+        helped_now change v w helped ∙ ap (λ y. state_of v.start v.words y.log) l.view in
+        let piece : (now w).pieces change
+        ≡ Some (Change record (can.change) { decision = decision_word said }) =
+        ap (λ u. u.pieces change) is
+        ∙ changed_at-same t.pieces change (with_decision (decision_word said))
+        ∙ ap (option_map (with_decision (decision_word said))) can.pending.published in (
+          helped,
+          (
+            record (can.change) { decision = decision_word said },
+            piece,
+            ap (λ b. if b then decision_word said else stood) (sym k.0),
+            said_set said,
+          ),
+        )
+    by_word (inr k) =
+        let l : Looked v place stood w = x.1 k.1 in
+        let helped = looked_helped change v place stood w l in
+        let on = helped_row change v w helped row there in
+        let same : stood ≡ on.0.decision = l.stood on.0.decision
+        (subst (λ p. IsShown (now w) p on.0.decision) (sym at)
+        (shown_row change (Change on.0) 0 on.1 refl)) in (
+          helped,
+          (
+            on.0,
+            on.1,
+            sym same
+                ∙ ap (λ b. if b then decision_word said else stood) (sym k.0),
+            (λ e. k.1 (same ∙ e)),
+          ),
+        )
+
+-- ---- the answer
+
+-- a change whose decision isn't undecided is decided as the test of it says
+pub decided_as : (v : View) → IsSound v → (change : ℕ) (row : ChangeRow)
+    → (now v).pieces change ≡ Some (Change row) → row.decision ≢ undecided
+    → (said : Bool) → said ≡ (row.decision == decided_yes) → IsDecided v change said
+decided_as v s change row there set said is =
+    record {
+      row = row;
+      published = there;
+      decision =
+          at (fate v.start v.words v.log s.lawful.enabled change row there) ∙ ap decision_word
+          (sym is);
+    }
+  where
+    at : HasFate v.start v.words v.log change row
+        → row.decision ≡ decision_word (row.decision == decided_yes)
+    at (inl e) = absurd (set e)
+    at (inr (inl e)) = e ∙ ap (λ d. decision_word (d == decided_yes)) (sym e)
+    at (inr (inr e)) = e.0 ∙ ap (λ d. decision_word (d == decided_yes)) (sym e.0)
+
+-- ---- what a help tells
+
+-- a change that was decided so is so still
+pub decided_on : (change : ℕ) (v w : View) → Helped change v w → (said : Bool)
+    → IsDecided v change said → IsDecided w change said
+decided_on change v w h said d =
+    let on = helped_row change v w h d.row d.published in
+    record {
+      row = on.0;
+      published = on.1;
+      decision =
+          on.2.decided (λ e. said_set said (sym d.decision ∙ e)) ∙ d.decision;
+    }
+
+-- where a change is decided yes its node was seen open
+pub yes_seen : (v : View) → IsSound v → (change : ℕ) → IsDecided v change true → WasOpen v change
+yes_seen v s change d =
+    okay_seen v.start v.words v.log s.lawful.enabled change
+    (yes_has_okay v.start v.words s.lawful.opens v.log s.lawful.enabled change d.row d.published
+    d.decision)
+
+-- where it is decided no its node was seen not to be open
+pub no_seen : (v : View) → IsSound v → (change : ℕ) → IsDecided v change false
+    → WasClosed v change
+no_seen v s change d = at (fate v.start v.words v.log s.lawful.enabled change d.row d.published)
+  where
+    at : HasFate v.start v.words v.log change d.row → WasClosed v change
+    at (inl e) = let two : ◌≡◌ {A = ℕ} 2 0 = sym d.decision ∙ e in absurd (omega arith)
+    at (inr (inl e)) = let two : ◌≡◌ {A = ℕ} 2 1 = sym d.decision ∙ e in absurd (omega arith)
+    at (inr (inr k)) = k.1
