@@ -1,4 +1,5 @@
--- A caller goes on with its seat: by loads, by a row reserved, by a word stored. Serves `reserving`.
+-- A caller goes on with its seat: by loads, by a row reserved, by a word stored. Serves
+-- `reserving`.
 use Rattle.std.proofs.Common.{◌≡◌, ◌≢◌, ℕ, ◌+◌, ◌<◌, ◌≤◌, ◌⊎◌, ◌==◌, ◌||◌, not, Bool, true, false, if◌then◌else◌, List, [], ◌∷◌, ◌++◌, map, filter, Option, Some, None, refl, sym, ap, ap₂, ◌∙◌, subst, le_refl, inl, inr, ⊎_elim, append-nil, arith}
 use Rattle.std.proofs.lemmas.Bool.Decides.{eqb_tells}
 use Rattle.std.proofs.lemmas.List.Elements.{filter-append}

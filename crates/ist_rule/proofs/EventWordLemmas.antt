@@ -1,6 +1,5 @@
 -- What one event does to the words: those of the image, and those that a caller stored into its
--- rows. Serves the conjuncts
--- `image` and `owns`.
+-- rows. Serves the conjuncts `image` and `owns`.
 use Rattle.std.proofs.Common.{◌≡◌, ◌≢◌, ℕ, ◌+◌, ◌≤◌, ◌⊎◌, List, [], ◌∷◌, ◌++◌, length, slice_get, Option, Some, None, refl, sym, ap, ◌∙◌, subst, inl, inr, ⊎_elim, arith}
 use Rattle.ist_core.specs.declared.pairs.Pair.{Pair}
 use Rattle.ist_core.specs.declared.lists.Row.{Row}

@@ -1,6 +1,5 @@
 -- The frame of each step: one seat has a new view, the log has gone on or not, a word has changed
--- or not. What is to be shown
--- of the rest. Serves all conjuncts of the rule.
+-- or not. What is to be shown of the rest. Serves all conjuncts of the rule.
 use Rattle.std.proofs.Common.{◌≡◌, ◌≢◌, ℕ, zero, suc, ◌≤◌, ◌⊎◌, List, [], ◌∷◌, ◌++◌, length, slice_set, refl, sym, ap, ◌∙◌, subst, inl, inr, ⊎_elim, le_refl}
 use Rattle.std.proofs.Math.Nat.{le_trans}
 use mathlib.Core.Option.{Option, some, some-injective, some-ne-none}

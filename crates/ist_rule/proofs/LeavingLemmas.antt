@@ -1,4 +1,5 @@
--- Steps that leave the word at their place, and are events: loads, and failed exchanges. Serves the plays.
+-- Steps that leave the word at their place, and are events: loads, and failed exchanges. Serves the
+-- plays.
 use Rattle.std.proofs.Common.{◌≡◌, ◌≢◌, ℕ, ◌+◌, ◌%◌, ◌^◌, ◌⊎◌, inl, inr, eqb, List, [], ◌∷◌, slice_index, slice_set, Option, Some, None, refl, sym, ap, ◌∙◌, subst, le_refl, ⊎_elim}
 use Rattle.std.proofs.Math.Nat.{mod-eq_of_lt}
 use Rattle.std.proofs.lemmas.List.{set-get_or}

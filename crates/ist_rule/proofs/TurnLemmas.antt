@@ -1,6 +1,5 @@
 -- The four loads that turn a call or a search: the view that each takes fits. Serves `begin_call`,
--- `begin_search`, `end_call`
--- and `give_up`.
+-- `begin_search`, `end_call` and `give_up`.
 use Rattle.std.proofs.Common.{◌≡◌, ◌≢◌, ℕ, ◌≤◌, List, [], ◌∷◌, ◌++◌, length, Option, Some, None, refl, sym, ◌∙◌, subst, inl, arith}
 use mathlib.Core.Option as maybe
 use Rattle.atomic_table.specs.Table.{step, Allows}

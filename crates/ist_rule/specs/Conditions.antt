@@ -44,8 +44,7 @@ abbrev pub IsResolved : View → ℕ → Type 0
 IsResolved v number = AllResolvedOf (now v) v.log number
 
 -- the seat is in a call, in which all its earlier changes are resolved; a put or remove is the
--- call's command, and none of
--- this call was decided yes
+-- call's command, and none of this call was decided yes
 pub record MayInstall (v : View) (caller : ℕ) (change : ChangeRow) : Type 0 where
   pub pending : Pending
   pub in_call : v.pending ≡ Some pending
@@ -72,8 +71,8 @@ pub record CanMake (v : View) (event : Event) : Type 0 where
 -- the event is enabled behind the log, and its step finds one word at the place and leaves another
 pub record ComesAt (v : View) (log : Log) (event : Event) (place found left : ℕ) : Type 0 where
   pub enabled : Enabled (start v.start v.words) log event
-  pub touches : touch_of (state_of v.start v.words log) event ≡ Some record { place = place; found =
-      found; left = left }
+  pub touches : touch_of (state_of v.start v.words log) event
+      ≡ Some record { place = place; found = found; left = left }
 
 -- the word at the place is one that all know, behind each log that may come
 abbrev pub IsKnown : View → ℕ → Type 0
@@ -93,8 +92,8 @@ pub record CanExchange (v : View) (place old new : ℕ) (event : Event) : Type 0
 
 -- an add is the event that is named for the word found: behind each log that may come it is
 -- enabled, and leaves one more
--- Who meets it: of an Enter `ist_rows`, as the maker has entered all callers; of a Count the owner of
--- a change behind its yes; of a Draw who fills the parts of a root, by the finished target
+-- Who meets it: of an Enter `ist_rows`, as the maker has entered all callers; of a Count the owner
+-- of a change behind its yes; of a Draw who fills the parts of a root, by the finished target
 pub record CanAdd (v : View) (place : ℕ) (named : ℕ → Event) : Type 0 where
   pub make : (found : ℕ) → CanMake v (named found)
   pub known : IsKnown v place
@@ -109,8 +108,8 @@ pub record CanAdd (v : View) (place : ℕ) (named : ℕ → Event) : Type 0 wher
 -- it
 pub record LeavesAt (v : View) (log : Log) (event : Event) (place word : ℕ) : Type 0 where
   pub enabled : Enabled (start v.start v.words) log event
-  pub leaves : (touch_of (state_of v.start v.words log) event ≡ Some record { place = place; found =
-      word; left = word })
+  pub leaves : (touch_of (state_of v.start v.words log) event
+          ≡ Some record { place = place; found = word; left = word })
       ⊎ (touch_of (state_of v.start v.words log) event ≡ None)
 
 -- a load of the place is the event that is named for the log before it and the word, where one is
@@ -154,9 +153,8 @@ pub record CanBegin (v : View) : Type 0 where
   pub in_none : v.pending ≡ None
 
 -- the seat's call may end as this call: its command is the one in progress and its stamp the next,
--- all that was installed is
--- resolved, the calls of the seat stand in its log with it, and it is fresh for what was seen when
--- it began
+-- all that was installed is resolved, the calls of the seat stand in its log with it, and it is
+-- fresh for what was seen when it began
 -- Who meets it: each call of a pass that answers, by the laws on standing: a get by its search, an
 -- update by its yes
 pub record CanEnd (v : View) (call : Call) : Type 0 where

@@ -64,7 +64,7 @@ pass_of v node i log word =
         && (not (is_change (ref_of word)) && not (word == unset_word))
     then Some (Pass (number_of v.who) node i word) else None
 
--- a caller may pass a slot of a node that it has seen marked or finished: at the place of the slot
+-- a caller may try to pass a slot of a published node: at the place of the slot
 -- Who meets it: who marks a subtree, at each slot of a node behind its mark
 pub record CanLoadPass (v : View) (node i place : ℕ) : Type 0 where
   pub number : ℕ
