@@ -1,5 +1,6 @@
 pub mod NumberLemmas
 pub mod WordLemmas
+pub mod ModeLemmas
 pub mod FirstLemmas
 pub mod CutLemmas
 pub mod BufferLemmas

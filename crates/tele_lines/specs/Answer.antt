@@ -8,7 +8,7 @@ use Rattle.tele_lines.specs.declared.items.Item.TheVariants.{Point, Interval}
 use Rattle.tele_lines.specs.declared.items.Cause.{Cause}
 use Rattle.tele_lines.specs.declared.items.Cause.TheVariants.{Long, Letter, Fields, Number, Lines}
 use Rattle.tele_lines.specs.declared.items.Version.{Version}
-use Rattle.tele_lines.specs.Lines.{line_limit, lines_of, whole_lines}
+use Rattle.tele_lines.specs.Lines.{line_limit, lines_of}
 use Rattle.tele_lines.specs.Numerals.{number_text}
 use Rattle.tele_lines.specs.declared.items.Said.{Said}
 use Rattle.tele_lines.specs.declared.items.Said.TheVariants.{Skips, Chooses, Asks, Fails}
@@ -90,13 +90,13 @@ pub record Answer : Type 0 where
 abbrev pub answer_to : List Read → Answer
 answer_to lines = record { text = text_of no_pairs lines; status = status_of lines }
 
+-- the lines of an input that say something, up to the first bad one
+abbrev pub input_lines : List (List ℕ) → List Read
+input_lines lines = read_from line_limit 1 None lines
+
 -- the answer to some bytes
 abbrev pub answer : List ℕ → Answer
-answer bytes = answer_to (read_from line_limit 1 None (lines_of bytes))
-
--- the answer to those lines of some bytes that a newline ends
-abbrev pub whole_answer : List ℕ → Answer
-whole_answer bytes = answer_to (read_from line_limit 1 None (whole_lines bytes))
+answer bytes = answer_to (input_lines (lines_of bytes))
 
 -- the line that is printed where the words of the command line are refused
 abbrev pub usage_text : List ℕ

@@ -3,6 +3,7 @@ pub mod Lines
 pub mod Numerals
 pub mod Readings
 pub mod Answer
+pub mod Rounds
 pub mod Progress
 -- what the functions inside this crate promise each other
 pub mod Words

@@ -50,6 +50,10 @@ count_of lines = lines.count
 abbrev pub version_of : Lines → Version
 version_of lines = version_in lines.mode
 
+-- by which version the next line is read, once a line has said something
+abbrev pub mode_of : Lines → Mode
+mode_of lines = lines.mode
+
 -- why the line behind them is bad, once it was found to be
 abbrev pub stop_of : Lines → Option Cause
 stop_of lines = lines.stop

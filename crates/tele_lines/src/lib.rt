@@ -1,7 +1,7 @@
 //! Telemetry lines: reading them from a source of bytes, and printing the replies to a sink.
 //!
-//! Read `specs/Lines.antt`, `specs/Readings.antt` and `specs/Answer.antt`, then `reader.rt` and
-//! `printing.rt`. Stands on `ist_core` and `tele_io`.
+//! Read `specs/Lines.antt`, `specs/Readings.antt`, `specs/Answer.antt` and `specs/Rounds.antt`, then
+//! `reader.rt` and `printing.rt`. Stands on `ist_core` and `tele_io`.
 #![tactic(auto)]
 
 mod buffers;

@@ -26,12 +26,12 @@ pub struct Lines {
 }
 
 impl Lines {
-    ghost use Rattle.std.specs.Prelude.{◌≡◌, ◌+◌, ◌<◌, ◌≤◌, ◌^◌, [], ◌∷◌, Some, None, IfOk, IfSome, IfNone, IsOk, OnOk, OnErr, Ok, Err, true, false, length, take, drop};
+    ghost use Rattle.std.specs.Prelude.{◌≡◌, ◌+◌, ◌<◌, ◌≤◌, ◌^◌, [], ◌∷◌, Some, None, IfOk, IfSome, IfNone, IsSome, IsOk, OnOk, OnErr, Ok, Err, true, false, length, take, drop};
     ghost use Rattle.tele_io.specs.Bytes.{HaveRisen, Keeps};
     ghost use Rattle.tele_lines.specs.Readings.{reading};
     ghost use Rattle.tele_lines.specs.Lines.{lines_of};
     ghost use Rattle.tele_lines.specs.Answer.{Bad, Good};
-    ghost use Rattle.tele_lines.specs.Progress.{Continues, GoesTo, given, read_at, version_of, behind, place_of, limit_of, count_of, stop_of, has_ended, kept_of, unread, TellsEnd, Waits, IsDone, TakesLine, MeetsLine};
+    ghost use Rattle.tele_lines.specs.Progress.{Continues, GoesTo, given, read_at, version_of, mode_of, behind, place_of, limit_of, count_of, stop_of, has_ended, kept_of, unread, TellsEnd, Waits, IsDone, TakesLine, MeetsLine};
     ghost use Rattle.tele_lines.specs.Buffers.{EndsAt};
 
     /// A reader that has read nothing, and allows so many lines.
@@ -109,6 +109,9 @@ impl Lines {
             TellsEnd self.new (S.left source.new) }
         ensures ended { has_ended self.old ≡ true → has_ended self.new ≡ true }
         ensures limit { limit_of self.new ≡ limit_of self.old }
+        ensures chosen { IfOk result (λ next. IfSome next (λ _.
+            mode_of self.new ≡ Some (version_of self.new))) }
+        ensures steady { IsSome (mode_of self.old) → mode_of self.new ≡ mode_of self.old }
         ensures counted { S.faults source.old ≤ S.faults source.new }
     {
         if let Some(cause) = self.stop {
@@ -173,6 +176,7 @@ impl Lines {
             TellsEnd self.new (S.left source.new) }
         ensures ended { has_ended self.old ≡ true → has_ended self.new ≡ true }
         ensures limit { limit_of self.new ≡ limit_of self.old }
+        ensures steady { IsSome (mode_of self.old) → mode_of self.new ≡ mode_of self.old }
         ensures counted { S.faults source.old ≤ S.faults source.new }
     {
         match gather(&mut self.buffer, &mut self.ended, source) {
@@ -206,6 +210,7 @@ impl Lines {
 
         ensures ended { self.new.ended ≡ self.old.ended }
         ensures limit { self.new.limit ≡ self.old.limit }
+        ensures steady { IsSome self.old.mode → self.new.mode ≡ self.old.mode }
     {
         let len = self.buffer.bytes().len();
         match end {
@@ -238,6 +243,7 @@ impl Lines {
 
         ensures ended { self.new.ended ≡ self.old.ended }
         ensures limit { self.new.limit ≡ self.old.limit }
+        ensures steady { IsSome self.old.mode → self.new.mode ≡ self.old.mode }
     {
         let number = self.count + 1;
         let said = read_line(self.limit, number, self.mode, &self.buffer.bytes()[..len]);

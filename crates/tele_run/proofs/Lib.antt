@@ -1,2 +1,9 @@
+pub mod RoundLemmas
+pub mod AnswerLemmas
+pub mod RepliesLemmas
+pub mod TakeLemmas
+pub mod StepLemmas
+pub mod JobLemmas
+pub mod MadeLemmas
 pub mod DueLemmas
 pub mod ToldLemmas

@@ -1,65 +1,81 @@
 -- The steps of a run where the source may tell nothing of its bytes. Serves the steps and the loop over them.
-use Rattle.std.proofs.Common.{◌≡◌, ℕ, List, [], ◌∷◌, ◌++◌, Bool, true, false, refl, sym, ◌∙◌, ap, subst, append_assoc, append-nil}
+use Rattle.std.proofs.Common.{◌≡◌, ℕ, ◌<◌, List, [], ◌++◌, Bool, true, false, refl, sym, ◌∙◌, ap, subst, append_assoc, append-nil, length}
 use Rattle.std.specs.Prelude.{Option, Some, None, IfSome, option_map, if◌then◌else◌}
-use Rattle.ist_core.specs.Map.{Map, no_pairs}
+use Rattle.ist_core.specs.Map.{no_pairs}
 use Rattle.tele_io.specs.Bytes.{Appends, AppendsPart}
 use Rattle.tele_io.proofs.AppendsLemmas.{Appends-nothing}
-use Rattle.tele_lines.specs.declared.items.Item.{Item}
-use Rattle.tele_lines.specs.declared.items.Version.{Version}
-use Rattle.tele_lines.specs.declared.items.Cause.{Cause}
 use Rattle.tele_lines.specs.declared.reader.Lines.{Lines}
 use Rattle.tele_lines.specs.Lines.{line_limit, lines_of, whole_lines}
-use Rattle.tele_lines.specs.Answer.{Good, Bad, text_of, status_of, bad_text}
+use Rattle.tele_lines.specs.Answer.{Read, text_of, status_of}
+use Rattle.tele_lines.specs.Rounds.{round_limit}
 use Rattle.tele_lines.specs.Buffers.{unread_of}
-use Rattle.tele_lines.specs.Progress.{Place, place_of, read_at, GoesTo, Waits, unread}
-use Rattle.tele_run.specs.Due.{item_text, map_behind, due, whole_due, GoesOn, Ends}
+use Rattle.tele_lines.specs.Progress.{Place, place_of, version_of, read_at, GoesTo, Waits, unread}
+use Rattle.tele_run.specs.Open.{Open, asked, map_in}
+use Rattle.tele_run.specs.Due.{Moment, moment_of, Takes, due, whole_due, whole_text, GoesOn, Ends}
 use Rattle.tele_run.specs.Causes.{Stops}
-use Rattle.tele_run.proofs.DueLemmas.{answered, answered_part, named, on_and_on, on_and_end, on_and_part}
+use Rattle.tele_run.proofs.RoundLemmas.{in_whole-open}
+use Rattle.tele_run.proofs.AnswerLemmas.{status-asked}
+use Rattle.tele_run.proofs.DueLemmas.{went_on, part_of_due, ended_so, ended_part, on_and_on, on_and_end, on_and_part}
+
+-- no line is open, and the map has no key
+abbrev pub first_at : Place → Moment
+first_at place = record { m = no_pairs; lines = []; place = place }
 
 -- before the first line
-abbrev pub first_place : Place
-first_place = record { limit = line_limit; count = 0; mode = None }
+abbrev pub first_moment : Moment
+first_moment = first_at (record { limit = line_limit; count = 0; mode = None })
 
--- a good line whose reply was printed
-pub answered_if : (m next : Map) (old new : Place) (number : ℕ) (version : Version) (item : Item) (unread : Option (List ℕ)) (ended : Bool)
-    (before written now : Option (List ℕ)) → next ≡ map_behind m item
-    → IfSome unread (λ bytes. GoesTo old new ended (Good number version item ∷ []) bytes now)
-    → Appends before written (item_text version number m item)
-    → IfSome unread (λ bytes. GoesOn m old bytes before written ended now next new)
-answered_if m next old new number version item None ended before written now is goes writes = tt
-answered_if m next old new number version item (Some bytes) ended before written now is goes writes =
-    answered m next old new number version item bytes ended before written now is goes writes
+-- a round without lines, over the map with no key
+abbrev pub no_round : Open
+no_round = record { pairs = []; tasks = []; answers = [] }
 
--- a part of a good line's reply
-pub part_if : (m : Map) (old new : Place) (number : ℕ) (version : Version) (item : Item) (unread : Option (List ℕ)) (ended : Bool)
-    (before written now : Option (List ℕ))
-    → IfSome unread (λ bytes. GoesTo old new ended (Good number version item ∷ []) bytes now)
-    → AppendsPart before written (item_text version number m item)
-    → IfSome unread (λ bytes. AppendsPart before written (due m old bytes).text)
-part_if m old new number version item None ended before written now goes part = tt
-part_if m old new number version item (Some bytes) ended before written now goes part =
-    answered_part m old new number version item bytes ended before written now goes part
+-- a fresh reader and such a round are there
+pub at_first : (lines : Lines) (round : Open) → place_of lines ≡ first_moment.place → round ≡ no_round
+    → moment_of lines round ≡ first_moment
+at_first lines round place empty =
+    ap (moment_of lines) empty ∙ ap first_at place
 
--- a bad line that was named
-pub named_if : (m : Map) (place : Place) (number : ℕ) (cause : Cause) (unread before written : Option (List ℕ))
-    → IfSome unread (λ bytes. read_at place (lines_of bytes) ≡ Bad number cause ∷ [])
-    → Appends before written (bad_text number cause)
-    → IfSome unread (λ bytes. Ends (due m place bytes) before written 3)
-named_if m place number cause None before written reads writes = tt
-named_if m place number cause (Some bytes) before written reads writes = named m place number cause bytes before written reads writes
+-- lines were read and taken into the round
+pub went_on_if : (was now : Moment) (lines given : List Read) (unread : Option (List ℕ)) (ended : Bool)
+    (before written left : Option (List ℕ)) → was.lines ≡ lines
+    → IfSome unread (λ bytes. GoesTo was.place now.place ended given bytes left)
+    → Takes was.m (lines ++ given) before written now.m now.lines
+    → IfSome unread (λ bytes. GoesOn was bytes before written ended left now)
+went_on_if was now lines given None ended before written left is goes takes = tt
+went_on_if was now lines given (Some bytes) ended before written left is goes takes =
+    went_on was now lines given bytes ended before written left is goes takes
 
--- a part of a bad line's text
-pub bad_part_if : (m : Map) (place : Place) (number : ℕ) (cause : Cause) (unread before written : Option (List ℕ))
-    → IfSome unread (λ bytes. read_at place (lines_of bytes) ≡ Bad number cause ∷ [])
-    → AppendsPart before written (bad_text number cause)
-    → IfSome unread (λ bytes. AppendsPart before written (due m place bytes).text)
-bad_part_if m place number cause None before written reads part = tt
-bad_part_if m place number cause (Some bytes) before written reads part =
-    subst (AppendsPart before written) (sym (ap (text_of m) reads)) part
+-- a part of what good lines are answered
+pub part_if : (was : Moment) (next : Place) (lines given : List Read) (unread : Option (List ℕ)) (ended : Bool)
+    (before written left : Option (List ℕ)) → was.lines ≡ lines → status_of (lines ++ given) ≡ 0
+    → IfSome unread (λ bytes. GoesTo was.place next ended given bytes left)
+    → AppendsPart before written (text_of was.m (lines ++ given))
+    → IfSome unread (λ bytes. AppendsPart before written (due was bytes).text)
+part_if was next lines given None ended before written left is good goes part = tt
+part_if was next lines given (Some bytes) ended before written left is good goes part =
+    part_of_due was lines given bytes (read_at next (lines_of goes.rest)) before written is goes.reads good part
+
+-- the last lines were answered
+pub ended_if : (was : Moment) (lines last : List Read) (unread : Option (List ℕ)) (ending : ℕ) (before written : Option (List ℕ))
+    → was.lines ≡ lines → ending ≡ status_of (lines ++ last)
+    → IfSome unread (λ bytes. read_at was.place (lines_of bytes) ≡ last)
+    → Appends before written (text_of was.m (lines ++ last))
+    → IfSome unread (λ bytes. Ends (due was bytes) before written ending)
+ended_if was lines last None ending before written is status reads writes = tt
+ended_if was lines last (Some bytes) ending before written is status reads writes =
+    ended_so was lines last bytes ending before written is reads status writes
+
+-- or a part of what they are answered
+pub ended_part_if : (was : Moment) (lines last : List Read) (unread before written : Option (List ℕ))
+    → was.lines ≡ lines → IfSome unread (λ bytes. read_at was.place (lines_of bytes) ≡ last)
+    → AppendsPart before written (text_of was.m (lines ++ last))
+    → IfSome unread (λ bytes. AppendsPart before written (due was bytes).text)
+ended_part_if was lines last None before written is reads part = tt
+ended_part_if was lines last (Some bytes) before written is reads part =
+    ended_part was lines last bytes before written is reads part
 
 all_is_due : (left before : Option (List ℕ))
-    → IfSome left
-    (λ bytes. GoesOn no_pairs first_place bytes before before false (unread_of [] false left) no_pairs first_place)
+    → IfSome left (λ bytes. GoesOn first_moment bytes before before false (unread_of [] false left) first_moment)
 all_is_due None before = tt
 all_is_due (Some bytes) before = record {
   bytes = bytes;
@@ -75,48 +91,45 @@ all_is_due (Some bytes) before = record {
 }
 
 -- before the first line all is due
-pub all_due : (left before : Option (List ℕ)) (kept : List ℕ) (ended : Bool) (m : Map) (place : Place)
-    → kept ≡ [] → ended ≡ false → m ≡ no_pairs → place ≡ first_place
-    → IfSome left
-    (λ bytes. GoesOn no_pairs first_place bytes before before ended (unread_of kept ended left) m place)
-all_due left before kept ended m place no_bytes going no_keys first =
-    let P = λ (kept : List ℕ) (ended : Bool) (m : Map) (place : Place).
-    IfSome left (λ bytes. GoesOn no_pairs first_place bytes before before ended (unread_of kept ended left) m place) in
-    subst (λ p. P kept ended m p) (sym first)
-    (subst (λ m. P kept ended m first_place) (sym no_keys)
-    (subst (λ e. P kept e no_pairs first_place) (sym going)
-    (subst (λ k. P k false no_pairs first_place) (sym no_bytes) (all_is_due left before))))
+pub all_due : (left before : Option (List ℕ)) (kept : List ℕ) (ended : Bool) (now : Moment)
+    → kept ≡ [] → ended ≡ false → now ≡ first_moment
+    → IfSome left (λ bytes. GoesOn first_moment bytes before before ended (unread_of kept ended left) now)
+all_due left before kept ended now no_bytes going first =
+    let P = λ (kept : List ℕ) (ended : Bool) (now : Moment).
+    IfSome left (λ bytes. GoesOn first_moment bytes before before ended (unread_of kept ended left) now) in
+    subst (λ n. P kept ended n) (sym first)
+    (subst (λ e. P kept e first_moment) (sym going)
+    (subst (λ k. P k false first_moment) (sym no_bytes) (all_is_due left before)))
 
 -- one step after another
-pub on_and_on_if : (left : Option (List ℕ)) (mid_m last_m : Map) (mid last : Place) (before written later : Option (List ℕ))
+pub on_and_on_if : (left : Option (List ℕ)) (mid last : Moment) (before written later : Option (List ℕ))
     (ended now_ended : Bool) (unread now : Option (List ℕ)) → (ended ≡ true → now_ended ≡ true)
-    → IfSome left (λ bytes. GoesOn no_pairs first_place bytes before written ended unread mid_m mid)
-    → IfSome unread (λ bytes. GoesOn mid_m mid bytes written later now_ended now last_m last)
-    → IfSome left
-    (λ bytes. GoesOn no_pairs first_place bytes before later now_ended now last_m last)
-on_and_on_if None mid_m last_m mid last before written later ended now_ended unread now lasts one two = tt
-on_and_on_if (Some bytes) mid_m last_m mid last before written later ended now_ended unread now lasts one two =
-    on_and_on no_pairs mid_m last_m first_place mid last bytes before written later ended now_ended unread now lasts one two
+    → IfSome left (λ bytes. GoesOn first_moment bytes before written ended unread mid)
+    → IfSome unread (λ bytes. GoesOn mid bytes written later now_ended now last)
+    → IfSome left (λ bytes. GoesOn first_moment bytes before later now_ended now last)
+on_and_on_if None mid last before written later ended now_ended unread now lasts one two = tt
+on_and_on_if (Some bytes) mid last before written later ended now_ended unread now lasts one two =
+    on_and_on first_moment mid last bytes before written later ended now_ended unread now lasts one two
 
 -- and the end
-pub on_and_end_if : (left : Option (List ℕ)) (m : Map) (place : Place) (ending : ℕ) (before written later : Option (List ℕ))
+pub on_and_end_if : (left : Option (List ℕ)) (mid : Moment) (ending : ℕ) (before written later : Option (List ℕ))
     (ended : Bool) (unread : Option (List ℕ))
-    → IfSome left (λ bytes. GoesOn no_pairs first_place bytes before written ended unread m place)
-    → IfSome unread (λ bytes. Ends (due m place bytes) written later ending)
-    → IfSome left (λ bytes. Ends (due no_pairs first_place bytes) before later ending)
-on_and_end_if None m place ending before written later ended unread one two = tt
-on_and_end_if (Some bytes) m place ending before written later ended unread one two =
-    on_and_end no_pairs m first_place place ending bytes before written later ended unread one two
+    → IfSome left (λ bytes. GoesOn first_moment bytes before written ended unread mid)
+    → IfSome unread (λ bytes. Ends (due mid bytes) written later ending)
+    → IfSome left (λ bytes. Ends (due first_moment bytes) before later ending)
+on_and_end_if None mid ending before written later ended unread one two = tt
+on_and_end_if (Some bytes) mid ending before written later ended unread one two =
+    on_and_end first_moment mid ending bytes before written later ended unread one two
 
 -- or a part
-pub on_and_part_if : (left : Option (List ℕ)) (m : Map) (place : Place) (before written later : Option (List ℕ))
+pub on_and_part_if : (left : Option (List ℕ)) (mid : Moment) (before written later : Option (List ℕ))
     (ended : Bool) (unread : Option (List ℕ))
-    → IfSome left (λ bytes. GoesOn no_pairs first_place bytes before written ended unread m place)
-    → IfSome unread (λ bytes. AppendsPart written later (due m place bytes).text)
-    → IfSome left (λ bytes. AppendsPart before later (due no_pairs first_place bytes).text)
-on_and_part_if None m place before written later ended unread one two = tt
-on_and_part_if (Some bytes) m place before written later ended unread one two =
-    on_and_part no_pairs m first_place place bytes before written later ended unread one two
+    → IfSome left (λ bytes. GoesOn first_moment bytes before written ended unread mid)
+    → IfSome unread (λ bytes. AppendsPart written later (due mid bytes).text)
+    → IfSome left (λ bytes. AppendsPart before later (due first_moment bytes).text)
+on_and_part_if None mid before written later ended unread one two = tt
+on_and_part_if (Some bytes) mid before written later ended unread one two =
+    on_and_part first_moment mid bytes before written later ended unread one two
 
 -- what is unread before the end are the bytes that were kept, and those that the source has left
 record Splits (kept bytes : List ℕ) (left : Option (List ℕ)) : Type 0 where
@@ -131,61 +144,33 @@ splits kept bytes true left going is = absurd (cc going)
 splits kept bytes false (Some rest) going is = record { rest = rest; leaves = refl; same = cc is }
 splits kept bytes false None going is = absurd (cc is)
 
--- lines that were passed over change nothing that is due
-passes : (m : Map) (old new : Place) (bytes : List ℕ) (ended : Bool) (written now : Option (List ℕ))
-    → GoesTo old new ended [] bytes now
-    → GoesOn m old bytes written written ended now m new
-passes m old new bytes ended written now goes = record {
-  bytes = goes.rest;
-  taken = goes.taken;
-  printed = [];
-  leaves = goes.left;
-  same = goes.same;
-  writes = Appends-nothing written;
-  text = sym (ap (text_of m) goes.reads);
-  status = sym (ap status_of goes.reads);
-  whole_text = λ going more. ap (text_of m) (goes.whole going more);
-  whole_status = λ going more. ap status_of (goes.whole going more);
-}
-
-passes_if : (m : Map) (old new : Place) (before : Option (List ℕ)) (ended : Bool) (written now : Option (List ℕ))
-    → IfSome before (λ bytes. GoesTo old new ended [] bytes now)
-    → IfSome before (λ bytes. GoesOn m old bytes written written ended now m new)
-passes_if m old new None ended written now goes = tt
-passes_if m old new (Some bytes) ended written now goes = passes m old new bytes ended written now goes
-
--- a failed read, where the reader has kept bytes without a whole line
-stops_at : (bytes : List ℕ) (before written later : Option (List ℕ)) (m : Map) (lines : Lines) (left : Option (List ℕ))
-    → GoesOn no_pairs first_place bytes before written lines.ended (unread lines left) m
-    (place_of lines)
-    → Waits lines → later ≡ written
-    → Stops bytes left before later
-stops_at bytes before written later m lines left one waits silent =
+-- a failed read, where the reader has kept bytes without a whole line, and the round is open
+stops_at : (bytes : List ℕ) (before written : Option (List ℕ)) (round : Open) (lines : Lines) (left : Option (List ℕ))
+    → GoesOn first_moment bytes before written lines.ended (unread lines left) (moment_of lines round)
+    → Waits lines → length round.tasks < round_limit → Stops bytes left before written
+stops_at bytes before written round lines left one waits few =
     let split = splits lines.buffer one.bytes lines.ended left waits.open_end one.leaves in
-    let kept = whole_due no_pairs first_place (one.taken ++ lines.buffer) in
-    let no_more : read_at (place_of lines) (whole_lines lines.buffer) ≡ [] = ap (read_at (place_of lines)) waits.no_line in
+    let open_lines = asked (version_of lines) round.tasks in
+    let kept = whole_due first_moment (one.taken ++ lines.buffer) in
+    let no_more : open_lines ++ read_at (place_of lines) (whole_lines lines.buffer) ≡ open_lines =
+    ap (λ ls. open_lines ++ read_at (place_of lines) ls) waits.no_line ∙ append-nil open_lines in
+    let none : whole_text (map_in round) open_lines ≡ [] = ap (text_of (map_in round)) (in_whole-open (version_of lines) round.tasks few) in
     let text : kept.text ≡ one.printed =
-    one.whole_text waits.open_end lines.buffer ∙ ap (λ rs. one.printed ++ text_of m rs) no_more ∙ append-nil one.printed in
+    one.whole_text waits.open_end lines.buffer ∙ ap (λ ls. one.printed ++ whole_text (map_in round) ls) no_more
+    ∙ ap (λ text. one.printed ++ text) none ∙ append-nil one.printed in
+    let good : status_of open_lines ≡ 0 =
+    ap status_of (sym (append-nil open_lines)) ∙ status-asked (version_of lines) round.tasks [] in
     record {
       taken = one.taken ++ lines.buffer;
       rest = split.rest;
       same = one.same ∙ ap (λ xs. one.taken ++ xs) split.same ∙ sym (append_assoc {A = ℕ} one.taken lines.buffer split.rest);
       leaves = split.leaves;
-      writes = subst (λ w. Appends before w kept.text) (sym silent) (subst (Appends before written) (sym text) one.writes);
-      good = one.whole_status waits.open_end lines.buffer ∙ ap status_of no_more;
+      writes = subst (Appends before written) (sym text) one.writes;
+      good = one.whole_status waits.open_end lines.buffer ∙ ap status_of no_more ∙ good;
     }
 
-pub stops_if : (all : Option (List ℕ)) (before written later : Option (List ℕ)) (m : Map) (old : Place) (ended : Bool)
-    (unread_then : Option (List ℕ)) (lines : Lines) (left : Option (List ℕ))
-    → (ended ≡ true → lines.ended ≡ true)
-    → IfSome all (λ bytes. GoesOn no_pairs first_place bytes before written ended unread_then m old)
-    → IfSome unread_then
-    (λ bytes. GoesTo old (place_of lines) lines.ended [] bytes (unread lines left))
-    → Waits lines → later ≡ written → IfSome all (λ bytes. Stops bytes left before later)
-stops_if None before written later m old ended unread_then lines left lasts one goes waits silent = tt
-stops_if (Some bytes) before written later m old ended unread_then lines left lasts one goes waits silent =
-    let passed : IfSome unread_then (λ bytes. GoesOn m old bytes written written lines.ended (unread lines left) m (place_of lines)) =
-    passes_if m old (place_of lines) unread_then lines.ended written (unread lines left) goes in
-    stops_at bytes before written later m lines left
-    (on_and_on no_pairs m m first_place old (place_of lines) bytes before written written ended lines.ended unread_then (unread lines left) lasts one passed)
-    waits silent
+pub stops_if : (all before written : Option (List ℕ)) (round : Open) (lines : Lines) (left : Option (List ℕ))
+    → IfSome all (λ bytes. GoesOn first_moment bytes before written lines.ended (unread lines left) (moment_of lines round))
+    → Waits lines → length round.tasks < round_limit → IfSome all (λ bytes. Stops bytes left before written)
+stops_if None before written round lines left one waits few = tt
+stops_if (Some bytes) before written round lines left one waits few = stops_at bytes before written round lines left one waits few

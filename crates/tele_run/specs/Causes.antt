@@ -1,12 +1,12 @@
 -- Which statuses a run ends with, and what was written then.
-use Rattle.std.specs.Prelude.{◌≡◌, ℕ, ◌⊎◌, nat_lt, Bool, true, false, List, ◌++◌, Option, Some}
+use Rattle.std.specs.Prelude.{◌≡◌, ℕ, ◌⊎◌, List, ◌++◌, Option, Some}
 use Rattle.tele_io.specs.Bytes.{Appends}
-use Rattle.tele_lines.specs.Answer.{whole_answer}
+use Rattle.tele_lines.specs.Lines.{whole_lines}
+use Rattle.tele_lines.specs.Answer.{input_lines, status_of}
+use Rattle.tele_lines.specs.Rounds.{done}
+use Rattle.tele_run.specs.declared.jobs.Job.{Job}
+use Rattle.tele_run.specs.declared.jobs.Job.TheVariants.{Refuse, Make, Read}
 use Rattle.tele_run.specs.declared.outcomes.TheConstants.{ANSWERED, USAGE, BAD_LINE, READ_FAILED, WRITE_FAILED, NO_MEMORY}
-
--- whether a command line with so many words, the program's name among them, is refused
-abbrev pub are_refused : ℕ → Bool
-are_refused count = nat_lt 1 count
 
 -- the input was answered as far as it has meaning
 abbrev pub IsAnswer : ℕ → Type 0
@@ -16,21 +16,24 @@ IsAnswer status = (status ≡ ANSWERED) ⊎ (status ≡ BAD_LINE)
 abbrev pub IsCutShort : ℕ → Type 0
 IsCutShort status = (status ≡ WRITE_FAILED) ⊎ (status ≡ NO_MEMORY)
 
--- the statuses of a run: of one whose words are refused, and of any other
-abbrev pub IsStatus : Bool → ℕ → Type 0
-IsStatus true status = (status ≡ USAGE) ⊎ IsCutShort status
-IsStatus false status = IsAnswer status ⊎ ((status ≡ READ_FAILED) ⊎ IsCutShort status)
+-- the statuses of a run, by its job
+abbrev pub IsStatus : Job → ℕ → Type 0
+IsStatus Refuse status = (status ≡ USAGE) ⊎ IsCutShort status
+IsStatus (Make count seed) status = (status ≡ ANSWERED) ⊎ IsCutShort status
+IsStatus Read status = IsAnswer status ⊎ ((status ≡ READ_FAILED) ⊎ IsCutShort status)
 
 -- the text was written whole
-abbrev pub IsWhole : Bool → ℕ → Type 0
-IsWhole true status = status ≡ USAGE
-IsWhole false status = IsAnswer status
+abbrev pub IsWhole : Job → ℕ → Type 0
+IsWhole Refuse status = status ≡ USAGE
+IsWhole (Make count seed) status = status ≡ ANSWERED
+IsWhole Read status = IsAnswer status
 
--- some of the bytes were taken, the lines among them that a newline ends are good, and their replies were written
+-- some of the bytes were taken, none of the lines that a newline ends in them is bad, and the text of
+-- their whole rounds was written
 pub record Stops (bytes : List ℕ) (left before written : Option (List ℕ)) : Type 0 where
   pub taken : List ℕ
   pub rest : List ℕ
   pub same : bytes ≡ taken ++ rest
   pub leaves : left ≡ Some rest
-  pub writes : Appends before written (whole_answer taken).text
-  pub good : (whole_answer taken).status ≡ ANSWERED
+  pub writes : Appends before written (done taken)
+  pub good : status_of (input_lines (whole_lines taken)) ≡ ANSWERED

@@ -1,52 +1,74 @@
 -- What a run has still to write, at a moment between two lines.
 use Rattle.std.specs.Prelude.{◌≡◌, ℕ, Bool, false, List, ◌++◌, Option, Some}
-use Rattle.ist_core.specs.Map.{Map, map_after, reply_to, listed}
+use Rattle.ist_core.specs.Map.{Map}
 use Rattle.tele_io.specs.Bytes.{Appends}
-use Rattle.tele_lines.specs.declared.items.Item.{Item}
-use Rattle.tele_lines.specs.declared.items.Item.TheVariants.{Point, Interval}
-use Rattle.tele_lines.specs.declared.items.Version.{Version}
+use Rattle.tele_lines.specs.declared.reader.Lines.{Lines}
 use Rattle.tele_lines.specs.Lines.{lines_of, whole_lines}
-use Rattle.tele_lines.specs.Answer.{Answer, Read, text_of, status_of, answer_text, interval_text}
-use Rattle.tele_lines.specs.Progress.{Place, read_at}
+use Rattle.tele_lines.specs.Answer.{Answer, Read, text_of, status_of}
+use Rattle.tele_lines.specs.Rounds.{in_whole_rounds}
+use Rattle.tele_lines.specs.Progress.{Place, read_at, place_of, version_of}
+use Rattle.tele_run.specs.Open.{Open, asked, map_in}
 
--- what is printed for an item, by the map before it
-abbrev pub item_text : Version → ℕ → Map → Item → List ℕ
-item_text version number m (Point command) = answer_text version number (reply_to m command)
-item_text version number m (Interval first last) = interval_text version number (listed first last m)
+-- a moment of a run: the map behind the rounds that were answered, the lines of the open round, and
+-- how far the reading has come
+pub record Moment : Type 0 where
+  pub m : Map
+  pub lines : List Read
+  pub place : Place
 
--- the map behind an item
-abbrev pub map_behind : Map → Item → Map
-map_behind m (Point command) = map_after m command
-map_behind m (Interval first last) = m
+-- the moment at which a reader and an open round are
+abbrev pub moment_of : Lines → Open → Moment
+moment_of lines open_round = record {
+  m = map_in open_round;
+  lines = asked (version_of lines) open_round.tasks;
+  place = place_of lines;
+}
 
--- the answer to some lines, by the map before them
-abbrev pub answer_by : Map → List Read → Answer
-answer_by m lines = record { text = text_of m lines; status = status_of lines }
+-- the text of those of some lines that stand in whole rounds, by the map before them
+abbrev pub whole_text : Map → List Read → List ℕ
+whole_text m lines = text_of m (in_whole_rounds lines)
 
--- the answer to the bytes behind a place, by the map behind the lines before it
-abbrev pub due : Map → Place → List ℕ → Answer
-due m place bytes = answer_by m (read_at place (lines_of bytes))
+-- the answer to the lines of the open round, and to the bytes behind them
+abbrev pub due : Moment → List ℕ → Answer
+due at bytes =
+    let lines = at.lines ++ read_at at.place (lines_of bytes) in
+    record { text = text_of at.m lines; status = status_of lines }
 
--- the same for those lines alone that a newline ends
-abbrev pub whole_due : Map → Place → List ℕ → Answer
-whole_due m place bytes = answer_by m (read_at place (whole_lines bytes))
+-- the same for those lines alone that a newline ends, and of these the text of the whole rounds
+abbrev pub whole_due : Moment → List ℕ → Answer
+whole_due at bytes =
+    let lines = at.lines ++ read_at at.place (whole_lines bytes) in
+    record { text = whole_text at.m lines; status = status_of lines }
 
--- from one moment to a later one: what was printed since, and what is due for the bytes that are unread now, is what was due
--- for the bytes that were unread then; and unless the input has ended, what was printed is for lines that a newline ends
-pub record GoesOn (then_m : Map) (then_place : Place) (then_bytes : List ℕ) (before written : Option (List ℕ))
-    (ended : Bool) (unread : Option (List ℕ)) (m : Map) (place : Place) : Type 0 where
+-- some lines were taken into the round, and others are open then: what was printed and what is due
+-- then is what was due before, and what was printed is the text of whole rounds
+pub record Takes (m : Map) (lines : List Read) (before written : Option (List ℕ))
+    (then_m : Map) (then_lines : List Read) : Type 0 where
+  pub printed : List ℕ
+  pub writes : Appends before written printed
+  pub text : (more : List Read)
+      → text_of m (lines ++ more) ≡ printed ++ text_of then_m (then_lines ++ more)
+  pub status : (more : List Read) → status_of (lines ++ more) ≡ status_of (then_lines ++ more)
+  pub whole : (more : List Read)
+      → whole_text m (lines ++ more) ≡ printed ++ whole_text then_m (then_lines ++ more)
+
+-- from one moment to a later one: what was printed since, and what is due for the bytes that are
+-- unread now, is what was due for the bytes that were unread then; and unless the input has ended,
+-- what was printed is for whole rounds of lines that a newline ends
+pub record GoesOn (was : Moment) (then_bytes : List ℕ) (before written : Option (List ℕ))
+    (ended : Bool) (unread : Option (List ℕ)) (now : Moment) : Type 0 where
   pub bytes : List ℕ
   pub taken : List ℕ
   pub printed : List ℕ
   pub leaves : unread ≡ Some bytes
   pub same : then_bytes ≡ taken ++ bytes
   pub writes : Appends before written printed
-  pub text : printed ++ (due m place bytes).text ≡ (due then_m then_place then_bytes).text
-  pub status : (due m place bytes).status ≡ (due then_m then_place then_bytes).status
+  pub text : printed ++ (due now bytes).text ≡ (due was then_bytes).text
+  pub status : (due now bytes).status ≡ (due was then_bytes).status
   pub whole_text : ended ≡ false → (more : List ℕ)
-      → (whole_due then_m then_place (taken ++ more)).text ≡ printed ++ (whole_due m place more).text
+      → (whole_due was (taken ++ more)).text ≡ printed ++ (whole_due now more).text
   pub whole_status : ended ≡ false → (more : List ℕ)
-      → (whole_due then_m then_place (taken ++ more)).status ≡ (whole_due m place more).status
+      → (whole_due was (taken ++ more)).status ≡ (whole_due now more).status
 
 -- what was due before was printed whole
 pub record Ends (whole : Answer) (before written : Option (List ℕ)) (ending : ℕ) : Type 0 where

@@ -1,4 +1,6 @@
 -- what the public contracts rest on, in the order to read them
+pub mod Jobs
 pub mod Causes
 -- what the functions inside this crate promise each other
+pub mod Open
 pub mod Due

@@ -1,10 +1,14 @@
 //! The program as one call, from bytes to bytes.
 //!
 //! Read the contract of `run` in `runs.rt`. Stands on `ist_core`, `tele_io`,
-//! `tele_lines` and `plain_map`.
+//! `tele_lines`, `plain_map` and `tele_lanes`.
 #![tactic(auto)]
 
+mod jobs;
+mod made;
 mod outcomes;
+mod replies;
+mod rounds;
 mod runs;
 mod steps;
 

@@ -1,19 +1,26 @@
-//! One line: read, carried out, answered.
-ghost use Rattle.std.specs.Prelude.{◌≡◌, ◌<◌, ◌≤◌, [], Some, None, true, false, IfSome, IfNone};
-ghost use Rattle.ist_core.specs.Map.{map_of};
+//! One line: read, taken into the open round, and the round answered where it ends.
+ghost use Rattle.std.specs.Prelude.{◌≡◌, ◌<◌, ◌≤◌, [], ◌∷◌, ◌++◌, Some, None, Err, true, false, length, IsSome, IfSome, IfNone, OnOk, OnErr};
+ghost use Rattle.ist_core.specs.Map.{replay};
 ghost use Rattle.tele_io.specs.Bytes.{HaveRisen, Appends, AppendsPart};
+ghost use Rattle.tele_lanes.specs.Lines.{commands_of};
 ghost use Rattle.tele_lines.specs.Lines.{line_limit};
-ghost use Rattle.tele_lines.specs.Progress.{place_of, limit_of, count_of, stop_of, has_ended, unread, GoesTo, TellsEnd, Waits};
+ghost use Rattle.tele_lines.specs.Rounds.{round_limit};
+ghost use Rattle.tele_lines.specs.Answer.{Good, Bad, text_of};
+ghost use Rattle.tele_lines.specs.Progress.{limit_of, count_of, stop_of, mode_of, has_ended, unread, TellsEnd, Waits};
+ghost use Rattle.tele_run.specs.declared.jobs.Job.TheVariants as job;
 ghost use Rattle.tele_run.specs.Causes.{IsAnswer, IsCutShort, IsStatus};
-ghost use Rattle.tele_run.specs.Due.{due, item_text, map_behind, GoesOn, Ends};
+ghost use Rattle.tele_run.specs.Open.{asked, map_in};
+ghost use Rattle.tele_run.specs.Due.{due, moment_of, Takes, GoesOn, Ends};
 
 use crate::outcomes::{ANSWERED, BAD_LINE, NO_MEMORY, READ_FAILED, WRITE_FAILED};
-use plain_map::Plain;
+use crate::replies::print_answers;
+use crate::rounds::Round;
 use std::alloc::AllocError;
 use tele_io::{Sink, SinkFault, Source};
-use tele_lines::{Item, Line, LineFault, Lines, Version, print_answer, print_bad, print_interval};
+use tele_lanes::Task;
+use tele_lines::{Cause, Item, Line, LineFault, Lines, Version, print_bad, print_interval};
 
-/// The status at a refusal of the sink.
+/// The status at a refusal of the sink, or at want of memory.
 pub(crate) fn refused(fault: SinkFault) -> u8
     ensures failed { result ≡ WRITE_FAILED → fault ≡ SinkFault.Failed }
     ensures other { IsCutShort result }
@@ -24,43 +31,46 @@ pub(crate) fn refused(fault: SinkFault) -> u8
     }
 }
 
-/// Reads the next line that asks for something and answers it. `Some` is the status with which the
-/// run ends.
+/// Reads the next line that asks for something, takes it into the open round, and answers the round
+/// if it ends there. `Some` is the status with which the run ends.
 pub(crate) fn step<S: Source, O: Sink>(
     lines: &mut Lines,
-    plain: &mut Plain,
+    round: &mut Round,
     source: &mut S,
     out: &mut O,
 ) -> Option<u8>
     requires limit { limit_of lines.old ≡ line_limit }
     requires going { stop_of lines.old ≡ None }
+    requires open { length round.old.tasks < round_limit }
+    requires chosen { 0 < length round.old.tasks → IsSome (mode_of lines.old) }
 
     ensures goes_on { IfNone result (IfSome (unread lines.old (S.left source.old)) (λ bytes.
-        GoesOn (map_of plain.old) (place_of lines.old) bytes (O.written out.old)
-        (O.written out.new) (has_ended lines.new) (unread lines.new (S.left source.new))
-        (map_of plain.new) (place_of lines.new))) }
+        GoesOn (moment_of lines.old round.old) bytes (O.written out.old) (O.written out.new)
+        (has_ended lines.new) (unread lines.new (S.left source.new))
+        (moment_of lines.new round.new))) }
     ensures ends { IfSome result (λ status. IsAnswer status →
         IfSome (unread lines.old (S.left source.old)) (λ bytes.
-        Ends (due (map_of plain.old) (place_of lines.old) bytes) (O.written out.old)
+        Ends (due (moment_of lines.old round.old) bytes) (O.written out.old)
         (O.written out.new) status)) }
     ensures part { IfSome result (λ status. IsCutShort status →
         IfSome (unread lines.old (S.left source.old)) (λ bytes.
         AppendsPart (O.written out.old) (O.written out.new)
-        (due (map_of plain.old) (place_of lines.old) bytes).text)) }
+        (due (moment_of lines.old round.old) bytes).text)) }
 
-    ensures statuses { IfSome result (IsStatus false) }
+    ensures statuses { IfSome result (IsStatus job.Read) }
     ensures read_failed { result ≡ Some READ_FAILED →
         HaveRisen (S.faults source.old) (S.faults source.new) }
     ensures write_failed { result ≡ Some WRITE_FAILED →
         HaveRisen (O.faults out.old) (O.faults out.new) }
 
-    // A failed read leaves an unended line, and writes nothing.
+    // A failed read leaves an unended line and an open round, and writes nothing.
     ensures passed { result ≡ Some READ_FAILED →
         IfSome (unread lines.old (S.left source.old)) (λ bytes.
-        GoesTo (place_of lines.old) (place_of lines.new) (has_ended lines.new) [] bytes
-        (unread lines.new (S.left source.new))) }
+        GoesOn (moment_of lines.old round.old) bytes (O.written out.old) (O.written out.new)
+        (has_ended lines.new) (unread lines.new (S.left source.new))
+        (moment_of lines.new round.new)) }
     ensures waits { result ≡ Some READ_FAILED → Waits lines.new }
-    ensures silent { result ≡ Some READ_FAILED → out.new ≡ out.old }
+    ensures kept { result ≡ Some READ_FAILED → round.new ≡ round.old }
 
     ensures end { TellsEnd lines.old (S.left source.old) →
         TellsEnd lines.new (S.left source.new) }
@@ -74,43 +84,112 @@ pub(crate) fn step<S: Source, O: Sink>(
     ensures going { IfNone result (stop_of lines.new ≡ None) }
     ensures count { IfNone result (count_of lines.old < count_of lines.new) }
     ensures allowed { count_of lines.new ≤ line_limit }
+    ensures open { IfNone result (length round.new.tasks < round_limit) }
+    ensures chosen { IfNone result (IsSome (mode_of lines.new)) }
 {
     match lines.next(source) {
-        Ok(Some(line)) => answer(plain, out, lines.version(), line),
-        Ok(None) => Some(ANSWERED),
-        Err(LineFault::Bad { line, cause }) => match print_bad(out, line, cause) {
-            Ok(()) => Some(BAD_LINE),
+        Ok(Some(line)) => match take(round, lines.version(), line, out) {
+            Ok(()) => None,
             Err(fault) => Some(refused(fault)),
         },
+        Ok(None) => match answer(round, lines.version(), out) {
+            Ok(()) => Some(ANSWERED),
+            Err(fault) => Some(refused(fault)),
+        },
+        Err(LineFault::Bad { line, cause }) => {
+            match name(round, lines.version(), line, cause, out) {
+                Ok(()) => Some(BAD_LINE),
+                Err(fault) => Some(refused(fault)),
+            }
+        }
         Err(LineFault::Read) => Some(READ_FAILED),
     }
 }
 
-/// Carries out what a line asks for and prints the reply. `Some` is the status with which the run
-/// ends.
-fn answer<O: Sink>(plain: &mut Plain, out: &mut O, version: Version, line: Line) -> Option<u8>
-    ensures next { IfNone result (map_of plain.new ≡ map_behind (map_of plain.old) line.item) }
-    ensures printed { IfNone result (Appends (O.written out.old) (O.written out.new)
-        (item_text version line.number (map_of plain.old) line.item)) }
+/// Takes a line into the round. Where the round ends there, its lines are answered.
+fn take<O: Sink>(
+    round: &mut Round,
+    version: Version,
+    line: Line,
+    out: &mut O,
+) -> Result<(), SinkFault>
+    requires open { length round.old.tasks < round_limit }
 
-    ensures statuses { IfSome result IsCutShort }
-    ensures failed { result ≡ Some WRITE_FAILED → HaveRisen (O.faults out.old) (O.faults out.new) }
-    ensures part { IfSome result (λ _. AppendsPart (O.written out.old) (O.written out.new)
-        (item_text version line.number (map_of plain.old) line.item)) }
+    ensures taken { OnOk result (Takes (map_in round.old)
+        (asked version round.old.tasks ++ Good line.number version line.item ∷ [])
+        (O.written out.old) (O.written out.new)
+        (map_in round.new) (asked version round.new.tasks)) }
+    ensures open { OnOk result (length round.new.tasks < round_limit) }
+
+    ensures failed { result ≡ Err SinkFault.Failed →
+        HaveRisen (O.faults out.old) (O.faults out.new) }
+    ensures part { OnErr result (AppendsPart (O.written out.old) (O.written out.new)
+        (text_of (map_in round.old)
+        (asked version round.old.tasks ++ Good line.number version line.item ∷ []))) }
 
     ensures counted { O.faults out.old ≤ O.faults out.new }
 {
-    let printed = match line.item {
-        Item::Point(command) => match plain.apply(command) {
-            Ok(reply) => print_answer(out, version, line.number, reply),
-            Err(AllocError) => return Some(NO_MEMORY),
-        },
-        Item::Interval { first, last } => {
-            print_interval(out, version, line.number, plain.list(first, last))
+    match line.item {
+        Item::Point(command) => {
+            let task = Task {
+                line: line.number,
+                command,
+            };
+            if let Err(AllocError) = round.ask(task) {
+                return Err(SinkFault::Memory);
+            }
+            if round.is_full() {
+                answer(round, version, out)
+            } else {
+                Ok(())
+            }
         }
-    };
-    match printed {
-        Ok(()) => None,
-        Err(fault) => Some(refused(fault)),
+        Item::Interval { first, last } => {
+            answer(round, version, out)?;
+            print_interval(out, version, line.number, round.list(first, last))
+        }
+    }
+}
+
+/// Answers the lines of the round, and names the bad line behind them.
+fn name<O: Sink>(
+    round: &mut Round,
+    version: Version,
+    line: u64,
+    cause: Cause,
+    out: &mut O,
+) -> Result<(), SinkFault>
+    ensures printed { OnOk result (Appends (O.written out.old) (O.written out.new)
+        (text_of (map_in round.old) (asked version round.old.tasks ++ Bad line cause ∷ []))) }
+
+    ensures failed { result ≡ Err SinkFault.Failed →
+        HaveRisen (O.faults out.old) (O.faults out.new) }
+    ensures part { OnErr result (AppendsPart (O.written out.old) (O.written out.new)
+        (text_of (map_in round.old) (asked version round.old.tasks ++ Bad line cause ∷ []))) }
+
+    ensures counted { O.faults out.old ≤ O.faults out.new }
+{
+    answer(round, version, out)?;
+    print_bad(out, line, cause)
+}
+
+/// Answers the lines of the round, and prints the replies in their order.
+fn answer<O: Sink>(round: &mut Round, version: Version, out: &mut O) -> Result<(), SinkFault>
+    ensures printed { OnOk result (Appends (O.written out.old) (O.written out.new)
+        (text_of (map_in round.old) (asked version round.old.tasks))) }
+    ensures behind { OnOk result
+        (map_in round.new ≡ replay (map_in round.old) (commands_of round.old.tasks)) }
+    ensures none { OnOk result (round.new.tasks ≡ []) }
+
+    ensures failed { result ≡ Err SinkFault.Failed →
+        HaveRisen (O.faults out.old) (O.faults out.new) }
+    ensures part { OnErr result (AppendsPart (O.written out.old) (O.written out.new)
+        (text_of (map_in round.old) (asked version round.old.tasks))) }
+
+    ensures counted { O.faults out.old ≤ O.faults out.new }
+{
+    match round.close() {
+        Ok(()) => print_answers(out, version, round.answers()),
+        Err(AllocError) => Err(SinkFault::Memory),
     }
 }

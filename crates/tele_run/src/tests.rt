@@ -1,9 +1,11 @@
 //! Worked inputs, with the output that they are to have.
 
 use crate::{Outcome, run};
+use plain_map::Plain;
 use std::alloc::{AllocError, Global};
 use std::test::Fail;
 use tele_io::{MemorySink, MemorySource, QuietSink, QuietSource, Sink, Source};
+use tele_made::Maker;
 
 /// Runs over a source and a sink, with no words of a command line.
 fn run_over<S: Source, O: Sink>(alloc: Global, source: &mut S, out: &mut O) -> Outcome {
@@ -124,50 +126,92 @@ fn a_line_has_at_most_80_bytes(rt: HostRuntime) -> Result<(), Fail> {
     Ok(())
 }
 
+/// Runs with these words behind the program's name, over a source that fails if it is read.
+fn run_unread(alloc: Global, more: &[&str]) -> Result<(Vec<u8>, u8), AllocError> {
+    let mut words = Vec::new(alloc);
+    words.push("tele".to_string(alloc)?)?;
+    for word in more {
+        words.push(word.to_string(alloc)?)?;
+    }
+    let mut source = MemorySource::new(b"P 5 7\n".to_vec(alloc)?, 6, [0].to_vec(alloc)?);
+    let mut out = QuietSink::new(alloc);
+    let outcome = run(&(), alloc, words.as_slice(), &mut source, &mut out);
+    Ok((out.bytes().to_vec(alloc)?, outcome.status))
+}
+
 #[test]
-fn refused_words_are_named_and_nothing_is_read(rt: HostRuntime) -> Result<(), Fail> {
+fn the_source_is_read_only_where_the_words_say_so(rt: HostRuntime) -> Result<(), Fail> {
     // the words behind the program's name, the output, the status
-    let rows: [(&[&str], &[u8], u8); 6] = [
-        (&[], b"1 -\n", 0),
+    let rows: [(&[&str], &[u8], u8); 14] = [
+        (&[], b"", 4),
+        (&["--workers", "2", "--words=64"], b"", 4),
+        (&["--seed", "7"], b"", 4),
         (&["--workers", "0"], b"! usage\n", 2),
         (&["--workers", "65"], b"! usage\n", 2),
         (&["--words", "63"], b"! usage\n", 2),
         (&["--help"], b"! usage\n", 2),
         (&["x"], b"! usage\n", 2),
+        (&["--generate", "1048577"], b"! usage\n", 2),
+        (&["--generate", "1", "--seed"], b"! usage\n", 2),
+        (
+            &["--generate", "2", "--seed", "0"],
+            b"made 2 keys 2 found 0 sum 74222\n",
+            0,
+        ),
+        (&["--generate", "0"], b"made 0 keys 0 found 0 sum 0\n", 0),
+        (
+            &["--generate=1", "--seed=0", "--workers=1"],
+            b"made 1 keys 1 found 0 sum 26497\n",
+            0,
+        ),
+        (&["--generate", "1", "x"], b"! usage\n", 2),
     ];
     for (more, output, status) in rows {
-        let mut words = Vec::new(rt.alloc());
-        words.push("tele".to_string(rt.alloc())?)?;
-        for word in more {
-            words.push(word.to_string(rt.alloc())?)?;
-        }
-        let mut source = QuietSource::new(b"P 5 7\n".to_vec(rt.alloc())?);
-        let mut out = QuietSink::new(rt.alloc());
-        let outcome = run(&(), rt.alloc(), words.as_slice(), &mut source, &mut out);
-        assert_eq!(rt; out.bytes(), output, "the text for {more:?}");
-        assert_eq!(rt; outcome.status, status, "the status for {more:?}");
+        let (written, ended) = run_unread(rt.alloc(), more)?;
+        assert_eq!(rt; written.as_slice(), output, "the text for {more:?}");
+        assert_eq!(rt; ended, status, "the status for {more:?}");
     }
     Ok(())
 }
 
 #[test]
-fn a_fault_leaves_the_replies_before_it(rt: HostRuntime) -> Result<(), Fail> {
-    // nine lines of six bytes each and a last one without its newline, in nine reads of seven bytes
-    let input = b"P 1 1\nP 2 2\nP 3 3\nP 4 4\nP 5 5\nP 6 6\nP 7 7\nP 8 8\nP 9 9\nP 1 5";
-    let output = b"1 -\n2 -\n3 -\n4 -\n5 -\n6 -\n7 -\n8 -\n9 -\n10 1\n";
+fn no_word_is_read_like_the_name_alone(rt: HostRuntime) -> Result<(), Fail> {
+    let (written, status) = answer(rt.alloc(), b"P 5 7\n")?;
+    assert_eq!(rt; written.as_slice(), b"1 -\n".as_slice());
+    assert_eq!(rt; status, 0);
+    Ok(())
+}
+
+#[test]
+fn many_made_lines_are_summed_up_as_one_map_has_them(rt: HostRuntime) -> Result<(), Fail> {
+    let mut plain = Plain::new(rt.alloc());
+    let mut maker = Maker::new(1);
+    let mut found: u64 = 0;
+    for _ in 0..20_000 {
+        let reply = plain.apply(maker.make())?;
+        if reply.is_some() {
+            found = found.wrapping_add(1);
+        }
+    }
+    let keys = plain.pairs().len();
+    let sum = plain
+        .pairs()
+        .iter()
+        .fold(0u64, |sum, pair| sum.wrapping_add(pair.value));
+    let text = format!(in rt.alloc(); "made 20000 keys {keys} found {found} sum {sum}\n")?;
+    let (written, status) = run_unread(rt.alloc(), &["--generate", "20000", "--seed", "1"])?;
+    assert_eq!(rt; written.as_slice(), text.as_bytes());
+    assert_eq!(rt; status, 0);
+    Ok(())
+}
+
+#[test]
+fn a_failed_read_leaves_the_replies_of_whole_rounds(rt: HostRuntime) -> Result<(), Fail> {
+    // seven lines of six bytes each, in six reads of seven bytes; two rounds, and a line behind them
+    let input = b"P 1 1\nP 2 2\nI 0 9\nP 3 3\nP 4 4\nI 3 3\nP 5 5\n";
+    let output = b"1 -\n2 -\n3 2\n1 1\n2 2\n4 -\n5 -\n6 1\n3 3\n7 -\n";
     // the read that fails, how many bytes of the output are written then
-    let reads = [
-        (0, 0),
-        (1, 4),
-        (2, 8),
-        (3, 12),
-        (4, 16),
-        (5, 20),
-        (6, 28),
-        (7, 32),
-        (8, 36),
-        (9, 36),
-    ];
+    let reads = [(0, 0), (1, 0), (2, 0), (3, 20), (4, 20), (5, 20), (6, 36)];
     for (read, len) in reads {
         let (written, status) = faulty(rt.alloc(), input, &[read], &[])?;
         assert!(rt; len <= output.len());
@@ -178,20 +222,63 @@ fn a_fault_leaves_the_replies_before_it(rt: HostRuntime) -> Result<(), Fail> {
         );
         assert_eq!(rt; status, 4, "the status where read {read} fails");
     }
-    for write in 0..10 {
-        let len = 4 * write;
+    let (written, status) = faulty(rt.alloc(), input, &[99], &[99])?;
+    assert_eq!(rt; written.as_slice(), output.as_slice());
+    assert_eq!(rt; status, 0);
+    Ok(())
+}
+
+#[test]
+fn a_line_of_an_open_round_is_not_answered_at_a_failed_read(rt: HostRuntime) -> Result<(), Fail> {
+    let mut source = MemorySource::new(
+        b"P 1 1\nP 2".to_vec(rt.alloc())?,
+        9,
+        [1].to_vec(rt.alloc())?,
+    );
+    let mut out = QuietSink::new(rt.alloc());
+    let outcome = run_over(rt.alloc(), &mut source, &mut out);
+    assert_eq!(rt; out.bytes(), b"".as_slice());
+    assert_eq!(rt; outcome.status, 4);
+    Ok(())
+}
+
+#[test]
+fn a_round_has_at_most_16384_point_lines(rt: HostRuntime) -> Result<(), Fail> {
+    // how many lines come before the read that fails, that read, how many of the lines are answered
+    let rows = [
+        (16_383, 16, 0),
+        (16_384, 16, 16_384),
+        (20_000, 20, 16_384),
+        (32_768, 32, 32_768),
+    ];
+    for (lines, read, answered) in rows {
+        let mut input = Vec::new(rt.alloc());
+        for _ in 0..lines {
+            input.extend_from_slice(b"G 1\n")?;
+        }
+        let mut source = MemorySource::new(input, 4_096, [read].to_vec(rt.alloc())?);
+        let mut out = QuietSink::new(rt.alloc());
+        let outcome = run_over(rt.alloc(), &mut source, &mut out);
+        let ends = out.bytes().iter().filter(|byte| **byte == b'\n').count();
+        assert_eq!(rt; ends, answered, "of {lines} lines");
+        assert_eq!(rt; outcome.status, 4, "behind {lines} lines");
+    }
+    Ok(())
+}
+
+#[test]
+fn a_failed_write_leaves_the_lines_before_it(rt: HostRuntime) -> Result<(), Fail> {
+    let input = b"P 1 1\nP 2 2\nI 0 9\nP 3 3\nX 4 4\n";
+    let output = b"1 -\n2 -\n3 2\n1 1\n2 2\n4 -\n! 5 letter\n";
+    for write in 0..7 {
         let (written, status) = faulty(rt.alloc(), input, &[], &[write as u64])?;
-        assert!(rt; len <= output.len());
         assert_eq!(rt;
             written.as_slice(),
-            &output[..len],
+            &output[..4 * write],
             "the text where write {write} fails"
         );
         assert_eq!(rt; status, 5, "the status where write {write} fails");
     }
-    let (written, status) = faulty(rt.alloc(), input, &[99], &[99])?;
-    assert_eq!(rt; written.as_slice(), output.as_slice());
-    assert_eq!(rt; status, 0);
     Ok(())
 }
 

@@ -1,35 +1,72 @@
-use Rattle.std.proofs.Common.{ℕ, ap}
-use Rattle.std.specs.Prelude.{Err, Option, Some, None, IfSome}
-use Rattle.tele_run.specs.Causes.{IsCutShort}
-use Rattle.tele_run.proofs.ToldLemmas.{part_if, named_if, bad_part_if}
+use Rattle.std.proofs.Common.{[], ◌∷◌, sym, ap, refl, subst, append-nil}
+use Rattle.std.specs.Prelude.{Err}
+use Rattle.tele_io.specs.Bytes.{Appends}
+use Rattle.tele_lines.specs.Answer.{Good, Bad}
+use Rattle.tele_lines.specs.Progress.{version_of}
+use Rattle.tele_run.specs.Open.{asked, map_in}
+use Rattle.tele_run.specs.Due.{moment_of}
+use Rattle.tele_run.proofs.AnswerLemmas.{status-asked}
+use Rattle.tele_run.proofs.TakeLemmas.{stay_open, takes_same}
+use Rattle.tele_run.proofs.StepLemmas.{same_lines, status-taken, at_end}
+use Rattle.tele_run.proofs.ToldLemmas.{went_on_if, part_if, ended_if, ended_part_if}
 use Rattle.tele_run.proofs.steps.step.Goals as goal
 
--- a fact for the other outcome
-whenever : {P Q : Type 0} (r : Option ℕ) → IfSome r (λ _. P) → (P → Q)
-    → IfSome r (λ status. IsCutShort status → Q)
-whenever None p f = tt
-whenever (Some status) p f = λ _. f p
-
--- a part of a reply was printed
-pub returns-in-Ok-Some-clause-part : goal.returns-in-Ok-Some-clause-part
-returns-in-Ok-Some-clause-part g c =
-    let met = c.in-Ok-Some.ensures in
-    let goes = rw c.in-Ok-Some.field-0-is at met.line in
-    whenever c.answer.result c.answer.ensures.part (λ part.
-    part_if _ _ _ c.in-Ok-Some.line.number _ c.in-Ok-Some.line.item _ _ _ _ _ (rw (← c.version.ensures.value) at goes) part)
-
--- a bad line was named
-pub returns-in-Ok-clause-ends : goal.returns-in-Ok-clause-ends
-returns-in-Ok-clause-ends g c =
-    let met = c.in-Err-Bad.ensures in
-    let is = ap Err c.in-Err-Bad.field-0-is in
-    λ _. named_if _ _ c.in-Err-Bad.line c.in-Err-Bad.cause _ _ _
-    (met.bad c.in-Err-Bad.line c.in-Err-Bad.cause is c.requires.going) c.in-Ok.ensures.printed
-
--- or a part of what names it
+-- a part of what a line makes due was written
 pub returns-in-Err-clause-part : goal.returns-in-Err-clause-part
 returns-in-Err-clause-part g c =
-    let met = c.in-Err-Bad.ensures in
+    let next = c.in-Ok-Some.ensures in
+    let goes = rw c.in-Ok-Some.field-0-is at next.line in
+    let v = c.version.result in
+    let tasks = c.args.round.now.tasks in
+    λ _. part_if (moment_of c.args.lines.now c.args.round.now) _ (asked v tasks) (Good c.in-Ok-Some.line.number v c.in-Ok-Some.line.item ∷ [])
+    _ _ _ _ _ (same_lines c.args.lines.now c.next.new.self v tasks c.version.ensures.value c.requires.chosen next.steady)
+    (status-taken v tasks c.in-Ok-Some.line.number c.in-Ok-Some.line.item)
+    (rw (← c.version.ensures.value) at goes) c.in-Err.ensures.part
+
+-- the input has ended, and the open round was answered
+pub returns-in-Ok-answer-clause-ends : goal.returns-in-Ok-answer-clause-ends
+returns-in-Ok-answer-clause-ends g c =
+    let next = c.in-Ok-None.ensures in
+    let reads = rw c.in-Ok-None.field-0-is at next.none in
+    let v = c.version-in-Ok-None.result in
+    let tasks = c.args.round.now.tasks in
+    λ _. ended_if (moment_of c.args.lines.now c.args.round.now) (asked v tasks) [] _ 0 _ _
+    (same_lines c.args.lines.now c.next.new.self v tasks c.version-in-Ok-None.ensures.value c.requires.chosen next.steady)
+    (sym (status-asked v tasks [])) reads
+    (subst (Appends _ _) (at_end v (map_in c.args.round.now) tasks) c.in-Ok-answer.ensures.printed)
+
+-- a bad line was named
+pub returns-in-Ok-name-clause-ends : goal.returns-in-Ok-name-clause-ends
+returns-in-Ok-name-clause-ends g c =
+    let next = c.in-Err-Bad.ensures in
     let is = ap Err c.in-Err-Bad.field-0-is in
-    λ _. bad_part_if _ _ c.in-Err-Bad.line c.in-Err-Bad.cause _ _ _
-    (met.bad c.in-Err-Bad.line c.in-Err-Bad.cause is c.requires.going) c.in-Err.ensures.part
+    let v = c.version-in-Err-Bad.result in
+    let tasks = c.args.round.now.tasks in
+    let last = Bad c.in-Err-Bad.line c.in-Err-Bad.cause ∷ [] in
+    λ _. ended_if (moment_of c.args.lines.now c.args.round.now) (asked v tasks) last _ 3 _ _
+    (same_lines c.args.lines.now c.next.new.self v tasks c.version-in-Err-Bad.ensures.value c.requires.chosen next.steady)
+    (sym (status-asked v tasks last))
+    (next.bad c.in-Err-Bad.line c.in-Err-Bad.cause is c.requires.going) c.in-Ok-name.ensures.printed
+
+-- or a part of what names it was written
+pub returns-in-Err-name-clause-part : goal.returns-in-Err-name-clause-part
+returns-in-Err-name-clause-part g c =
+    let next = c.in-Err-Bad.ensures in
+    let is = ap Err c.in-Err-Bad.field-0-is in
+    let v = c.version-in-Err-Bad.result in
+    let tasks = c.args.round.now.tasks in
+    let last = Bad c.in-Err-Bad.line c.in-Err-Bad.cause ∷ [] in
+    λ _. ended_part_if (moment_of c.args.lines.now c.args.round.now) (asked v tasks) last _ _ _
+    (same_lines c.args.lines.now c.next.new.self v tasks c.version-in-Err-Bad.ensures.value c.requires.chosen next.steady)
+    (next.bad c.in-Err-Bad.line c.in-Err-Bad.cause is c.requires.going) c.in-Err-name.ensures.part
+
+-- the source failed, and nothing was written
+pub returns-in-Err-Read-clause-passed : goal.returns-in-Err-Read-clause-passed
+returns-in-Err-Read-clause-passed g c is =
+    let next = c.in-Err-Read.ensures in
+    let v = version_of c.next.new.self in
+    let tasks = c.args.round.now.tasks in
+    went_on_if (moment_of c.args.lines.now c.args.round.now) (moment_of c.next.new.self c.args.round.now) (asked v tasks) [] _ _ _ _ _
+    (same_lines c.args.lines.now c.next.new.self v tasks refl c.requires.chosen next.steady)
+    (next.passed (ap Err c.in-Err-Read.field-0-is))
+    (takes_same _ _ _ _ _ _ _ _ (sym (append-nil (asked v tasks))) refl (stay_open (map_in c.args.round.now) (asked v tasks) _))

@@ -1,6 +1,7 @@
 use Rattle.std.proofs.Common.{◌∙◌, ap, arith}
 use Rattle.std.specs.Prelude.{Some, Ok}
 use Rattle.tele_lines.specs.Progress.{Place, place_of}
+use Rattle.tele_lines.proofs.ModeLemmas.{steady_twice}
 use Rattle.tele_lines.proofs.PlaceLemmas.{goes_on_if, reads_if, item_if, bad_if}
 use Rattle.tele_lines.proofs.reader.Lines.next.Goals as goal
 
@@ -20,6 +21,7 @@ loop-item-preserved-in-Ok-Some-Skips g c =
       going = going tt;
       end = λ told. met.end (before.end told);
       ended = λ was. met.ended (before.ended was);
+      steady = steady_twice _ _ _ before.steady met.steady;
       again = λ done. absurd (cc (met.again (before.again done).0).0);
       counted = omega (arith, before.counted, met.counted);
     }
@@ -40,6 +42,7 @@ loop-item-preserved g c =
       going = going tt;
       end = λ told. met.end (before.end told);
       ended = λ was. met.ended (before.ended was);
+      steady = steady_twice _ _ _ before.steady met.steady;
       again = λ done. absurd (cc (met.again (before.again done).0).0);
       counted = omega (arith, before.counted, met.counted);
     }

@@ -1,5 +1,5 @@
 use Rattle.std.proofs.Common.{◌≡◌, ◌-◌, ◌≤◌, [], true}
-use Rattle.std.specs.Prelude.{IfSome, None}
+use Rattle.std.specs.Prelude.{IfSome, IsSome, None}
 use Rattle.tele_lines.specs.Progress.{GoesTo, place_of, unread, TellsEnd, IsDone}
 use Rattle.tele_lines.proofs.reader.Lines.next.Given as goal
 
@@ -15,6 +15,7 @@ invariant-loop-item g l =
       going : l.self.stop ≡ None;
       end : TellsEnd l.fn.self (left l.fn.source) → TellsEnd l.self (left l.source);
       ended : l.fn.self.ended ≡ true → l.self.ended ≡ true;
+      steady : IsSome l.fn.self.mode → l.self.mode ≡ l.fn.self.mode;
       again : IsDone l.fn.self → IsDone l.self × (l.source ≡ l.fn.source);
       counted : g.S.Source.faults l.fn.source ≤ g.S.Source.faults l.source;
     }

@@ -1,0 +1,44 @@
+-- That the calls of passes weave into one legal history, and that a call that was learnt of comes first.
+use Rattle.std.specs.Prelude.{ℕ, ◌+◌, ◌≤◌, List, [], ◌∷◌}
+use Rattle.ist_core.specs.declared.calls.Call.{Call}
+use Rattle.ist_core.specs.declared.pairs.Pair.{Pair}
+use Rattle.ist_core.specs.Map.{map_of}
+use Rattle.ist_core.specs.Elements.{Each}
+use Rattle.ist_core.specs.Logs.{Log, GoesOn}
+use Rattle.ist_core.specs.Changes.{changes_of}
+use Rattle.ist_core.specs.Lawful.{Lawful}
+use Rattle.ist_core.specs.Standing.{Follows, IsFresh}
+use Rattle.ist_core.specs.Histories.{PassCalls, StandInPrefixes, woven, IsLegal}
+use Rattle.ist_core.specs.Resting.{AllStandIn}
+use Rattle.ist_histories.specs.Calls.{HasCalls}
+
+-- passes that stand in prefixes of one lawful log have one legal history. With two passes it is the clause of two that meet:
+-- the one stands in its own log, the other in that of its note, and the log of who met goes on from both
+abbrev pub WovenIsLegal : Type 0
+WovenIsLegal =
+    (pairs : List Pair) (words : ℕ) (log : Log) → Lawful pairs words log
+    → (passes : List PassCalls) → StandInPrefixes pairs words log passes
+    → IsLegal (map_of pairs) (woven (changes_of pairs words log) passes)
+
+-- lists of calls as passes, numbered from this number on
+abbrev pub numbered : ℕ → List (List Call) → List PassCalls
+numbered number [] = []
+numbered number (calls ∷ more) =
+    record { number = number; calls = calls } ∷ numbered (number + 1) more
+
+-- so have the passes that were taken back, by their numbers
+abbrev pub TakenBackIsLegal : Type 0
+TakenBackIsLegal =
+    (pairs : List Pair) (words : ℕ) (log : Log) → Lawful pairs words log
+    → (taken : List (List Call)) → AllStandIn pairs words log 0 taken
+    → IsLegal (map_of pairs) (woven (changes_of pairs words log) (numbered 0 taken))
+
+-- each call that a pass has learnt of comes before a call that is fresh: at no higher position, and with a lower stamp. What is
+-- learnt comes with the log and the stamp of its pass, and both are seen from then on
+abbrev pub LearntCallsComeFirst : Type 0
+LearntCallsComeFirst =
+    (pairs : List Pair) (words : ℕ) (earlier seen : Log) (number told stamp : ℕ)
+    (calls : List Call) (call : Call)
+    → HasCalls pairs words earlier number told calls
+    → GoesOn earlier seen → told ≤ stamp → IsFresh pairs words seen stamp call
+    → Each (λ learnt. Follows learnt call) calls

@@ -1,0 +1,56 @@
+//! What the laws mean on small logs. The functions take no steps: contracts are facts.
+ghost use Rattle.std.specs.Prelude.{◌≡◌, [], ◌∷◌, Some, None};
+ghost use Rattle.ist_core.specs.declared.commands.Command.TheVariants.{Put};
+ghost use Rattle.ist_core.specs.Map.{map_of};
+ghost use Rattle.ist_core.specs.Leaves.{HasContents};
+ghost use Rattle.ist_core.specs.Changes.{changes_of};
+ghost use Rattle.ist_core.specs.Lawful.{Lawful, state_of};
+ghost use Rattle.ist_core.specs.Standing.{StandsIn, IsFresh};
+ghost use Rattle.ist_core.specs.Histories.{woven, IsLegal};
+ghost use Rattle.ist_core.specs.ExampleTables.{pair};
+ghost use Rattle.ist_core.specs.ExampleLogs.{put_decided, put_resolved};
+ghost use Rattle.ist_core.specs.ExampleLogs.{start_pairs, rebuild_replaced};
+ghost use Rattle.ist_core.specs.ExampleLogs.{late_marked, late_resolved, late_finished};
+ghost use Rattle.ist_histories.specs.Searching.{Searched};
+ghost use Rattle.ist_histories.specs.ExampleCalls.{refused, early_find, late_find, writer, reader};
+ghost use Rattle.ist_histories.specs.ExampleCalls.{one_history};
+
+/// A put of (1, 1) into an empty table is its one change, and the contents are this pair.
+pub fn a_put_moves_the_map()
+    ensures changes { changes_of [] 15 put_resolved
+        ≡ record { owner = 0; command = Put 1 1; reply = None } ∷ [] }
+    ensures contents { HasContents (state_of [] 15 put_resolved) (pair 1 1 ∷ []) }
+{}
+
+/// A whole rebuild is no change.
+pub fn a_rebuild_leaves_the_map()
+    ensures changes { changes_of start_pairs 100 rebuild_replaced ≡ [] }
+{}
+
+/// A put that is installed only behind the mark of its node is decided no and leaves its slot: it
+/// is no change, and the contents stay.
+pub fn a_refused_put_leaves_the_map()
+    ensures lawful { Lawful start_pairs 100 refused }
+    ensures changes { changes_of start_pairs 100 refused ≡ [] }
+    ensures contents { HasContents (state_of start_pairs 100 refused) start_pairs }
+{}
+
+/// A search that loads the put's change while it is undecided. Where it loads the decision behind
+/// the yes it finds the value, and where it loads it before that it finds none.
+pub fn a_search_reads_a_change()
+    ensures behind { Searched [] 15 put_decided 1 4 2 (Some 1) }
+    ensures before { Searched [] 15 put_decided 1 4 2 None }
+{}
+
+/// Two passes on the log of a put that a rebuild overtakes. The one has made the put; the other's
+/// first find stands before it, also in the log as it was then, and its second find sees it. Woven
+/// they are one legal history.
+pub fn two_passes_are_woven()
+    ensures writer { StandsIn start_pairs 100 late_finished writer.number writer.calls }
+    ensures early { StandsIn start_pairs 100 late_marked reader.number (early_find ∷ []) }
+    ensures reader { StandsIn start_pairs 100 late_finished reader.number reader.calls }
+    ensures fresh { IsFresh start_pairs 100 late_resolved early_find.stamp late_find }
+    ensures woven { woven (changes_of start_pairs 100 late_finished) (writer ∷ reader ∷ [])
+        ≡ one_history }
+    ensures legal { IsLegal (map_of start_pairs) one_history }
+{}

@@ -1,0 +1,17 @@
+use Rattle.ist_links.proofs.FormedLemmas.{rooted_is_finished}
+use Rattle.ist_rebuilds.proofs.RebuiltLemmas as rebuilt
+use Rattle.ist_rebuilds.proofs.ReplacedLemmas.{replaced_unlinked}
+use Rattle.ist_rebuilds.proofs.laws.rebuilds_stand.Goals as goal
+
+pub returns : goal.returns
+returns c =
+    record {
+      stand = λ pairs words log l rebuild row e started unreplaced.
+          let r = rebuilt.started_reads pairs words l.opens log l.enabled rebuild row e started unreplaced in
+          record { word = r.word; holds = r.holds; reads = r.reads };
+      gone = λ pairs words log l rebuild row e replaced r.
+          rebuilt.read_unreplaced pairs words l.opens log l.enabled rebuild row e record { word = r.word; holds = r.holds; reads = r.reads } replaced;
+      out = λ pairs words log l rebuild row e replaced.
+          replaced_unlinked pairs words l.opens log l.enabled replaced.base replaced.change replaced.published replaced.decision rebuild row replaced.from e;
+      rooted = λ pairs words log l. rooted_is_finished pairs words log l.enabled;
+    }

@@ -1,0 +1,58 @@
+-- A table without pairs opens where it has its fixed words. Serves the tests.
+use Rattle.std.proofs.Common.{◌≡◌, ℕ, zero, suc, ◌<◌, ◌≤◌, List, [], ◌∷◌, length, replicate, slice_get, slice_set, Some, refl, ap, subst, sym, arith}
+use Rattle.std.proofs.lemmas.List.{length-replicate}
+use Rattle.std.proofs.lemmas.Option.{none-some}
+use Rattle.ist_core.specs.declared.pairs.Pair.{Pair}
+use Rattle.ist_core.specs.Shapes.{ideal_words, ideal_words_within}
+use Rattle.ist_core.specs.RowLayout.{first_row, place_limit}
+use Rattle.ist_core.specs.StartLayout.{start, rows_within}
+use Rattle.ist_core.specs.Images.{IsImage}
+use Rattle.ist_core.specs.Lawful.{CanOpen}
+
+-- it may be opened
+pub empty_opens : (words : ℕ) → first_row ≤ words → words ≤ place_limit → CanOpen [] words
+unfolding ideal_words ideal_words_within
+empty_opens words enough within = record { rising = λ k h. absurd (omega arith); room = omega arith; within = within }
+
+-- each of some zeros is one
+zero_lies : (n i : ℕ) → i < n → slice_get {X = ℕ} (replicate n 0) i ≡ Some 0
+zero_lies zero i low = absurd (omega arith)
+zero_lies (suc n) zero low = refl
+zero_lies (suc n) (suc i) low = zero_lies n i (omega arith)
+
+-- its words are a 4, and zeros
+pub empty_image : (zeros : ℕ) → 3 ≤ zeros → IsImage (start [] (suc zeros)) (4 ∷ replicate zeros 0)
+unfolding ideal_words ideal_words_within rows_within
+empty_image zeros enough =
+    record {
+      size = ap suc (length-replicate zeros 0);
+      next = refl;
+      callers = zero_lies zeros 0 (omega arith);
+      anchor_status = zero_lies zeros 1 (omega arith);
+      anchor_slot = zero_lies zeros 2 (omega arith);
+      rows = λ base p e. absurd (none-some p e);
+      free = free;
+    }
+  where
+    free : (place : ℕ) → 4 ≤ place → place < suc zeros → slice_get {X = ℕ} (4 ∷ replicate zeros 0) place ≡ Some 0
+    free zero low high = absurd (omega arith)
+    free (suc place) low high = zero_lies zeros place (omega arith)
+
+-- so are some zeros of which the first is set to 4
+pub zeros_image : (pairs : List Pair) → pairs ≡ [] → (n : ℕ) (words : List ℕ) → words ≡ replicate n 0 → 4 ≤ n
+    → IsImage (start pairs (length (slice_set words 0 4))) (slice_set words 0 4)
+zeros_image pairs none zero words same enough = absurd (omega arith)
+zeros_image pairs none (suc n) words same enough =
+    subst (λ ps. IsImage (start ps (length (slice_set words 0 4))) (slice_set words 0 4)) (sym none)
+    (subst (λ ws. IsImage (start [] (length (slice_set ws 0 4))) (slice_set ws 0 4)) (sym same)
+    (subst (λ m. IsImage (start [] (suc m)) (4 ∷ replicate n 0)) (sym (length-replicate n 0))
+    (empty_image n (omega arith))))
+
+-- and the table opens
+pub zeros_open : (pairs : List Pair) → pairs ≡ [] → (n : ℕ) (words : List ℕ) → words ≡ replicate n 0 → 4 ≤ n
+    → n ≤ place_limit → CanOpen pairs (length (slice_set words 0 4))
+zeros_open pairs none zero words same enough within = absurd (omega arith)
+zeros_open pairs none (suc n) words same enough within =
+    subst (λ ps. CanOpen ps (length (slice_set words 0 4))) (sym none)
+    (subst (λ ws. CanOpen [] (length (slice_set ws 0 4))) (sym same)
+    (subst (λ m. CanOpen [] (suc m)) (sym (length-replicate n 0)) (empty_opens (suc n) enough within)))

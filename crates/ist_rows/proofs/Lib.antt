@@ -1,0 +1,6 @@
+pub mod HeldListLemmas
+pub mod BuildLemmas
+pub mod EnterLemmas
+pub mod ReserveLemmas
+pub mod CallerLemmas
+pub mod EmptyLemmas

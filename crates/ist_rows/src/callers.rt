@@ -1,0 +1,46 @@
+//! A caller, and the rows that it holds beside its builds.
+ghost use Rattle.std.specs.Prelude.{◌≡◌};
+ghost use Rattle.ist_rows.specs.Rows.{spares_of, row_of, with_row};
+
+use crate::kinds::Kind;
+use ist_rule::TreeSeat;
+
+/// The seat of one caller with its number, and the row of each kind that it holds, by its base.
+///
+/// Who publishes such a row by a step on the seat sets its field to `None`.
+#[derive(Drop)]
+pub struct Caller {
+    pub seat: TreeSeat,
+    pub number: u32,
+    pub leaf: Option<u32>,
+    pub pair: Option<u32>,
+    pub change: Option<u32>,
+    pub rebuild: Option<u32>,
+}
+
+impl Caller {
+    // The row of this kind that the caller holds.
+    pub(crate) fn row(&self, kind: Kind) -> Option<u32>
+        ensures value { result ≡ row_of kind (spares_of self.now) }
+    {
+        match kind {
+            Kind::Leaf => self.leaf,
+            Kind::Pair => self.pair,
+            Kind::Change => self.change,
+            Kind::Rebuild => self.rebuild,
+        }
+    }
+
+    // The caller holds this row of this kind.
+    pub(crate) fn hold(&mut self, kind: Kind, base: u32)
+        ensures value { spares_of self.new ≡ with_row kind base (spares_of self.old) }
+        ensures same { (self.new.seat ≡ self.old.seat) × (self.new.number ≡ self.old.number) }
+    {
+        match kind {
+            Kind::Leaf => self.leaf = Some(base),
+            Kind::Pair => self.pair = Some(base),
+            Kind::Change => self.change = Some(base),
+            Kind::Rebuild => self.rebuild = Some(base),
+        }
+    }
+}

@@ -1,0 +1,28 @@
+//! The kinds of row that a caller holds one of at most.
+ghost use Rattle.std.specs.Prelude.{◌≡◌};
+ghost use Rattle.ist_rows.specs.Kinds.{kind_words};
+
+use ist_layout::{CHANGE_WORDS, LEAF_WORDS, PAIR_WORDS, REBUILD_WORDS};
+
+/// A kind of row. A pair row is an inner row of degree 2.
+#[derive(Clone, Copy, Debug, PartialEq, Eq, Drop)]
+pub enum Kind {
+    Leaf,
+    Pair,
+    Change,
+    Rebuild,
+}
+
+impl Kind {
+    /// How many words a row of this kind has.
+    pub fn words(self) -> u64
+        ensures value { result ≡ kind_words self }
+    {
+        match self {
+            Kind::Leaf => LEAF_WORDS,
+            Kind::Pair => PAIR_WORDS,
+            Kind::Change => CHANGE_WORDS,
+            Kind::Rebuild => REBUILD_WORDS,
+        }
+    }
+}

@@ -1,0 +1,16 @@
+//! Callers of a table, and the rows that belong to one of them: entering, reserving, filling.
+//!
+//! Read `specs/Callers.antt`, then `callers.rt`, then `reserving.rt`. Stands on `ist_core`, `ist_layout` and `ist_rule`.
+#![tactic(auto)]
+
+mod callers;
+mod entering;
+mod kinds;
+mod reserving;
+#[cfg(test)]
+mod tests;
+
+pub use callers::Caller;
+pub use entering::enter;
+pub use kinds::Kind;
+pub use reserving::{fill, reserve};

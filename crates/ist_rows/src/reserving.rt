@@ -1,0 +1,93 @@
+//! Reserving a row of one's own, and filling it.
+ghost use Rattle.std.specs.Prelude.{◌≡◌, ◌+◌, ◌<◌, ◌≤◌, ◌^◌, IfSome, IfOk, IfErr, Ok};
+ghost use Rattle.ist_rule.specs.declared.view.Who.TheVariants.{Caller as CallerOf};
+ghost use Rattle.ist_rule.specs.Faces.{word_count_of};
+ghost use Rattle.ist_rule.specs.Learning.{storing};
+ghost use Rattle.ist_rows.specs.Kinds.{kind_words};
+ghost use Rattle.ist_rows.specs.Rows.{spares_of, row_of, IsCaller, Reserved, IsFull, IsFresh, IsRefused, HoldsPlace};
+ghost use Rattle.ist_rows.specs.Fairly.{MayTake};
+
+use crate::callers::Caller;
+use crate::kinds::Kind;
+use ist_core::Full;
+use ist_layout::NEXT_PLACE;
+use ist_rule::{TreeSeat, TreeTable, exchange, know, load, store, word_count};
+use std::sync::Wait;
+
+// Takes a fresh row from the front of the free words.
+fn take<R: Wait>(
+    table: &TreeTable,
+    rt: &R,
+    seat: &mut TreeSeat,
+    number: u32,
+    size: u64,
+) -> Result<u32, Full>
+    requires same_table { seat.old.table ≡ table.now.table }
+    requires caller { seat.old.view.who ≡ CallerOf number }
+    requires fair { MayTake seat.old.view number size }
+    requires small { size < 2 ^ 32 }
+    ensures same_table { seat.new.table ≡ table.now.table }
+    ensures reserved { IfOk result (λ base. Reserved seat.old.view number base size seat.new.view) }
+    ensures full { IfErr result (λ full. IsFull seat.old.view (word_count_of table.now) size full seat.new.view) }
+{
+    let words = word_count(table);
+    know(seat);
+    for _ in rt.forever() {
+        let next = load(table, seat, NEXT_PLACE);
+        if next + size > words {
+            return Err(Full {
+                next,
+                asked: size,
+                words,
+            });
+        }
+        if exchange(table, seat, NEXT_PLACE, next, next + size) == next {
+            return Ok(next as u32);
+        }
+    }
+    unreachable!()
+}
+
+/// The row of this kind that the caller holds, or a fresh one, which then is it.
+///
+/// Where the caller holds a row of this kind, no word changes. A fresh row has the words of its kind
+/// and is taken from the front of the free words. `Full` comes where a load of the first word in this
+/// call gave `next` with `next + asked > words`; nothing is reserved then. Retries while others
+/// reserve.
+pub fn reserve<R: Wait>(
+    table: &TreeTable,
+    rt: &R,
+    who: &mut Caller,
+    kind: Kind,
+) -> Result<u32, Full>
+    requires same_table { who.old.seat.table ≡ table.now.table }
+    requires caller { IsCaller who.old }
+    ensures same_table { who.new.seat.table ≡ table.now.table }
+    ensures caller { IsCaller who.new }
+    ensures number { who.new.number ≡ who.old.number }
+    ensures held { IfSome (row_of kind (spares_of who.old)) (λ base. (result ≡ Ok base) × (who.new ≡ who.old)) }
+    ensures reserved { IsFresh kind who.old who.new result }
+    ensures full { IfErr result (λ full. IsRefused (word_count_of table.now) kind who.old who.new full) }
+{
+    if let Some(base) = who.row(kind) {
+        return Ok(base);
+    }
+    know(&who.seat);
+    let base = take(table, rt, &mut who.seat, who.number, kind.words())?;
+    who.hold(kind, base);
+    Ok(base)
+}
+
+/// Stores a word into a row that the caller holds, as many places behind its base as `at` says.
+pub fn fill(table: &TreeTable, who: &mut Caller, base: u32, at: u64, word: u64)
+    requires same_table { who.old.seat.table ≡ table.now.table }
+    requires caller { IsCaller who.old }
+    requires held { HoldsPlace who.old base at }
+    ensures same_table { who.new.seat.table ≡ table.now.table }
+    ensures caller { IsCaller who.new }
+    ensures stored { let view = storing who.old.seat.view (base + at) word in
+        who.new ≡ record who.old { seat = record who.old.seat { view = view } } }
+{
+    know(&who.seat);
+    store(table, &mut who.seat, u64::from(base) + at, word);
+}

@@ -1,0 +1,133 @@
+-- What one event does to the number of callers and to what callers hold. Serves what the rule says of other seats.
+use Rattle.std.proofs.Common.{◌≡◌, ◌≢◌, ℕ, ◌≤◌, List, [], ◌∷◌, Option, Some, None, refl, sym, subst, arith}
+use Rattle.ist_core.specs.declared.events.Event.{Event}
+use Rattle.ist_core.specs.declared.events.Event.TheVariants.{Enter, Reserve, Install, Okay, Decide, Resolve, Count, Mark, Pass, Finish, Root, Draw, Place, Lose}
+use Rattle.ist_core.specs.declared.lists.Row.{Row}
+use Rattle.ist_core.specs.declared.states.ChangeRow.{ChangeRow}
+use Rattle.ist_core.specs.Pieces.{as_change, change_of}
+use Rattle.ist_core.specs.Snapshots.{Snapshot, HoldsRows}
+use Rattle.ist_core.specs.After.{with_change, installed, resolved}
+use Rattle.ist_core.specs.Logs.{Log, state}
+use Rattle.ist_core.specs.Enabled.{Enabled}
+use Rattle.ist_core.specs.Writing.{published_by}
+use Rattle.ist_rule.specs.declared.view.Who.TheVariants.{Maker, Caller, Note}
+use Rattle.ist_rule.specs.Authors.{author}
+use Rattle.ist_rule.specs.Rule.{IsNamed}
+use Rattle.ist_rule.specs.Learning.{made_behind}
+
+callers-with_change : (t : Snapshot) (base : ℕ) (fresh : List Row) (change : Option ChangeRow)
+    → (with_change t base fresh change).callers ≡ t.callers
+callers-with_change t base fresh None = refl
+callers-with_change t base fresh (Some change) = refl
+
+callers-installed : (t : Snapshot) (base : ℕ) (rows : List Row) → (installed t base rows).callers ≡ t.callers
+callers-installed t base [] = refl
+callers-installed t base (row ∷ fresh) = callers-with_change t base fresh (change_of row.words)
+
+callers-resolved : (t : Snapshot) (change : Option ChangeRow) → (resolved t change).callers ≡ t.callers
+callers-resolved t None = refl
+callers-resolved t (Some change) = refl
+
+-- an Enter adds a caller, and no other event does
+pub callers-state : (first : Snapshot) (log : Log) (event : Event)
+    → (state first (event ∷ log)).callers ≡ made_behind event (state first log).callers
+callers-state first log (Enter caller) = refl
+callers-state first log (Reserve caller base size) = refl
+callers-state first log (Install caller change rows) = callers-installed (state first log) change rows
+callers-state first log (Okay caller change) = refl
+callers-state first log (Decide caller change said) = refl
+callers-state first log (Resolve caller change) = callers-resolved (state first log) (as_change ((state first log).pieces change))
+callers-state first log (Count caller node) = refl
+callers-state first log (Mark caller node) = refl
+callers-state first log (Pass caller node i word) = refl
+callers-state first log (Finish caller node keys) = refl
+callers-state first log (Root caller rebuild word rows) = refl
+callers-state first log (Draw caller rebuild part) = refl
+callers-state first log (Place caller rebuild i word rows) = refl
+callers-state first log (Lose caller bases) = refl
+
+-- the number of callers never falls
+pub made_behind-grows : (event : Event) (made : ℕ) → made ≤ made_behind event made
+made_behind-grows (Enter caller) made = omega arith
+made_behind-grows (Reserve caller base size) made = omega arith
+made_behind-grows (Install caller change rows) made = omega arith
+made_behind-grows (Okay caller change) made = omega arith
+made_behind-grows (Decide caller change said) made = omega arith
+made_behind-grows (Resolve caller change) made = omega arith
+made_behind-grows (Count caller node) made = omega arith
+made_behind-grows (Mark caller node) made = omega arith
+made_behind-grows (Pass caller node i word) made = omega arith
+made_behind-grows (Finish caller node keys) made = omega arith
+made_behind-grows (Root caller rebuild word rows) made = omega arith
+made_behind-grows (Draw caller rebuild part) made = omega arith
+made_behind-grows (Place caller rebuild i word rows) made = omega arith
+made_behind-grows (Lose caller bases) made = omega arith
+
+-- an event is an Enter, which is the maker's, or is a caller's and adds no caller
+pub data Authored (event : Event) : Type 0 where
+  by_maker : (caller : ℕ) → event ≡ Enter caller → author event ≡ Maker → Authored event
+  by_caller : (caller : ℕ) → author event ≡ Caller caller → ((made : ℕ) → made_behind event made ≡ made) → Authored event
+
+pub authored : (event : Event) → Authored event
+authored (Enter caller) = by_maker caller refl refl
+authored (Reserve caller base size) = by_caller caller refl (λ made. refl)
+authored (Install caller change rows) = by_caller caller refl (λ made. refl)
+authored (Okay caller change) = by_caller caller refl (λ made. refl)
+authored (Decide caller change said) = by_caller caller refl (λ made. refl)
+authored (Resolve caller change) = by_caller caller refl (λ made. refl)
+authored (Count caller node) = by_caller caller refl (λ made. refl)
+authored (Mark caller node) = by_caller caller refl (λ made. refl)
+authored (Pass caller node i word) = by_caller caller refl (λ made. refl)
+authored (Finish caller node keys) = by_caller caller refl (λ made. refl)
+authored (Root caller rebuild word rows) = by_caller caller refl (λ made. refl)
+authored (Draw caller rebuild part) = by_caller caller refl (λ made. refl)
+authored (Place caller rebuild i word rows) = by_caller caller refl (λ made. refl)
+authored (Lose caller bases) = by_caller caller refl (λ made. refl)
+
+-- whose event it is has a name
+pub author_named : (event : Event) → IsNamed (author event)
+author_named event = at (authored event)
+  where
+    at : Authored event → IsNamed (author event)
+    at (by_maker caller is who) = subst IsNamed (sym who) tt
+    at (by_caller caller who same) = subst IsNamed (sym who) tt
+
+-- no event is a note's
+pub author_no_note : (event : Event) (of : Option ℕ) → author event ≢ Note of
+author_no_note event of e = subst IsNamed e (author_named event)
+
+-- only the maker's event adds a caller
+pub made_by_others : (event : Event) (made : ℕ) → author event ≢ Maker → made_behind event made ≡ made
+made_by_others event made ne = at (authored event)
+  where
+    at : Authored event → made_behind event made ≡ made
+    at (by_maker caller is who) = absurd (ne who)
+    at (by_caller caller who same) = same made
+
+-- the author of the event holds the rows that it publishes
+pub record Published (t : Snapshot) (event : Event) : Type 0 where
+  pub caller : ℕ
+  pub author_is : author event ≡ Caller caller
+  pub held : HoldsRows t caller (published_by event)
+
+-- an event publishes no row, or its author holds those that it publishes
+pub data Publishes (t : Snapshot) (event : Event) : Type 0 where
+  publishes_none : published_by event ≡ [] → Publishes t event
+  publishes_held : Published t event → Publishes t event
+
+pub publishes : (first : Snapshot) (log : Log) (event : Event) → Enabled first log event
+    → Publishes (state first log) event
+publishes first log (Install caller change rows) h = publishes_held record { caller = caller; author_is = refl; held = h.held }
+publishes first log (Root caller rebuild word rows) h = publishes_held record { caller = caller; author_is = refl; held = h.held }
+publishes first log (Place caller rebuild i word rows) h = publishes_held record { caller = caller; author_is = refl; held = h.held }
+publishes first log (Enter caller) h = publishes_none refl
+publishes first log (Reserve caller base size) h = publishes_none refl
+publishes first log (Okay caller change) h = publishes_none refl
+publishes first log (Decide caller change said) h = publishes_none refl
+publishes first log (Resolve caller change) h = publishes_none refl
+publishes first log (Count caller node) h = publishes_none refl
+publishes first log (Mark caller node) h = publishes_none refl
+publishes first log (Pass caller node i word) h = publishes_none refl
+publishes first log (Finish caller node keys) h = publishes_none refl
+publishes first log (Draw caller rebuild part) h = publishes_none refl
+publishes first log (Lose caller bases) h = publishes_none refl

@@ -1,0 +1,49 @@
+-- Logs that have gone on, by any events or by those of others. Serves what the rule says of the logs that seats have seen.
+use Rattle.std.proofs.Common.{◌≢◌, ◌≤◌, length, arith}
+use Rattle.ist_core.specs.declared.events.Event.{Event}
+use Rattle.ist_core.specs.Logs.{Log, GoesOn, same_log, one_event}
+use Rattle.ist_rule.specs.declared.view.Who.{Who}
+use Rattle.ist_rule.specs.Authors.{author, Later, no_more, one_more, IsIdleIn}
+
+-- a prefix of a prefix is a prefix
+pub goes_on_more : {a b c : Log} → GoesOn a b → GoesOn b c → GoesOn a c
+goes_on_more p same_log = p
+goes_on_more p (one_event event q) = one_event event (goes_on_more p q)
+
+-- a prefix is no longer
+pub goes_on_length : {a b : Log} → GoesOn a b → length a ≤ length b
+goes_on_length same_log = omega arith
+goes_on_length (one_event event p) = let le = goes_on_length p in omega arith
+
+-- a log that went on by events of others went on
+pub later-goes_on : {who : Who} {a b : Log} → Later who a b → GoesOn a b
+later-goes_on no_more = same_log
+later-goes_on (one_more event p ne) = one_event event (later-goes_on p)
+
+-- going on by events of others, twice
+pub later_more : {who : Who} {a b c : Log} → Later who a b → Later who b c → Later who a c
+later_more p no_more = p
+later_more p (one_more event q ne) = one_more event (later_more p q) ne
+
+-- of two prefixes of one log the shorter is a prefix of the longer
+pub between : {a b log : Log} → GoesOn a log → GoesOn b log → length a ≤ length b → GoesOn a b
+between p same_log le = p
+between same_log (one_event event q) le = let short = goes_on_length q in absurd (omega arith)
+between (one_event event p) (one_event _ q) le = between p q le
+
+-- a longer prefix has the events of this one too
+pub later_longer : {who : Who} {a b log : Log} → Later who a log → GoesOn b log → length a ≤ length b
+    → Later who b log
+later_longer p same_log le = no_more
+later_longer no_more (one_event event q) le = let short = goes_on_length q in absurd (omega arith)
+later_longer (one_more event p ne) (one_event _ q) le = one_more event (later_longer p q le) ne
+
+-- who made no event of a log has seen all of its own behind any prefix
+pub later_idle : {who : Who} {a log : Log} → GoesOn a log → IsIdleIn who log → Later who a log
+later_idle same_log idle = no_more
+later_idle (one_event event p) idle = one_more event (later_idle p idle.1) idle.0
+
+-- the same by those of events that went on
+pub later_any : {who : Who} → ((event : Event) → author event ≢ who) → {a b : Log} → GoesOn a b → Later who a b
+later_any none same_log = no_more
+later_any none (one_event event p) = one_more event (later_any none p) (none event)

@@ -1,0 +1,106 @@
+-- Opening a table, and closing it. Serves `open_table` and `close`.
+use Rattle.std.proofs.Common.{◌≡◌, ◌≢◌, ℕ, zero, suc, List, [], ◌∷◌, refl, sym, ap, ◌∙◌, subst, arith}
+use mathlib.Core.Option.{some, some-injective, some-ne-none}
+use lib.ListN.{get_elem?}
+use Rattle.atomic_table.specs.Table.{opening, Final, Seen}
+use Rattle.ist_core.specs.declared.pairs.Pair.{Pair}
+use Rattle.ist_core.specs.StartLayout.{start}
+use Rattle.ist_core.specs.Elements.{Each}
+use Rattle.ist_core.specs.Images.{IsImage}
+use Rattle.ist_core.specs.Lawful.{CanOpen, Lawful, state_of}
+use Rattle.ist_rule.specs.declared.view.View.{View}
+use Rattle.ist_rule.specs.declared.view.About.{About}
+use Rattle.ist_rule.specs.declared.view.Who.{Who}
+use Rattle.ist_rule.specs.declared.view.Who.TheVariants.{Maker, Caller, Spent}
+use Rattle.ist_rule.specs.Authors.{no_more}
+use Rattle.ist_rule.specs.Rule.{Keeps, its_own, noted, IsWellMade, IsTrueIn, IsSound, IsRetired, Fits, Kept, opened_view, first_view}
+use Rattle.ist_rule.specs.Seating.{IsLast}
+use Rattle.ist_rule.proofs.SoundViewLemmas.{as_view}
+
+maker_caller : (number : ℕ) → Maker ≡ Caller number → ⊥
+maker_caller number e = cc
+
+maker_keeps : (number : ℕ) (w : Who) → Keeps number w → w ≡ Maker → ⊥
+maker_keeps number _ its_own e = maker_caller number (sym e)
+maker_keeps number _ noted e = absurd (cc)
+
+-- the first view by itself
+first_well_made : (pairs : List Pair) (words : ℕ) → IsWellMade pairs words (opened_view pairs words)
+first_well_made pairs words =
+    record {
+      stands = λ number keeps. absurd (maker_keeps number Maker keeps refl);
+      stamps = tt;
+      recalls = tt;
+      in_order = tt;
+      since = omega arith;
+      olds = tt;
+      taken_stand = tt;
+      taken_once = tt;
+      taken_given = tt;
+      maker_takes = λ _. refl;
+      in_none = λ _. refl;
+    }
+
+-- the first view and the empty log
+first_true : (pairs : List Pair) (words : ℕ) → IsTrueIn pairs words [] (opened_view pairs words)
+first_true pairs words =
+    record {
+      low = λ number is. absurd (maker_caller number is);
+      made = λ _. (refl, omega arith, omega arith);
+      idle = λ _ number above. tt;
+      fresh = λ place far. refl;
+      call = λ number is. absurd (maker_caller number is);
+      taken = tt;
+    }
+
+-- the seat of a new table is sound
+pub first_sound : (pairs : List Pair) (words : ℕ) → CanOpen pairs words → IsSound (opened_view pairs words)
+first_sound pairs words opens =
+    record {
+      lawful = record { opens = opens; enabled = tt };
+      live = λ e. absurd (cc);
+      well_made = first_well_made pairs words;
+      is_true = first_true pairs words;
+    }
+
+only : (v : View) (i : ℕ) (u : View) → get_elem? (v ∷ []) i ≡ some u → (v ≡ u) × (i ≡ 0)
+only v zero u e = (some-injective v u e, refl)
+only v (suc i) u e = absurd (some-ne-none u (sym e))
+
+-- a new table is under the rule
+pub opens : (k : About) (words : List ℕ) → CanOpen k.start.value.items k.words → IsImage (start k.start.value.items k.words) words → Kept k (opening words [] (first_view k))
+opens k words can image =
+    let v = first_view k in
+    record {
+      log = [];
+      lawful = record { opens = can; enabled = tt };
+      image = image;
+      seats = λ i u at live. subst (Fits k [] words) (only v i u at).0
+          record {
+            start_is = refl;
+            words_is = refl;
+            later = no_more;
+            owns = λ h i who. absurd i;
+            well_made = first_well_made k.start.value.items k.words;
+            is_true = first_true k.start.value.items k.words;
+          };
+      apart = λ i j u x at bt named same. (only v j x bt).1 ∙ sym (only v i u at).1;
+      unborn = λ i u at maker number above j x bt is. maker_caller number (sym (ap (λ y. y.who) (sym (only v j x bt).0)) ∙ is);
+      retired = λ i u at live. subst (λ y. Each (IsRetired (opening words [] v) [] y) y.taken) (only v i u at).0 tt;
+    }
+
+-- what the words are behind the last step
+pub closes : (k : About) (id : ℕ) (v : View) (words : List ℕ) (slots : List (Unit {0})) → v.who ≢ Spent → Final (Seen (Kept k) id v) words slots → IsLast v words
+closes k id v words slots live fin =
+    let s = fin.0 in
+    let r : Kept k s = fin.1.0 in
+    let f = r.seats id v fin.1.1 live in
+    let it = as_view k r.log s.words v f (λ p n. Lawful p n r.log × IsImage (state_of p n r.log) s.words × IsWellMade p n v × IsTrueIn p n r.log v) (r.lawful, r.image, f.well_made, f.is_true) in
+    record {
+      log = r.log;
+      later = f.later;
+      lawful = it.0;
+      is_image = subst (IsImage (state_of v.start v.words r.log)) fin.2 it.1;
+      well_made = it.2;
+      is_true = it.3;
+    }

@@ -1,0 +1,138 @@
+-- What each step tells its seat, and how it changes the view.
+use Rattle.std.specs.Prelude.{◌≡◌, ℕ, ◌+◌, ◌^◌, ◌<◌, ◌≤◌, ◌≢◌, [], ◌∷◌, ◌++◌, length, Option, Some, None, List}
+use Rattle.ist_core.specs.declared.calls.Call.{Call}
+use Rattle.ist_core.specs.declared.commands.Command.{Command}
+use Rattle.ist_core.specs.declared.events.Event.{Event}
+use Rattle.ist_core.specs.declared.events.Event.TheVariants.{Enter}
+use Rattle.ist_core.specs.declared.lists.HeldRow.{HeldRow}
+use Rattle.ist_core.specs.Elements.{Among}
+use Rattle.ist_core.specs.Snapshots.{Snapshot}
+use Rattle.ist_core.specs.Logs.{Log}
+use Rattle.ist_core.specs.Lawful.{state_of}
+use Rattle.ist_rule.specs.declared.view.View.{View}
+use Rattle.ist_rule.specs.declared.view.Load.{Load}
+use Rattle.ist_rule.specs.declared.view.Loads.{Loads}
+use Rattle.ist_rule.specs.declared.view.Who.TheVariants.{Caller}
+use Rattle.ist_rule.specs.Authors.{Later}
+use Rattle.ist_rule.specs.Shown.{IsShown}
+use Rattle.ist_rule.specs.Rule.{own_at, IsSound}
+
+-- the state behind the log that the seat has seen
+abbrev pub now : View → Snapshot
+now v = state_of v.start v.words v.log
+
+-- the seat has made loads and nothing else: it has seen more events of others, and knows of itself what it knew
+pub record GoesOnTo (v w : View) : Type 0 where
+  pub later : Later v.who v.log w.log
+  pub sound : IsSound w
+  pub same : w ≡ record v { log = w.log; loads = w.loads; loaded = w.loaded }
+  pub since : w.loads.since ≡ v.loads.since
+  pub more : List Load
+  pub loads : w.loads.list ≡ more ++ v.loads.list
+  pub loaded : v.loaded ≤ w.loaded
+
+-- ---- a load
+
+-- the loads with one more
+abbrev pub with_load : Loads → Load → Loads
+with_load loads load = record { since = loads.since; list = load ∷ loads.list }
+
+-- the view behind a load that gave the word at the place
+abbrev pub seeing : View → Log → ℕ → ℕ → View
+seeing v log place word =
+    record v {
+      log = log;
+      loads = with_load v.loads record { place = place; word = word; length = length log };
+      loaded = v.loaded + 1;
+    }
+
+-- the word that stood at the place when the seat had seen its log: that of the image, or what the seat stored there itself
+pub record Looked (v : View) (place word : ℕ) (w : View) : Type 0 where
+  pub later : Later v.who v.log w.log
+  pub sound : IsSound w
+  pub view : w ≡ seeing v w.log place word
+  pub stood : (shown : ℕ) → IsShown (now w) place shown → word ≡ shown
+  pub mine : (h : HeldRow) → Among h (now w).held → v.who ≡ Caller h.caller
+      → (k : ℕ) → k < h.size → place ≡ h.base + k → word ≡ own_at v.own place
+  pub fits : word < 2 ^ 64
+
+-- ---- an event
+
+-- how many callers the maker has entered behind the event
+abbrev pub made_behind : Event → ℕ → ℕ
+made_behind (Enter caller) made = made + 1
+made_behind _ made = made
+
+-- the view behind an event of its own
+abbrev pub logging : View → Log → Event → View
+logging v before event = record v { log = event ∷ before; made = made_behind event v.made }
+
+-- the event is the last of the log that the seat has seen, and all before it is seen
+pub record Logged (v : View) (event : Event) (w : View) : Type 0 where
+  pub before : Log
+  pub later : Later v.who v.log before
+  pub view : w ≡ logging v before event
+  pub sound : IsSound w
+
+-- the view behind a load, or a failed exchange, that is an event of its own
+abbrev pub logging_load : View → Log → Event → View
+logging_load v before event = record (logging v before event) { loaded = v.loaded + 1 }
+
+-- the event came at a load that gave this word at the place: it is the last of the log, and all before it is seen
+pub record LoggedLoad (v : View) (event : Event) (place word : ℕ) (w : View) : Type 0 where
+  pub before : Log
+  pub later : Later v.who v.log before
+  pub view : w ≡ logging_load v before event
+  pub sound : IsSound w
+  pub stood : (shown : ℕ) → IsShown (state_of v.start v.words before) place shown → word ≡ shown
+
+-- what a load is, by the log before it and the word that it gives: an event, or none
+abbrev pub Naming : Type 0
+Naming = Log → ℕ → Option Event
+
+-- a load that is an event where it is named so, and nothing but a load otherwise
+pub data LoadedAs (v : View) (named : Naming) (place word : ℕ) (w : View) : Type 0 where
+  as_event : (event : Event) (l : LoggedLoad v event place word w) → named l.before word ≡ Some event
+      → LoadedAs v named place word w
+  as_load : Looked v place word w → named w.log word ≡ None → LoadedAs v named place word w
+
+-- an exchange that found `old` is the event, and one that found another word is the other event
+abbrev pub ExchangedOrLost : View → Event → Event → ℕ → ℕ → ℕ → View → Type 0
+ExchangedOrLost v event lost place old found w =
+    (found ≡ old → Logged v event w) × (found ≢ old → LoggedLoad v lost place found w)
+
+-- an exchange that found `old` is the event, and one that found another word is a load
+abbrev pub Exchanged : View → Event → ℕ → ℕ → ℕ → View → Type 0
+Exchanged v event place old found w = (found ≡ old → Logged v event w) × (found ≢ old → Looked v place found w)
+
+-- ---- calls
+
+-- the view behind a load that changes it
+pub record Turned (v : View) (turn : Log → View) (w : View) : Type 0 where
+  pub later : Later v.who v.log w.log
+  pub view : w ≡ turn w.log
+  pub sound : IsSound w
+
+-- the view that has begun a call with this command
+abbrev pub beginning : View → Option Command → Log → View
+beginning v command log =
+    record v { log = log; pending = Some record { command = command; length = length log }; loaded = v.loaded + 1 }
+
+-- the view that has begun a search
+abbrev pub searching : View → Log → View
+searching v log = record v { log = log; loads = record { since = length log; list = [] }; loaded = v.loaded + 1 }
+
+-- the view that has ended its call
+abbrev pub ending : View → Call → Log → View
+ending v call log =
+    record v { log = log; calls = v.calls ++ call ∷ []; stamp = call.stamp; pending = None; loaded = v.loaded + 1 }
+
+-- the view that has given up its call
+abbrev pub giving_up : View → Log → View
+giving_up v log = record v { log = log; pending = None; loaded = v.loaded + 1 }
+
+-- ---- own words
+
+-- the view that has stored a word into a row of its own
+abbrev pub storing : View → ℕ → ℕ → View
+storing v place word = record v { own = record { place = place; word = word } ∷ v.own }

@@ -1,0 +1,84 @@
+-- Loads that are events: of a status that shows a node open, of a slot of a marked node, and beside a pair row that is given up.
+use Rattle.std.specs.Prelude.{◌≡◌, ℕ, ◌<◌, ◌==◌, ◌&&◌, not, Bool, true, false, if◌then◌else◌, [], ◌∷◌, Option, Some, None}
+use Rattle.ist_core.specs.declared.states.InnerRow.{InnerRow}
+use Rattle.ist_core.specs.declared.states.ChangeRow.{ChangeRow}
+use Rattle.ist_core.specs.declared.events.Event.TheVariants.{Okay, Pass, Lose}
+use Rattle.ist_core.specs.RowLayout.{pair_words, slot_place}
+use Rattle.ist_core.specs.References.{Ref, ChangeAt, ref_of, unset_word}
+use Rattle.ist_core.specs.Statuses.{open_word, marked_word, undecided}
+use Rattle.ist_core.specs.Pieces.{Inner, Change, as_inner, as_change}
+use Rattle.ist_core.specs.Snapshots.{HoldsRow}
+use Rattle.ist_core.specs.Lawful.{state_of}
+use Rattle.ist_core.specs.Writing.{place_of_status}
+use Rattle.ist_rule.specs.declared.view.View.{View}
+use Rattle.ist_rule.specs.declared.view.Who.{Who}
+use Rattle.ist_rule.specs.declared.view.Who.TheVariants.{Caller}
+use Rattle.ist_rule.specs.Learning.{now, Naming}
+
+-- the number of a caller
+abbrev pub number_of : Who → ℕ
+number_of (Caller number) = number
+number_of _ = 0
+
+-- ---- Okay
+
+-- is this a change that no one has decided
+abbrev pub waits : Option ChangeRow → Bool
+waits (Some change) = change.decision == undecided
+waits None = false
+
+-- the load of a status is an Okay of the change where it shows the node open and the change is undecided
+abbrev pub okay_of : View → ℕ → Naming
+okay_of v change log word =
+    if (word == open_word) && waits (as_change ((state_of v.start v.words log).pieces change))
+    then Some (Okay (number_of v.who) change) else None
+
+-- a caller may look whether the node of an installed change is open: at the place of the node's status
+pub record CanLoadOkay (v : View) (change place : ℕ) : Type 0 where
+  pub number : ℕ
+  pub mine : v.who ≡ Caller number
+  pub row : ChangeRow
+  pub installed : (now v).pieces change ≡ Some (Change row)
+  pub at : place ≡ place_of_status row.node
+
+-- ---- Pass
+
+-- is the row marked, and not finished
+abbrev pub is_marked : Option InnerRow → Bool
+is_marked (Some row) = row.status == marked_word
+is_marked None = false
+
+-- is this a change
+abbrev pub is_change : Option Ref → Bool
+is_change (Some (ChangeAt base)) = true
+is_change _ = false
+
+-- the load of a slot is a Pass where the node is marked and the word is neither a change nor Unset
+abbrev pub pass_of : View → ℕ → ℕ → Naming
+pass_of v node i log word =
+    if is_marked (as_inner ((state_of v.start v.words log).pieces node)) && (not (is_change (ref_of word)) && not (word == unset_word))
+    then Some (Pass (number_of v.who) node i word) else None
+
+-- a caller may pass a slot of a node that it has seen marked or finished: at the place of the slot
+pub record CanLoadPass (v : View) (node i place : ℕ) : Type 0 where
+  pub number : ℕ
+  pub mine : v.who ≡ Caller number
+  pub row : InnerRow
+  pub published : (now v).pieces node ≡ Some (Inner row)
+  pub within : i < row.degree
+  pub at : place ≡ slot_place node row.degree i
+
+-- ---- Lose
+
+-- the load of the status of a node above a held pair row is the loss of that row
+abbrev pub past_of : View → ℕ → Naming
+past_of v pair log word = Some (Lose (number_of v.who) (pair ∷ []))
+
+-- a caller may give up a pair row below a published inner row
+pub record CanLoadPast (v : View) (pair node : ℕ) : Type 0 where
+  pub number : ℕ
+  pub mine : v.who ≡ Caller number
+  pub held : HoldsRow (now v) number pair pair_words
+  pub row : InnerRow
+  pub published : (now v).pieces node ≡ Some (Inner row)
+  pub above : pair < node

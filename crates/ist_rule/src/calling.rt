@@ -1,0 +1,74 @@
+//! Beginning and ending calls and searches. Each is a load of word 0 that turns the view of its seat.
+ghost use Rattle.std.specs.Prelude.{◌≡◌};
+ghost use Rattle.ist_core.specs.declared.calls.Call.{Call as CallOf};
+ghost use Rattle.ist_rule.specs.Learning.{Turned, beginning, searching, ending, giving_up};
+ghost use Rattle.ist_rule.specs.Conditions.{CanBegin, CanEnd, CanGiveUp};
+
+use crate::plays::{Answered, Asked, Begins, Ends, GivesUp, Searches};
+use crate::table::{TreeSeat, TreeTable};
+use ist_core::{Command, Reply};
+use std::marker::Brand;
+
+fn begin_as<A: Asked>(table: &TreeTable, seat: &mut TreeSeat, command: Option<Command>)
+    requires same_table { seat.old.table ≡ table.now.table }
+    requires may_begin { CanBegin seat.old.view }
+    requires told { command ≡ A.command }
+    ensures same_table { seat.new.table ≡ seat.old.table }
+    ensures begun { Turned seat.old.view (beginning seat.old.view A.command) seat.new.view }
+{
+    let _ = command;
+    table.table.shared.load::<Begins<A>>(&mut seat.seat, 0);
+}
+
+/// The seat's caller is then in a call with this command, or with none.
+pub fn begin_call(table: &TreeTable, seat: &mut TreeSeat, command: Option<Command>)
+    requires same_table { seat.old.table ≡ table.now.table }
+    requires may_begin { CanBegin seat.old.view }
+    ensures same_table { seat.new.table ≡ seat.old.table }
+    ensures begun { Turned seat.old.view (beginning seat.old.view command) seat.new.view }
+{
+    begin_as::<Brand>(table, seat, command);
+}
+
+/// A search begins: the view then has no load, and how long its log is.
+pub fn begin_search(table: &TreeTable, seat: &mut TreeSeat)
+    requires same_table { seat.old.table ≡ table.now.table }
+    ensures same_table { seat.new.table ≡ seat.old.table }
+    ensures begun { Turned seat.old.view (searching seat.old.view) seat.new.view }
+{
+    table.table.shared.load::<Searches>(&mut seat.seat, 0);
+}
+
+fn end_as<A: Answered>(table: &TreeTable, seat: &mut TreeSeat, reply: Reply)
+    requires same_table { seat.old.table ≡ table.now.table }
+    requires may_end { CanEnd seat.old.view A.call }
+    requires reply { reply ≡ A.call.reply }
+    ensures same_table { seat.new.table ≡ seat.old.table }
+    ensures ended { Turned seat.old.view (ending seat.old.view A.call) seat.new.view }
+{
+    let _ = reply;
+    table.table.shared.load::<Ends<A>>(&mut seat.seat, 0);
+}
+
+/// The seat's call ends with this reply. It is then the last of its calls, with the next stamp, at
+/// the position that is shown for it.
+pub fn end_call(table: &TreeTable, seat: &mut TreeSeat, reply: Reply)
+    ghost call: { CallOf }
+    requires same_table { seat.old.table ≡ table.now.table }
+    requires may_end { CanEnd seat.old.view call }
+    requires reply { reply ≡ call.reply }
+    ensures same_table { seat.new.table ≡ seat.old.table }
+    ensures ended { Turned seat.old.view (ending seat.old.view call) seat.new.view }
+{
+    end_as::<Brand>(table, seat, reply);
+}
+
+/// The seat's call ends without an answer. Its calls are as before.
+pub fn give_up(table: &TreeTable, seat: &mut TreeSeat)
+    requires same_table { seat.old.table ≡ table.now.table }
+    requires may_give_up { CanGiveUp seat.old.view }
+    ensures same_table { seat.new.table ≡ seat.old.table }
+    ensures given_up { Turned seat.old.view (giving_up seat.old.view) seat.new.view }
+{
+    table.table.shared.load::<GivesUp>(&mut seat.seat, 0);
+}

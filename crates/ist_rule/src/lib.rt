@@ -1,0 +1,24 @@
+//! The table under its rule: between any two atomic steps its words are the image of a lawful log, and each step is one
+//! event of it or changes no state.
+//!
+//! Read `specs/Lib.antt`, then `view.rt`, then `steps.rt`. Stands on `ist_core`,
+//! `ist_layout` and `atomic_table`.
+#![tactic(auto)]
+
+mod calling;
+mod opening;
+mod plays;
+mod seating;
+mod steps;
+mod table;
+mod view;
+mod watching;
+
+pub use calling::{begin_call, begin_search, end_call, give_up};
+pub use opening::{close, know, open_table};
+pub use plays::{Answered, Asked, Named, NamedByLog, NamedByWord, NamedEitherWay};
+pub use seating::{join, split};
+pub use steps::{add, exchange, exchange_or_lose, load, store};
+pub use table::{TreeSeat, TreeTable, word_count};
+pub use view::{About, Load, Loads, OwnWord, Pending, Taken, TreeRule, View, Who};
+pub use watching::{load_okay, load_pass, load_past};

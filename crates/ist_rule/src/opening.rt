@@ -1,0 +1,57 @@
+//! Opening and closing a table, and what is so of each seat.
+ghost use Rattle.std.specs.Prelude.{◌≡◌, IfOk, length};
+ghost use Rattle.std.specs.Mem.Slots.{slots_items, slots_len, IsFull};
+ghost use Rattle.ist_core.specs.StartLayout.{start};
+ghost use Rattle.ist_core.specs.Images.{IsImage};
+ghost use Rattle.ist_core.specs.Lawful.{CanOpen};
+ghost use Rattle.ist_rule.specs.Rule.{opened_view, IsSound};
+ghost use Rattle.ist_rule.specs.Faces.{word_count_of};
+ghost use Rattle.ist_rule.specs.Seating.{IsLast};
+
+use crate::table::{TreeSeat, TreeTable};
+use crate::view::About;
+use atomic_table::{Closed, Table};
+use ist_core::Pair;
+use std::alloc::{AllocError, Global};
+use std::snapshot::Snapshot;
+
+/// A table of these words, and the maker's seat, which has seen nothing yet.
+///
+/// The words are the image of a new tree of the pairs. Fails for want of memory alone.
+pub fn open_table(
+    alloc: Global,
+    image: Vec<u64>,
+    pairs: &Vec<Pair>,
+) -> Result<(TreeTable, TreeSeat), AllocError>
+    requires opens { CanOpen pairs.now.items (length image.items) }
+    requires image { IsImage (start pairs.now.items (length image.items)) image.items }
+    ensures table { IfOk result (λ t. (word_count_of t.0 ≡ length image.items) × (t.0.start ≡ pairs.now.items)) }
+    ensures seat { IfOk result (λ t. (t.1.table ≡ t.0.table) × (t.1.view ≡ opened_view pairs.now.items (length image.items))) }
+{
+    let about = About {
+        start: Snapshot::of(pairs),
+        words: image.len() as u64,
+    };
+    let (table, seat) = Table::of_words(alloc, image.as_slice(), &about)?;
+    Ok((TreeTable { table }, TreeSeat { seat }))
+}
+
+/// What is so of the view of each seat. It costs nothing.
+pub fn know(seat: &TreeSeat)
+    ensures sound { IsSound seat.now.view }
+    ensures words { seat.now.view.words ≡ seat.now.table.words }
+{
+    let _ = &seat.seat;
+}
+
+/// The words after the last step, without a copy.
+///
+/// They are the image of a lawful log that goes on from the seat's own by events of others.
+pub fn close(table: TreeTable, seat: TreeSeat) -> Closed<(), Global>
+    requires same_table { seat.table ≡ table.table }
+    ensures full { IsFull result.words × IsFull result.slots }
+    ensures counts { (slots_len result.words ≡ word_count_of table) × (slots_len result.slots ≡ 0) }
+    ensures words { IsLast seat.view (slots_items result.words) }
+{
+    table.table.close_with(seat.seat)
+}

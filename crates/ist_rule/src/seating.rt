@@ -1,0 +1,39 @@
+//! Splitting a seat in two, and joining one to another.
+ghost use Rattle.std.specs.Prelude.{◌≡◌, ℕ};
+ghost use Rattle.ist_rule.specs.Learning.{Looked};
+ghost use Rattle.ist_rule.specs.Seating.{split_left, split_right, joined, CanJoin};
+
+use crate::plays::{Binds, Cuts, Looks};
+use crate::table::{TreeSeat, TreeTable};
+
+/// A seat with the log and the stamp of this one, without rows, and in no call.
+///
+/// Where a maker entered a caller that has no seat yet, the new seat is that caller's. Otherwise it
+/// is a note, which keeps the calls of the caller whose seat it was split from.
+pub fn split(table: &TreeTable, seat: &mut TreeSeat) -> TreeSeat
+    requires same_table { seat.old.table ≡ table.now.table }
+    ensures old { (seat.new.table ≡ seat.old.table) × (seat.new.view ≡ split_left seat.old.view) }
+    ensures new { (result.table ≡ seat.old.table) × (result.view ≡ split_right seat.old.view) }
+{
+    TreeSeat {
+        seat: table.table.shared.split_seat::<Cuts>(&mut seat.seat),
+    }
+}
+
+/// Takes in what the other seat has seen: the longer log, and the greater stamp.
+///
+/// The maker keeps the calls of a caller that is joined to it. Both logs are prefixes of the seat's
+/// log behind the call, as a load of word 0 tells.
+pub fn join(table: &TreeTable, seat: &mut TreeSeat, other: TreeSeat)
+    requires same_table { seat.old.table ≡ table.now.table }
+    requires other_table { other.table ≡ table.now.table }
+    requires may_join { CanJoin seat.old.view other.view }
+    ensures same_table { seat.new.table ≡ seat.old.table }
+    ensures joined { (word : ℕ) × Looked (joined seat.old.view other.view) 0 word seat.new.view }
+{
+    table
+        .table
+        .shared
+        .join_seat::<Binds>(&mut seat.seat, other.seat);
+    table.table.shared.load::<Looks>(&mut seat.seat, 0);
+}

@@ -1,0 +1,140 @@
+//! The steps on words.
+ghost use Rattle.std.specs.Prelude.{◌≡◌, ◌<◌, ℕ};
+ghost use Rattle.ist_core.specs.declared.events.Event.{Event};
+ghost use Rattle.ist_rule.specs.Faces.{word_count_of};
+ghost use Rattle.ist_rule.specs.Learning.{Looked, Logged, Exchanged, ExchangedOrLost, storing};
+ghost use Rattle.ist_rule.specs.Conditions.{IsOwn, CanExchange, CanAdd, CanExchangeOrLose};
+
+use crate::plays::{
+    Adds, Exchanges, ExchangesOrLoses, Looks, Named, NamedByWord, NamedEitherWay, Stores,
+};
+use crate::table::{TreeSeat, TreeTable};
+use std::marker::Brand;
+
+/// The word that stands at the place at this step.
+pub fn load(table: &TreeTable, seat: &mut TreeSeat, place: u64) -> u64
+    requires same_table { seat.old.table ≡ table.now.table }
+    requires within { place < word_count_of table.now }
+    ensures same_table { seat.new.table ≡ seat.old.table }
+    ensures looked { Looked seat.old.view place result seat.new.view }
+{
+    table
+        .table
+        .shared
+        .load::<Looks>(&mut seat.seat, place as usize)
+}
+
+/// Stores a word into a row that the seat's caller holds.
+pub fn store(table: &TreeTable, seat: &mut TreeSeat, place: u64, word: u64)
+    requires same_table { seat.old.table ≡ table.now.table }
+    requires within { place < word_count_of table.now }
+    requires own { IsOwn seat.old.view place }
+    ensures same_table { seat.new.table ≡ seat.old.table }
+    ensures stored { seat.new.view ≡ storing seat.old.view place word }
+{
+    table
+        .table
+        .shared
+        .store::<Stores>(&mut seat.seat, place as usize, word)
+}
+
+fn add_as<N: NamedByWord>(table: &TreeTable, seat: &mut TreeSeat, place: u64) -> u64
+    requires same_table { seat.old.table ≡ table.now.table }
+    requires within { place < word_count_of table.now }
+    requires event { CanAdd seat.old.view place N.event }
+    ensures same_table { seat.new.table ≡ seat.old.table }
+    ensures logged { Logged seat.old.view (N.event result) seat.new.view }
+{
+    table
+        .table
+        .shared
+        .fetch_add::<Adds<N>>(&mut seat.seat, place as usize, 1)
+}
+
+/// Adds 1 to the word at the place, and answers the word before. The step is the event that is named
+/// for that word: the last of the seat's log.
+pub fn add(table: &TreeTable, seat: &mut TreeSeat, place: u64) -> u64
+    ghost event: { ℕ → Event }
+    requires same_table { seat.old.table ≡ table.now.table }
+    requires within { place < word_count_of table.now }
+    requires event { CanAdd seat.old.view place event }
+    ensures same_table { seat.new.table ≡ seat.old.table }
+    ensures logged { Logged seat.old.view (event result) seat.new.view }
+{
+    add_as::<Brand>(table, seat, place)
+}
+
+fn exchange_as<N: Named>(
+    table: &TreeTable,
+    seat: &mut TreeSeat,
+    place: u64,
+    old: u64,
+    new: u64,
+) -> u64
+    requires same_table { seat.old.table ≡ table.now.table }
+    requires within { place < word_count_of table.now }
+    requires event { CanExchange seat.old.view place old new N.event }
+    ensures same_table { seat.new.table ≡ seat.old.table }
+    ensures exchanged { Exchanged seat.old.view N.event place old result seat.new.view }
+{
+    table
+        .table
+        .shared
+        .compare_exchange::<Exchanges<N>>(&mut seat.seat, place as usize, old, new)
+}
+
+/// Writes `new` where the word at the place is `old`, and answers the word that stood there.
+///
+/// Where that was `old`, the step is the event that is named: the last of the seat's log. Otherwise
+/// no word changes, and the step is a load.
+pub fn exchange(table: &TreeTable, seat: &mut TreeSeat, place: u64, old: u64, new: u64) -> u64
+    ghost event: { Event }
+    requires same_table { seat.old.table ≡ table.now.table }
+    requires within { place < word_count_of table.now }
+    requires event { CanExchange seat.old.view place old new event }
+    ensures same_table { seat.new.table ≡ seat.old.table }
+    ensures exchanged { Exchanged seat.old.view event place old result seat.new.view }
+{
+    exchange_as::<Brand>(table, seat, place, old, new)
+}
+
+fn exchange_or_lose_as<N: NamedEitherWay>(
+    table: &TreeTable,
+    seat: &mut TreeSeat,
+    place: u64,
+    old: u64,
+    new: u64,
+) -> u64
+    requires same_table { seat.old.table ≡ table.now.table }
+    requires within { place < word_count_of table.now }
+    requires events { CanExchangeOrLose seat.old.view place old new N.events.0 N.events.1 }
+    ensures same_table { seat.new.table ≡ seat.old.table }
+    ensures exchanged { ExchangedOrLost seat.old.view N.events.0 N.events.1 place old result seat.new.view }
+{
+    table
+        .table
+        .shared
+        .compare_exchange::<ExchangesOrLoses<N>>(&mut seat.seat, place as usize, old, new)
+}
+
+/// Writes `new` where the word at the place is `old`, and answers the word that stood there.
+///
+/// Where that was `old`, the step is the first of the events that are named: the last of the seat's
+/// log. Otherwise no word changes, and the step is the second: the loss of the rows that would have
+/// been published.
+pub fn exchange_or_lose(
+    table: &TreeTable,
+    seat: &mut TreeSeat,
+    place: u64,
+    old: u64,
+    new: u64,
+) -> u64
+    ghost events: { Event × Event }
+    requires same_table { seat.old.table ≡ table.now.table }
+    requires within { place < word_count_of table.now }
+    requires events { CanExchangeOrLose seat.old.view place old new events.0 events.1 }
+    ensures same_table { seat.new.table ≡ seat.old.table }
+    ensures exchanged { ExchangedOrLost seat.old.view events.0 events.1 place old result seat.new.view }
+{
+    exchange_or_lose_as::<Brand>(table, seat, place, old, new)
+}

@@ -1,0 +1,57 @@
+//! The table and its seats, as contracts see them.
+ghost use Rattle.std.specs.Prelude.{◌≡◌, ◌≤◌, ◌^◌};
+ghost use Rattle.ist_rule.specs.Faces.{word_count_of};
+
+use crate::view::{About, TreeRule, View};
+use atomic_table::{Seat, Table};
+use std::alloc::Global;
+use std::marker::Model;
+
+/// The words of a tree, shared by the threads that have seats of it.
+///
+/// Contracts see which table it is, with its number of words, and its start pairs.
+#[derive(Drop)]
+pub struct TreeTable {
+    pub(crate) table: Table<(), View, About, TreeRule, Global>,
+}
+
+impl Model for TreeTable {
+    ghost use Rattle.std.specs.Prelude.{◌≡◌, ◌≤◌, ◌^◌};
+    ghost use Rattle.ist_rule.specs.Faces.{TableFace};
+
+    ghost Value = { TableFace };
+
+    ghost view = { λ t. record { table = t.table.shared.table_id; start = t.table.shared.key.start.value.items } };
+
+    ghost invariant = { λ t. (t.table.shared.table_id.words ≡ t.table.shared.key.words)
+        × (4 ≤ t.table.shared.key.words) × (t.table.shared.key.words ≤ 2 ^ 28)
+        × (t.table.shared.table_id.slots ≡ 0) };
+}
+
+/// The token by which one thread steps on the words. It has no bytes.
+///
+/// Contracts see the table that it is of, and what the seat knows.
+#[derive(Drop)]
+pub struct TreeSeat {
+    pub(crate) seat: Seat<(), View>,
+}
+
+impl Model for TreeSeat {
+    ghost use Rattle.std.specs.Prelude.{◌≡◌, []};
+    ghost use Rattle.ist_rule.specs.Rule.{IsSound};
+    ghost use Rattle.ist_rule.specs.Faces.{SeatFace};
+
+    ghost Value = { SeatFace };
+
+    ghost view = { λ s. record { table = s.seat.table_id; view = s.seat.me.0 } };
+
+    ghost invariant = { λ s. (s.seat.me.1 ≡ []) × IsSound s.seat.me.0 × (s.seat.me.0.words ≡ s.seat.table_id.words) };
+}
+
+/// How many words the table has.
+pub fn word_count(table: &TreeTable) -> u64
+    ensures value { result ≡ word_count_of table.now }
+    ensures within { (4 ≤ result) × (result ≤ 2 ^ 28) }
+{
+    table.table.word_count() as u64
+}

@@ -1,0 +1,88 @@
+//! What a seat knows, and the rule that ties all views to the words.
+use atomic_table::TableRule;
+use ist_core::{Call, Command, Event, Pair};
+use std::collections::LinkedList;
+use std::snapshot::Snapshot;
+
+/// Whose seat it is. A maker's enters callers, a caller's makes all other events, a note's none.
+pub enum Who {
+    Maker,
+    Caller(u64),
+    /// The note of a caller, if it was split from one.
+    Note(Option<u64>),
+    /// A seat that was joined away.
+    Spent,
+}
+
+/// A word that the seat stored into a row of its own.
+pub struct OwnWord {
+    pub place: u64,
+    pub word: u64,
+}
+
+/// A load of the search: its place, the word, and how long the log was then.
+pub struct Load {
+    pub place: u64,
+    pub word: u64,
+    pub length: u64,
+}
+
+/// How long the log was when the search began, and its loads, the newest first.
+pub struct Loads {
+    pub since: u64,
+    pub list: LinkedList<Load>,
+}
+
+/// A call in progress: its command, if it has one, and how long the log was when it began.
+pub struct Pending {
+    pub command: Option<Command>,
+    pub length: u64,
+}
+
+/// The calls of a caller whose seat the maker took back.
+pub struct Taken {
+    pub number: u64,
+    pub calls: LinkedList<Call>,
+}
+
+/// What a seat knows. No value of it is ever made: contracts alone see it.
+///
+/// `start` and `words` are those of the table. `log` is what was seen, the newest event first, and
+/// `olds` the logs that met at the last join. `own` are the words of own rows, the newest first;
+/// `calls` the calls that were ended, the oldest first; `loaded` counts loads and failed exchanges.
+/// `made`, `given` and `taken` are the maker's: how many callers it entered, how many of these have
+/// their seats, and the calls of those that it took back.
+pub struct View {
+    pub start: LinkedList<Pair>,
+    pub words: u64,
+    pub who: Who,
+    pub log: LinkedList<Event>,
+    pub olds: LinkedList<LinkedList<Event>>,
+    pub own: LinkedList<OwnWord>,
+    pub calls: LinkedList<Call>,
+    pub stamp: u64,
+    pub loads: Loads,
+    pub loaded: u64,
+    pub pending: Option<Pending>,
+    pub made: u64,
+    pub given: u64,
+    pub taken: LinkedList<Taken>,
+}
+
+/// What the table is told once: its start pairs, which contracts alone see, and its number of words.
+#[derive(Drop)]
+pub struct About {
+    pub start: Snapshot<Vec<Pair>>,
+    pub words: u64,
+}
+
+/// The rule of the table.
+pub struct TreeRule;
+
+impl TableRule<(), View, About> for TreeRule {
+    ghost use Rattle.ist_rule.specs.Rule.{Kept, first_view};
+
+    ghost holds = { Kept };
+
+    ghost first = { first_view };
+}

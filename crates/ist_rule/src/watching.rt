@@ -1,0 +1,74 @@
+//! Loads that are events: a status that shows a node open, a slot of a marked node, and beside a pair row that is given up.
+ghost use Rattle.std.specs.Prelude.{◌≡◌, ◌+◌, ◌<◌};
+ghost use Rattle.ist_core.specs.RowLayout.{inner_status_offset};
+ghost use Rattle.ist_rule.specs.Faces.{word_count_of};
+ghost use Rattle.ist_rule.specs.Learning.{LoadedAs};
+ghost use Rattle.ist_rule.specs.Conditions.{CanLoadAs};
+ghost use Rattle.ist_rule.specs.Watching.{okay_of, CanLoadOkay, pass_of, CanLoadPass, past_of, CanLoadPast};
+
+use crate::opening::know;
+use crate::plays::{LoadsAs, NamedByLog};
+use crate::table::{TreeSeat, TreeTable};
+use ist_layout::INNER_STATUS_OFFSET;
+use std::marker::Brand;
+
+// The row and the index are there to name the event by.
+fn load_as<N: NamedByLog>(
+    table: &TreeTable,
+    seat: &mut TreeSeat,
+    place: u64,
+    row: u32,
+    index: u64,
+) -> u64
+    requires same_table { seat.old.table ≡ table.now.table }
+    requires within { place < word_count_of table.now }
+    requires event { CanLoadAs seat.old.view place N.event }
+    ensures same_table { seat.new.table ≡ seat.old.table }
+    ensures loaded { LoadedAs seat.old.view N.event place result seat.new.view }
+{
+    let _ = (row, index);
+    table
+        .table
+        .shared
+        .load::<LoadsAs<N>>(&mut seat.seat, place as usize)
+}
+
+/// Loads the status of the node of an installed change, which lies at `place`.
+///
+/// Where it is 0 and the change is undecided at this step, the step is the Okay of the change:
+/// the caller has seen the node open behind the installing. Meets the mark of the node.
+pub fn load_okay(table: &TreeTable, seat: &mut TreeSeat, change: u32, place: u64) -> u64
+    requires same_table { seat.old.table ≡ table.now.table }
+    requires may_load { CanLoadOkay seat.old.view change place }
+    ensures same_table { seat.new.table ≡ seat.old.table }
+    ensures seen { LoadedAs seat.old.view (okay_of seat.old.view change) place result seat.new.view }
+{
+    know(seat);
+    load_as::<Brand>(table, seat, place, change, 0)
+}
+
+/// Loads slot `index` of a node that was seen marked or finished. The slot lies at `place`.
+///
+/// Where the node isn't finished at this step and the word is neither a change nor Unset, the step is
+/// the Pass of the slot: it is frozen from then on. Meets an installing in the slot.
+pub fn load_pass(table: &TreeTable, seat: &mut TreeSeat, node: u32, index: u64, place: u64) -> u64
+    requires same_table { seat.old.table ≡ table.now.table }
+    requires may_load { CanLoadPass seat.old.view node index place }
+    ensures same_table { seat.new.table ≡ seat.old.table }
+    ensures seen { LoadedAs seat.old.view (pass_of seat.old.view node index) place result seat.new.view }
+{
+    know(seat);
+    load_as::<Brand>(table, seat, place, node, index)
+}
+
+/// Loads the status of an inner row above the held pair row `pair`, which is lost by this step.
+pub fn load_past(table: &TreeTable, seat: &mut TreeSeat, pair: u32, node: u32) -> u64
+    requires same_table { seat.old.table ≡ table.now.table }
+    requires may_load { CanLoadPast seat.old.view pair node }
+    ensures same_table { seat.new.table ≡ seat.old.table }
+    ensures seen { let place = node + inner_status_offset in
+        LoadedAs seat.old.view (past_of seat.old.view pair) place result seat.new.view }
+{
+    know(seat);
+    load_as::<Brand>(table, seat, u64::from(node) + INNER_STATUS_OFFSET, pair, 0)
+}

@@ -1,0 +1,51 @@
+-- The command line of the program, in the words of `clap`: which words it refuses, and what the others say.
+use Rattle.std.specs.Prelude.{ℕ, ◌-◌, ◌^◌, ◌==◌, Bool, not, List, [], ◌∷◌, length, codes, Option, Some, option_map, unwrap_or}
+use Rattle.std.specs.Str.Parse.{digits_value, without_leading_plus}
+use Rattle.clap.specs.Words.{App, Rule, Row, Text, new_app, new_rule, with_rule, matches_of, first_of, fault_of}
+use Rattle.clap.specs.declared.builder.action.ArgAction.TheVariants.{Set}
+use Rattle.clap.specs.declared.builder.value_parser.ValueParser.TheVariants.{Unsigned}
+use Rattle.tele_command.specs.declared.options.Options.{Options}
+
+-- an option with one value, a number from one to another, both included
+abbrev pub number_option : Text → ℕ → ℕ → Rule
+number_option name low high =
+    record (new_rule name) { long = Some name; action = Some Set; parser = Some (Unsigned low high) }
+
+-- the command, with four options
+abbrev pub tele : App
+tele =
+    with_rule (with_rule (with_rule (with_rule (new_app (codes "tele"))
+    (number_option (codes "workers") 1 64))
+    (number_option (codes "words") 64 268435456))
+    (number_option (codes "generate") 0 1048576))
+    (number_option (codes "seed") 0 (2 ^ 64 - 1))
+
+-- the words with the program's name first; without any word the name alone
+abbrev pub with_name : List Text → List Text
+with_name [] = codes "tele" ∷ []
+with_name (word ∷ words) = word ∷ words
+
+-- whether `clap` refuses the words, for another cause than want of memory
+abbrev pub are_refused : List Text → Bool
+are_refused words = not (length (fault_of tele (with_name words)) == 0)
+
+-- the number that a text says in digits; a plus may stand before them
+abbrev pub number_of : Text → ℕ
+number_of text = digits_value 10 (without_leading_plus text)
+
+-- the number that was found for the option of this name
+abbrev pub given : Text → List Row → Option ℕ
+given name rows = option_map number_of (first_of name rows)
+
+-- the options by what `clap` found in the words
+abbrev pub options_at : List Row → Options
+options_at rows = record {
+  workers = unwrap_or (given (codes "workers") rows) 4;
+  words = unwrap_or (given (codes "words") rows) 33554432;
+  generate = given (codes "generate") rows;
+  seed = unwrap_or (given (codes "seed") rows) 1;
+}
+
+-- what the words ask for
+abbrev pub options_in : List Text → Options
+options_in words = options_at (matches_of tele (with_name words))

@@ -1,0 +1,52 @@
+//! What the words of a command line ask for.
+ghost use Rattle.std.specs.Prelude.{◌≡◌, ◌≤◌, true, false, map, string_bytes, Err, IfOk, IsOk};
+ghost use Rattle.tele_command.specs.CommandLine.{are_refused, options_in};
+
+use crate::command::read;
+use std::alloc::Global;
+
+/// What a command line asks for.
+#[derive(Clone, Copy, Debug, PartialEq, Eq, Drop)]
+pub struct Options {
+    /// How many threads work side by side, from 1 to 64.
+    pub workers: u64,
+    /// How many words a tree has at most, from 64 to 268,435,456.
+    pub words: u64,
+    /// How many lines are made instead of read, at most 1,048,576.
+    pub generate: Option<u64>,
+    /// What lines are made from.
+    pub seed: u64,
+}
+
+/// Why words give no options.
+#[derive(Clone, Copy, Debug, PartialEq, Eq, Drop)]
+pub enum Refusal {
+    /// They are no words of the command.
+    Usage,
+    /// No memory was left.
+    Memory,
+}
+
+/// Reads the words of a command line, the program's name first. No word is read like the name alone.
+///
+/// `Usage` comes exactly where `clap` refuses the words for another cause than want of memory; a
+/// request for help or for the version is such a refusal.
+pub fn read_options(alloc: Global, words: &[String]) -> Result<Options, Refusal>
+    ensures values { IfOk result (λ options.
+        options ≡ options_in (map string_bytes words.now)) }
+    ensures taken { IsOk result → are_refused (map string_bytes words.now) ≡ false }
+    ensures usage { result ≡ Err Refusal.Usage →
+        are_refused (map string_bytes words.now) ≡ true }
+
+    ensures workers { IfOk result (λ options.
+        (1 ≤ options.workers) × (options.workers ≤ 64)) }
+    ensures words { IfOk result (λ options.
+        (64 ≤ options.words) × (options.words ≤ 268435456)) }
+{
+    if words.is_empty() {
+        let name = ["tele"];
+        read(alloc, name.as_slice())
+    } else {
+        read(alloc, words)
+    }
+}

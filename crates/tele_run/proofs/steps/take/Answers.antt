@@ -1,0 +1,54 @@
+use Rattle.std.proofs.Common.{ap}
+use Rattle.std.proofs.Common.{[], ◌∷◌}
+use Rattle.ist_core.specs.Map.{map_of}
+use Rattle.tele_lines.specs.Answer.{Good}
+use Rattle.tele_run.specs.Open.{map_in}
+use Rattle.tele_run.proofs.StepLemmas.{on_ok, on_err, on_ok3, at_refusal, part_before, taken_open, taken_full, taken_part, taken_interval, interval_part}
+use Rattle.tele_run.proofs.steps.take.Goals as goal
+
+-- a part of the round before an interval line was answered
+pub returns-in_err-answer-in-Interval-clause-part : goal.returns-in_err-answer-in-Interval-clause-part
+returns-in_err-answer-in-Interval-clause-part g c =
+    at_refusal c.from_residual.result
+    (part_before c.args.version (map_in c.args.round.now) c.args.round.now.tasks
+    (Good c.args.line.number c.args.version c.args.line.item ∷ []) _ _ c.in_err-answer-in-Interval.ensures.part)
+
+-- a point line fills the round
+pub returns-then-is_full-clause-taken : goal.returns-then-is_full-clause-taken
+returns-then-is_full-clause-taken g c =
+    let asks = c.in_default.ensures in
+    on_ok3 c.answer.result c.answer.ensures.printed c.answer.ensures.behind c.answer.ensures.none
+    (taken_full c.args.version (map_in c.args.round.now) c.args.round.now.tasks c.args.line.number c.args.line.item c.in-Point.command
+    c.ask.new.self.tasks c.in-Point.is asks.asked (map_in c.ask.new.self) (map_in c.answer.new.round) c.answer.new.round.tasks _ _
+    (ap map_of asks.same) (c.is_full.ensures.value.0 c.if-is_full.true))
+
+pub returns-then-is_full-clause-part : goal.returns-then-is_full-clause-part
+returns-then-is_full-clause-part g c =
+    let asks = c.in_default.ensures in
+    on_err c.answer.result c.answer.ensures.part
+    (taken_part c.args.version (map_in c.args.round.now) c.args.round.now.tasks c.args.line.number c.args.line.item c.in-Point.command
+    c.ask.new.self.tasks c.in-Point.is asks.asked (map_in c.ask.new.self) _ _ (ap map_of asks.same))
+
+-- a point line leaves the round open
+pub returns-else-is_full-clause-taken : goal.returns-else-is_full-clause-taken
+returns-else-is_full-clause-taken g c =
+    let asks = c.in_default.ensures in
+    taken_open c.args.version (map_in c.args.round.now) c.args.round.now.tasks c.args.line.number c.args.line.item c.in-Point.command
+    c.ask.new.self.tasks c.in-Point.is asks.asked (map_in c.ask.new.self) _ (ap map_of asks.same)
+
+-- an interval line ends the round
+pub returns-in_ok-answer-in-Interval-clause-taken : goal.returns-in_ok-answer-in-Interval-clause-taken
+returns-in_ok-answer-in-Interval-clause-taken g c =
+    let answered = c.in_ok-answer-in-Interval.ensures in
+    on_ok c.print_interval.result c.print_interval.ensures.printed
+    (taken_interval c.args.version (map_in c.args.round.now) c.args.round.now.tasks c.args.line.number c.in-Interval.first
+    c.in-Interval.last c.args.line.item c.in-Interval.is c.list.result.now (map_in c.answer-in-Interval.new.round) answered.behind
+    c.list.ensures.value c.answer-in-Interval.new.round.tasks _ _ _ c.requires.open answered.none answered.printed)
+
+pub returns-in_ok-answer-in-Interval-clause-part : goal.returns-in_ok-answer-in-Interval-clause-part
+returns-in_ok-answer-in-Interval-clause-part g c =
+    let answered = c.in_ok-answer-in-Interval.ensures in
+    on_err c.print_interval.result c.print_interval.ensures.part
+    (interval_part c.args.version (map_in c.args.round.now) c.args.round.now.tasks c.args.line.number c.in-Interval.first
+    c.in-Interval.last c.args.line.item c.in-Interval.is c.list.result.now (map_in c.answer-in-Interval.new.round) answered.behind
+    c.list.ensures.value _ _ _ answered.printed)
