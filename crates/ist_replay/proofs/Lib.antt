@@ -4,3 +4,5 @@ pub mod FreshLemmas
 pub mod EventLemmas
 pub mod TableLemmas
 pub mod BuildTableLemmas
+pub mod DecisionLemmas
+pub mod RefusingLemmas
