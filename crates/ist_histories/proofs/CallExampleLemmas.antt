@@ -49,8 +49,10 @@ writer_among =
       in_order = (tt, tt);
     }
   where
-    at : (call : Call) → Among call (the_put ∷ []) → slice_get (the_entry ∷ []) call.position ≡ Some (entry_by 1 call)
-    at call (inl e) = subst (λ c. slice_get (the_entry ∷ []) c.position ≡ Some (entry_by 1 c)) (sym e) refl
+    at : (call : Call) → Among call (the_put ∷ [])
+        → slice_get (the_entry ∷ []) call.position ≡ Some (entry_by 1 call)
+    at call (inl e) =
+        subst (λ c. slice_get (the_entry ∷ []) c.position ≡ Some (entry_by 1 c)) (sym e) refl
     at call (inr i) = absurd i
 
     plainly : (call : Call) → Among call (the_put ∷ []) → is_change call ≡ false → ⊥
@@ -59,7 +61,9 @@ writer_among =
 
 -- so it stands in the log
 pub writer_stands : StandsIn start_pairs 100 late_finished 1 (the_put ∷ [])
-writer_stands = subst (λ es. StandAmong (map_of start_pairs) es 1 (the_put ∷ [])) (sym late_changes) writer_among
+writer_stands =
+    subst (λ es. StandAmong (map_of start_pairs) es 1 (the_put ∷ []))
+    (sym late_changes) writer_among
 
 -- the early find reads the map at its position
 early_read : IsRead (map_of start_pairs) (the_entry ∷ []) early_find
@@ -79,19 +83,26 @@ reader_among =
       in_order = ((record { position = omega arith; stamp = omega arith }, tt), (tt, tt));
     }
   where
-    changing_none : (call : Call) → Among call (early_find ∷ late_find ∷ []) → is_change call ≡ true → ⊥
+    changing_none : (call : Call) → Among call (early_find ∷ late_find ∷ []) → is_change call ≡ true
+        → ⊥
     changing_none call (inl e) changing = clash (sym (subst (λ c. is_change c ≡ true) e changing))
-    changing_none call (inr (inl e)) changing = clash (sym (subst (λ c. is_change c ≡ true) e changing))
+    changing_none call (inr (inl e)) changing =
+        clash (sym (subst (λ c. is_change c ≡ true) e changing))
     changing_none call (inr (inr i)) changing = i
 
-    reads : (call : Call) → Among call (early_find ∷ late_find ∷ []) → IsRead (map_of start_pairs) (the_entry ∷ []) call
-    reads call (inl e) = subst (λ c. IsRead (map_of start_pairs) (the_entry ∷ []) c) (sym e) early_read
-    reads call (inr (inl e)) = subst (λ c. IsRead (map_of start_pairs) (the_entry ∷ []) c) (sym e) late_read
+    reads : (call : Call) → Among call (early_find ∷ late_find ∷ [])
+        → IsRead (map_of start_pairs) (the_entry ∷ []) call
+    reads call (inl e) =
+        subst (λ c. IsRead (map_of start_pairs) (the_entry ∷ []) c) (sym e) early_read
+    reads call (inr (inl e)) =
+        subst (λ c. IsRead (map_of start_pairs) (the_entry ∷ []) c) (sym e) late_read
     reads call (inr (inr i)) = absurd i
 
 -- so they stand in the log
 pub reader_stands : StandsIn start_pairs 100 late_finished 2 (early_find ∷ late_find ∷ [])
-reader_stands = subst (λ es. StandAmong (map_of start_pairs) es 2 (early_find ∷ late_find ∷ [])) (sym late_changes) reader_among
+reader_stands =
+    subst (λ es. StandAmong (map_of start_pairs) es 2 (early_find ∷ late_find ∷ []))
+    (sym late_changes) reader_among
 
 -- the early find stands before the put
 early_among : StandAmong (map_of start_pairs) [] 2 (early_find ∷ [])
@@ -108,7 +119,9 @@ early_among =
     changing_none call (inr i) changing = i
 
     reads : (call : Call) → Among call (early_find ∷ []) → IsRead (map_of start_pairs) [] call
-    reads call (inl e) = subst (λ c. IsRead (map_of start_pairs) [] c) (sym e) record { within = omega arith; reply = sym old_value }
+    reads call (inl e) =
+        subst (λ c. IsRead (map_of start_pairs) [] c)
+        (sym e) record { within = omega arith; reply = sym old_value }
     reads call (inr i) = absurd i
 
 -- so it stands in the log of that moment
@@ -123,10 +136,12 @@ resolved_changes = refl
 
 -- the late find is fresh
 pub late_fresh : IsFresh start_pairs 100 late_resolved 1 late_find
-late_fresh = record { position = subst (λ es. length es ≤ 1) (sym resolved_changes) (omega arith); later = omega arith }
+late_fresh =
+    record { position = subst (λ es. length es ≤ 1) (sym resolved_changes) (omega arith); later = omega arith }
 
 -- the two passes, woven
-pub calls_woven : woven (changes_of start_pairs 100 late_finished) (writer ∷ reader ∷ []) ≡ one_history
+pub calls_woven : woven (changes_of start_pairs 100 late_finished)
+    (writer ∷ reader ∷ []) ≡ one_history
 calls_woven = subst (λ es. woven es (writer ∷ reader ∷ []) ≡ one_history) (sym late_changes) refl
 
 -- that it is legal follows from where the calls stand

@@ -39,6 +39,23 @@ stand_on pairs words earlier log number calls g none h =
     subst (λ es. StandAmong (map_of pairs) es number calls) (sym on.1)
     (stand_more (map_of pairs) old on.0 number calls (subst (λ es. entries_by number es ≡ entries_by number old) on.1 none) h)
 
+-- stamps up to one are up to a higher one
+stamps_up : (told stamp : ℕ) (calls : List Call) → told ≤ stamp → Each (λ call. call.stamp ≤ told) calls
+    → Each (λ call. call.stamp ≤ stamp) calls
+stamps_up told stamp [] h all = tt
+stamps_up told stamp (call ∷ calls) h all =
+    let low = all.0 in (omega arith, stamps_up told stamp calls h all.1)
+
+-- a pass has its calls in a log that goes on
+pub keep_calls : (pairs : List Pair) (words : ℕ) (earlier log : Log) (number told stamp : ℕ) (calls : List Call)
+    → GoesOn earlier log → MadeNoEntry pairs words number earlier log → told ≤ stamp
+    → HasCalls pairs words earlier number told calls → HasCalls pairs words log number stamp calls
+keep_calls pairs words earlier log number told stamp calls g none low has =
+    record {
+      stand = stand_on pairs words earlier log number calls g none has.stand;
+      stamps = stamps_up told stamp calls low has.stamps;
+    }
+
 -- ---- order
 
 -- a call that stands is behind no later position than the number of entries
@@ -47,8 +64,12 @@ pub behind_within : (m : Map) (entries : List Entry) (number : ℕ) (calls : Lis
     → position_behind call ≤ length entries
 behind_within m entries number calls s call i = at (is_change call) refl
   where
-    at : (v : Bool) → is_change call ≡ v → (if v then call.position + 1 else call.position) ≤ length entries
-    at true e = let below = slice_get_within entries call.position (entry_by number call) (s.made call i e) in omega arith
+    at : (v : Bool) → is_change call ≡ v
+        → (if v then call.position + 1 else call.position) ≤ length entries
+    at true e =
+        let below =
+        slice_get_within entries call.position (entry_by number call)
+        (s.made call i e) in omega arith
     at false e = (s.read call i e).within
 
 -- calls that follow each other, with one that follows them all
@@ -61,7 +82,8 @@ follow_more (call ∷ calls) last h f = (
 )
 
 -- a fresh call follows each call of the pass
-pub fresh_follows : (pairs : List Pair) (words : ℕ) (seen : Log) (number stamp : ℕ) (calls : List Call) (last : Call)
+pub fresh_follows : (pairs : List Pair) (words : ℕ) (seen : Log) (number stamp : ℕ)
+    (calls : List Call) (last : Call)
     → StandsIn pairs words seen number calls → IsFresh pairs words seen stamp last
     → (call : Call) → Among call calls → call.stamp ≤ stamp → Follows call last
 fresh_follows pairs words seen number stamp calls last s fresh call i low =
@@ -76,11 +98,13 @@ fresh_follows pairs words seen number stamp calls last s fresh call i low =
 among_last : (call last : Call) (calls : List Call) → Among call (calls ++ last ∷ [])
     → Among call calls ⊎ (call ≡ last)
 among_last call last calls h =
-    ⊎_elim (λ i. inl i) (λ i. ⊎_elim (λ e. inr e) (λ e. absurd e) i) (among-append call calls (last ∷ []) h)
+    ⊎_elim (λ i. inl i) (λ i. ⊎_elim (λ e. inr e) (λ e. absurd e) i)
+    (among-append call calls (last ∷ []) h)
 
 -- the entries that are due for calls with one more that changes nothing
 due_reading : (number : ℕ) (calls : List Call) (last : Call) → is_change last ≡ false
-    → map (entry_by number) (filter is_change (calls ++ last ∷ [])) ≡ map (entry_by number) (filter is_change calls)
+    → map (entry_by number) (filter is_change (calls ++ last ∷ [])) ≡ map (entry_by number)
+    (filter is_change calls)
 due_reading number calls last plain =
     ap (map (entry_by number))
     (filter-append is_change calls (last ∷ []) ∙ ap (λ xs. filter is_change calls ++ xs) (none last plain) ∙ append-nil (filter is_change calls))
@@ -105,7 +129,8 @@ stamps_last : (stamp : ℕ) (calls : List Call) (last : Call) → stamp < last.s
     → Each (λ call. call.stamp ≤ stamp) calls
     → Each (λ call. call.stamp ≤ last.stamp) (calls ++ last ∷ [])
 stamps_last stamp [] last h all = (omega arith, tt)
-stamps_last stamp (call ∷ calls) last h all = let low = all.0 in (omega arith, stamps_last stamp calls last h all.1)
+stamps_last stamp (call ∷ calls) last h all =
+    let low = all.0 in (omega arith, stamps_last stamp calls last h all.1)
 
 -- a test has one outcome
 differ : (v : Bool) → v ≡ true → v ≡ false → ⊥
@@ -114,7 +139,8 @@ differ v e h = cc
 -- ---- one more call
 
 -- a call that changes nothing is added
-pub add_reading : (pairs : List Pair) (words : ℕ) (seen log : Log) (number stamp : ℕ) (calls : List Call) (call : Call)
+pub add_reading : (pairs : List Pair) (words : ℕ) (seen log : Log) (number stamp : ℕ)
+    (calls : List Call) (call : Call)
     → HasCalls pairs words seen number stamp calls
     → GoesOn seen log → MadeNoEntry pairs words number seen log
     → is_change call ≡ false → IsFresh pairs words seen stamp call
@@ -127,10 +153,14 @@ add_reading pairs words seen log number stamp calls last has g none plain fresh 
       stand =
           record {
             made = λ call i e.
-                ⊎_elim (λ j. s.made call j e) (λ z. absurd (differ (is_change call) e (ap is_change z ∙ plain))) (among_last call last calls i);
+                ⊎_elim (λ j. s.made call j e)
+                (λ z. absurd (differ (is_change call) e (ap is_change z ∙ plain)))
+                (among_last call last calls i);
             exactly = s.exactly ∙ sym (due_reading number calls last plain);
             read = λ call i e.
-                ⊎_elim (λ j. s.read call j e) (λ z. subst (λ x. IsRead (map_of pairs) entries x) (sym z) read) (among_last call last calls i);
+                ⊎_elim (λ j. s.read call j e)
+                (λ z. subst (λ x. IsRead (map_of pairs) entries x) (sym z) read)
+                (among_last call last calls i);
             in_order =
                 follow_more calls last s.in_order
                 (λ call i. fresh_follows pairs words seen number stamp calls last has.stand fresh call i (each-among (λ x. x.stamp ≤ stamp) call calls has.stamps i));
@@ -139,7 +169,8 @@ add_reading pairs words seen log number stamp calls last has g none plain fresh 
     }
 
 -- a call that changes the map is added at its entry
-pub add_update : (pairs : List Pair) (words : ℕ) (seen log : Log) (number stamp : ℕ) (calls : List Call) (call : Call)
+pub add_update : (pairs : List Pair) (words : ℕ) (seen log : Log) (number stamp : ℕ)
+    (calls : List Call) (call : Call)
     → HasCalls pairs words seen number stamp calls
     → TookEffect pairs words seen log number call → is_change call ≡ true → stamp < call.stamp
     → IsAdded pairs words seen log number stamp calls call
@@ -150,15 +181,18 @@ add_update pairs words seen log number stamp calls last has took changing later 
     let first = start pairs words in
     let one = entry_by number last in
     let since = changes_on first seen took.earlier took.since in
-    let until = changes_on first (Decide took.caller took.base true ∷ took.earlier) log took.until in
+    let until =
+    changes_on first (Decide took.caller took.base true ∷ took.earlier) log took.until in
     let front = changes_of pairs words took.earlier in
     let are : entries ≡ front ++ (one ∷ until.0) =
-    until.1 ∙ ap (λ es. (front ++ es) ++ until.0) took.entry ∙ append_assoc front (one ∷ []) until.0 in
+    until.1 ∙ ap (λ es. (front ++ es) ++ until.0) took.entry
+    ∙ append_assoc front (one ∷ []) until.0 in
     let all : entries ≡ old ++ (since.0 ++ (one ∷ until.0)) =
     are ∙ ap (λ es. es ++ (one ∷ until.0)) since.1 ∙ append_assoc old since.0 (one ∷ until.0) in
     let lengths = ap length since.1 ∙ length-append old since.0 in
     let position = took.position in
-    let fresh : IsFresh pairs words seen stamp last = record { position = omega arith; later = later } in
+    let fresh : IsFresh pairs words seen stamp last =
+    record { position = omega arith; later = later } in
     let s = has.stand in
     record {
       has_calls =
@@ -172,7 +206,9 @@ add_update pairs words seen log number stamp calls last has took changing later 
                       subst (λ x. slice_get entries x.position ≡ Some (entry_by number x)) (sym z)
                       (subst (λ p. slice_get entries p ≡ Some one) (sym position) (subst (λ es. slice_get es (length front) ≡ Some one) (sym are) (get_at front until.0 one))))
                       (among_last call last calls i);
-                  exactly = took.alone ∙ ap (λ es. es ++ one ∷ []) s.exactly ∙ sym (due_update number calls last changing);
+                  exactly =
+                      took.alone ∙ ap (λ es. es ++ one ∷ []) s.exactly
+                      ∙ sym (due_update number calls last changing);
                   read = λ call i e.
                       ⊎_elim
                       (λ j. subst (λ es. IsRead m es call) (sym all) (read_on m old (since.0 ++ (one ∷ until.0)) call (s.read call j e)))

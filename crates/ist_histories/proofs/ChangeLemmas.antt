@@ -51,5 +51,8 @@ pub read_on : (m : Map) (xs ys : List Entry) (call : Call) → IsRead m xs call
 read_on m xs ys call h =
     record {
       within = (let a = h.within in let b = length-append xs ys in omega arith);
-      reply = h.reply ∙ ap (λ es. reply_to (map_behind m es) call.command) (sym (take-append-le call.position xs ys h.within));
+      reply =
+          h.reply
+          ∙ ap (λ es. reply_to (map_behind m es) call.command)
+          (sym (take-append-le call.position xs ys h.within));
     }

@@ -27,7 +27,8 @@ use Rattle.ist_histories.proofs.ValueLemmas.{value_of, get-map_of, same_gets}
 use Rattle.ist_histories.proofs.FindLemmas.{finds_once}
 use Rattle.ist_histories.proofs.BelowLemmas.{pairs_rise}
 use Rattle.ist_histories.proofs.RootLemmas.{named_value}
-use Rattle.ist_histories.proofs.TellLemmas.{Told, told}
+use Rattle.ist_histories.proofs.TellLemmas.{Told}
+use Rattle.ist_histories.proofs.ToldLemmas.{told}
 use Rattle.ist_histories.proofs.OpeningLemmas.{start_contents}
 use Rattle.ist_histories.proofs.NeededLemmas.{all_needed}
 
@@ -55,28 +56,35 @@ keys-entries (p ∷ pairs) = ap (λ ks. p.key ∷ ks) (keys-entries pairs)
 pairs_of-map_of : (pairs : List Pair) → Rises (λ p. p.key) pairs → pairs_of (map_of pairs) ≡ pairs
 pairs_of-map_of pairs rise =
     let es = map entry pairs in
-    let sorted = is_sorted-rising es (subst IsStrictlyIncreasing (sym (keys-entries pairs)) (next_from_rises (λ p. p.key) pairs rise)) in
+    let sorted =
+    is_sorted-rising es
+    (subst IsStrictlyIncreasing (sym (keys-entries pairs)) (next_from_rises (λ p. p.key) pairs rise)) in
     let holds : T (fin.is_sorted nat_cmp es) = subst T (sym sorted) tt in
     let same : map_of pairs ≡ fin.from_sorted es =
     fin.same_map nat_cmp_total fin.nat_cmp-IsAntisymmetric _ _
     (λ q. fin.get-from_entries nat_cmp_total es q ∙ sym (fin.get-from_sorted nat_cmp es q holds)) in
-    ap (λ m. map pair (fin.entries m)) same ∙ ap (map pair) (fin.entries-from_sorted nat_cmp es holds) ∙ pairs-entries pairs
+    ap (λ m. map pair (fin.entries m)) same
+    ∙ ap (map pair) (fin.entries-from_sorted nat_cmp es holds) ∙ pairs-entries pairs
 
 -- ---- behind a log
 
 module _ (pairs : List Pair) (words : ℕ) (opens : CanOpen pairs words) where
   -- what the tree reads as is named for the anchor's slot
-  tree_value : (log : Log) (h : EachEnabled (start pairs words) log) (has : HasSome (state_of pairs words log).pieces (logical (state_of pairs words log).pieces (state_of pairs words log).anchor))
+  tree_value : (log : Log) (h : EachEnabled (start pairs words) log)
+      (has : HasSome (state_of pairs words log).pieces (logical (state_of pairs words log).pieces (state_of pairs words log).anchor))
       → (key : ℕ) → Gives (state_of pairs words log) key (value_of key (map pair_of has.leaves))
   tree_value log h has key =
       let t = state_of pairs words log in
-      named_value pairs words opens log h (logical t.pieces t.anchor) has.leaves has.reached anchor 0 (slot_reads_as t anchor 0 t.anchor (names pairs words opens log h) (in_anchor refl refl refl)) key
+      named_value pairs words opens log h
+      (logical t.pieces t.anchor) has.leaves has.reached anchor 0
+      (slot_reads_as t anchor 0 t.anchor (names pairs words opens log h) (in_anchor refl refl refl)) key
 
   -- a new table gives each key what the map of its pairs has
   opening : (key : ℕ) → Gives (start pairs words) key (fin.get (map_of pairs) key)
   opening key =
       let it = start_contents pairs words opens in
-      subst (λ v. Gives (start pairs words) key v) (ap (value_of key) (sym it.pairs_are) ∙ sym (get-map_of pairs key))
+      subst (λ v. Gives (start pairs words) key v)
+      (ap (value_of key) (sym it.pairs_are) ∙ sym (get-map_of pairs key))
       (tree_value [] tt record { leaves = it.leaves; reached = it.reached } key)
 
   -- what the tree tells of the changes
@@ -84,11 +92,15 @@ module _ (pairs : List Pair) (words : ℕ) (opens : CanOpen pairs words) where
   told_at log h = told pairs words opens (all_needed pairs words opens) opening log h
 
   -- some leaves lie in the tree
-  leaves_at : (log : Log) → EachEnabled (start pairs words) log → HasSome (state_of pairs words log).pieces (logical (state_of pairs words log).pieces (state_of pairs words log).anchor)
-  leaves_at log h = let it = contents_exist pairs words opens log h in record { leaves = it.1.leaves; reached = it.1.reached }
+  leaves_at : (log : Log) → EachEnabled (start pairs words) log
+      → HasSome (state_of pairs words log).pieces (logical (state_of pairs words log).pieces (state_of pairs words log).anchor)
+  leaves_at log h =
+      let it =
+      contents_exist pairs words opens log h in record { leaves = it.1.leaves; reached = it.1.reached }
 
   -- their keys rise
-  rise_at : (log : Log) (h : EachEnabled (start pairs words) log) → Rises (λ p. p.key) (map pair_of (leaves_at log h).leaves)
+  rise_at : (log : Log) (h : EachEnabled (start pairs words) log)
+      → Rises (λ p. p.key) (map pair_of (leaves_at log h).leaves)
   rise_at log h =
       let t = state_of pairs words log in
       let has = leaves_at log h in
@@ -98,7 +110,8 @@ module _ (pairs : List Pair) (words : ℕ) (opens : CanOpen pairs words) where
       (slot_reads_as t anchor 0 t.anchor o (in_anchor refl refl refl))).1
 
   -- they are the pairs of the map behind the changes
-  pairs_at : (log : Log) (h : EachEnabled (start pairs words) log) → pairs_of (map_now pairs words log) ≡ map pair_of (leaves_at log h).leaves
+  pairs_at : (log : Log) (h : EachEnabled (start pairs words) log)
+      → pairs_of (map_now pairs words log) ≡ map pair_of (leaves_at log h).leaves
   pairs_at log h =
       let t = state_of pairs words log in
       let has = leaves_at log h in
@@ -106,15 +119,21 @@ module _ (pairs : List Pair) (words : ℕ) (opens : CanOpen pairs words) where
       let same : map_now pairs words log ≡ map_of xs =
       same_gets (map_now pairs words log) (map_of xs)
       (λ key.
-      finds_once t.pieces key (logical t.pieces t.anchor) (fin.get (map_now pairs words log) key) (value_of key xs) ((told_at log h).gives key) (tree_value log h has key)
+      finds_once t.pieces key (logical t.pieces t.anchor) (fin.get (map_now pairs words log) key)
+      (value_of key xs) ((told_at log h).gives key) (tree_value log h has key)
       ∙ sym (get-map_of xs key)) in
       ap pairs_of same ∙ pairs_of-map_of xs (rise_at log h)
 
   -- the contents are the pairs of the map behind the changes
-  pub contents_at : (log : Log) → EachEnabled (start pairs words) log → HasContents (state_of pairs words log) (pairs_of (map_now pairs words log))
-  contents_at log h = let has = leaves_at log h in record { leaves = has.leaves; reached = has.reached; pairs_are = pairs_at log h }
+  pub contents_at : (log : Log) → EachEnabled (start pairs words) log
+      → HasContents (state_of pairs words log) (pairs_of (map_now pairs words log))
+  contents_at log h =
+      let has =
+      leaves_at log h in record { leaves = has.leaves; reached = has.reached; pairs_are = pairs_at log h }
 
   -- these pairs rise by key
-  pub pairs_rise_at : (log : Log) → EachEnabled (start pairs words) log → IsStrictlyIncreasing (map (λ p. p.key) (pairs_of (map_now pairs words log)))
+  pub pairs_rise_at : (log : Log) → EachEnabled (start pairs words) log
+      → IsStrictlyIncreasing (map (λ p. p.key) (pairs_of (map_now pairs words log)))
   pairs_rise_at log h =
-      subst (λ xs. IsStrictlyIncreasing (map (λ p. p.key) xs)) (sym (pairs_at log h)) (next_from_rises (λ p. p.key) (map pair_of (leaves_at log h).leaves) (rise_at log h))
+      subst (λ xs. IsStrictlyIncreasing (map (λ p. p.key) xs)) (sym (pairs_at log h))
+      (next_from_rises (λ p. p.key) (map pair_of (leaves_at log h).leaves) (rise_at log h))

@@ -32,10 +32,12 @@ use Rattle.ist_histories.proofs.NeedLemmas.{Needs}
 
 module _ (pairs : List Pair) (words : ℕ) (opens : CanOpen pairs words) where
   -- where a pending change has an Okay, its node isn't finished
-  pub unfinished : (log : Log) → EachEnabled (start pairs words) log → Needs pairs words log → (base : ℕ) (change : ChangeRow)
+  pub unfinished : (log : Log) → EachEnabled (start pairs words) log → Needs pairs words log
+      → (base : ℕ) (change : ChangeRow)
       → IsPending (state_of pairs words log) base change → Happened (Okays base) log
       → IsFinished (state_of pairs words log) change.node → ⊥
-  unfinished log h n base change p okay f = at (frozen.closed pairs words opens log h change.node change.index v.0 v.1).keeps
+  unfinished log h n base change p okay f =
+      at (frozen.closed pairs words opens log h change.node change.index v.0 v.1).keeps
     where
       t : Snapshot
       t = state_of pairs words log
@@ -48,10 +50,15 @@ module _ (pairs : List Pair) (words : ℕ) (opens : CanOpen pairs words) where
 
       at : KeepsWord t log change.node change.index v.0 → ⊥
       at (holds_it k) =
-          let same = slot_once t change.node change.index (word_of (ChangeAt base)) v.0 (anchor_free pairs words log h) slot k in
-          passed_no_change (start pairs words) log change.node change.index v.0 h v.1 base (ap ref_of (sym same) ∙ change_read pairs words opens log h base change p.published)
+          let same =
+          slot_once t change.node change.index (word_of (ChangeAt base)) v.0
+          (anchor_free pairs words log h) slot k in
+          passed_no_change (start pairs words) log change.node change.index v.0 h v.1 base
+          (ap ref_of (sym same) ∙ change_read pairs words opens log h base change p.published)
       at (holds_change x) =
-          let same = slot_once t change.node change.index (word_of (ChangeAt base)) (word_of (ChangeAt x.base)) (anchor_free pairs words log h) slot x.in_slot in
+          let same =
+          slot_once t change.node change.index (word_of (ChangeAt base))
+          (word_of (ChangeAt x.base)) (anchor_free pairs words log h) slot x.in_slot in
           x.unseen (subst (λ b. Happened (Okays b) log) (same_change_word base x.base same) okay)
 
 -- ---- when a change is decided
@@ -77,36 +84,49 @@ pub record Turning (earlier log : Log) (base : ℕ) : Type 0 where
 
 module _ (pairs : List Pair) (words : ℕ) where
   -- a change that was decided yes was decided so at some moment
-  pub yes_decided : (log : Log) → EachEnabled (start pairs words) log → (base : ℕ) (change : ChangeRow)
-      → (state_of pairs words log).pieces base ≡ Some (Change change) → change.decision ≡ decided_yes → Decided log base
+  pub yes_decided : (log : Log) → EachEnabled (start pairs words) log
+      → (base : ℕ) (change : ChangeRow)
+      → (state_of pairs words log).pieces base ≡ Some (Change change)
+      → change.decision ≡ decided_yes → Decided log base
   yes_decided =
       changes_by pairs words (λ log base change. change.decision ≡ decided_yes → Decided log base)
       (λ log event h base change old there before said. (let it = before said in record { caller = it.caller; earlier = it.earlier; decided = one_event event it.decided }))
       (λ log caller base rows h can said. (let none = can.unset in absurd (omega arith)))
       (λ log caller base said h can before is. at log caller base said (said_yes said is))
     where
-      at : (log : Log) (caller base : ℕ) (said : Bool) → said ≡ true → Decided (Decide caller base said ∷ log) base
+      at : (log : Log) (caller base : ℕ) (said : Bool) → said ≡ true
+          → Decided (Decide caller base said ∷ log) base
       at log caller base said is =
-          subst (λ v. Decided (Decide caller base v ∷ log) base) (sym is) record { caller = caller; earlier = log; decided = same_log }
+          subst (λ v. Decided (Decide caller base v ∷ log) base)
+          (sym is) record { caller = caller; earlier = log; decided = same_log }
 
   -- behind its decision a change is decided yes
-  pub decided_behind : (caller base : ℕ) (a log : Log) → GoesOn (Decide caller base true ∷ a) log → EachEnabled (start pairs words) log → (change : ChangeRow)
-      → (state_of pairs words log).pieces base ≡ Some (Change change) → change.decision ≡ decided_yes
+  pub decided_behind : (caller base : ℕ) (a log : Log) → GoesOn (Decide caller base true ∷ a) log
+      → EachEnabled (start pairs words) log → (change : ChangeRow)
+      → (state_of pairs words log).pieces base ≡ Some (Change change)
+      → change.decision ≡ decided_yes
   decided_behind caller base a log g h change e =
       let m = enabled_before (start pairs words) (Decide caller base true ∷ a) log g h in
       let now = state_of pairs words (Decide caller base true ∷ a) in
       let turned : ChangeRow = record (m.1.change) { decision = decided_yes } in
       let there : now.pieces base ≡ Some (Change turned) =
-      changed_at-same (state_of pairs words a).pieces base (with_decision decided_yes) ∙ ap (option_map (with_decision decided_yes)) m.1.pending.published in
-      let it = change_there now.pieces (state_of pairs words log).pieces (grow_between pairs words (Decide caller base true ∷ a) log h g) base turned there in
-      ap (λ c. c.decision) (same_change ((state_of pairs words log).pieces base) change it.0 e it.1) ∙ it.2.decided (λ none. omega arith)
+      changed_at-same (state_of pairs words a).pieces base (with_decision decided_yes)
+      ∙ ap (option_map (with_decision decided_yes)) m.1.pending.published in
+      let it =
+      change_there now.pieces (state_of pairs words log).pieces
+      (grow_between pairs words (Decide caller base true ∷ a) log h g) base turned there in
+      ap (λ c. c.decision) (same_change ((state_of pairs words log).pieces base) change it.0 e it.1)
+      ∙ it.2.decided (λ none. omega arith)
 
   -- a change that wasn't decided yes earlier, and is, was decided so in between
   pub turns_since : (earlier log : Log) → GoesOn earlier log → EachEnabled (start pairs words) log
       → (base : ℕ) (new : ChangeRow)
       → ((old : ChangeRow) → (state_of pairs words earlier).pieces base ≡ Some (Change old) → old.decision ≢ decided_yes)
-      → (state_of pairs words log).pieces base ≡ Some (Change new) → new.decision ≡ decided_yes → Turning earlier log base
-  turns_since earlier log g h base new not_yet f said = ⊎_elim (λ x. behind x) (λ x. absurd (before x)) (prefixes earlier (Decide d.caller base true ∷ d.earlier) log g d.decided)
+      → (state_of pairs words log).pieces base ≡ Some (Change new) → new.decision ≡ decided_yes
+      → Turning earlier log base
+  turns_since earlier log g h base new not_yet f said =
+      ⊎_elim (λ x. behind x) (λ x. absurd (before x))
+      (prefixes earlier (Decide d.caller base true ∷ d.earlier) log g d.decided)
     where
       d : Decided log base
       d = yes_decided log h base new f said
@@ -114,25 +134,33 @@ module _ (pairs : List Pair) (words : ℕ) where
       before : ¬ (GoesOn (Decide d.caller base true ∷ d.earlier) earlier)
       before x =
           let a = enabled_before (start pairs words) earlier log g h in
-          let m = enabled_before (start pairs words) (Decide d.caller base true ∷ d.earlier) earlier x a in
-          let it = change_there (state_of pairs words d.earlier).pieces (state_of pairs words earlier).pieces
+          let m =
+          enabled_before (start pairs words)
+          (Decide d.caller base true ∷ d.earlier) earlier x a in
+          let it =
+          change_there (state_of pairs words d.earlier).pieces
+          (state_of pairs words earlier).pieces
           (grow_between pairs words d.earlier earlier a (on_trans d.earlier (Decide d.caller base true ∷ d.earlier) earlier (one_event (Decide d.caller base true) same_log) x)) base m.1.change m.1.pending.published in
           not_yet it.0 it.1 (decided_behind d.caller base d.earlier earlier x a it.0 it.1)
 
       behind : GoesOn earlier (Decide d.caller base true ∷ d.earlier) → Turning earlier log base
       behind x = at (Decide d.caller base true ∷ d.earlier) refl x
         where
-          the_rest : (ev : Event) (r : Log) → ev ∷ r ≡ Decide d.caller base true ∷ d.earlier → r ≡ d.earlier
+          the_rest : (ev : Event) (r : Log) → ev ∷ r ≡ Decide d.caller base true ∷ d.earlier
+              → r ≡ d.earlier
           the_rest ev r z = cc
 
-          at : (whole : Log) → whole ≡ Decide d.caller base true ∷ d.earlier → GoesOn earlier whole → Turning earlier log base
-          at _ z same_log = absurd (before (subst (λ l. GoesOn (Decide d.caller base true ∷ d.earlier) l) (sym z) same_log))
+          at : (whole : Log) → whole ≡ Decide d.caller base true ∷ d.earlier → GoesOn earlier whole
+              → Turning earlier log base
+          at _ z same_log =
+              absurd (before (subst (λ l. GoesOn (Decide d.caller base true ∷ d.earlier) l) (sym z) same_log))
           at _ z (one_event {log = rest} event y) =
               record { caller = d.caller; at = d.earlier; since = subst (λ r. GoesOn earlier r) (the_rest event rest z) y; until = d.decided }
 
   -- a change that turned to yes was decided so in between
   pub turning : (earlier log : Log) → GoesOn earlier log → EachEnabled (start pairs words) log
-      → (base : ℕ) (old new : ChangeRow) → (state_of pairs words earlier).pieces base ≡ Some (Change old)
+      → (base : ℕ) (old new : ChangeRow)
+      → (state_of pairs words earlier).pieces base ≡ Some (Change old)
       → old.decision ≢ decided_yes → (state_of pairs words log).pieces base ≡ Some (Change new)
       → new.decision ≡ decided_yes → Turning earlier log base
   turning earlier log g h base old new e not_yet f said =
@@ -143,12 +171,15 @@ module _ (pairs : List Pair) (words : ℕ) where
 module _ (pairs : List Pair) (words : ℕ) (opens : CanOpen pairs words) where
   -- a change at a finished node gets no Okay any more
   no_okay_on : (earlier log : Log) → GoesOn earlier log → EachEnabled (start pairs words) log
-      → (base : ℕ) (change : ChangeRow) → (state_of pairs words earlier).pieces base ≡ Some (Change change)
+      → (base : ℕ) (change : ChangeRow)
+      → (state_of pairs words earlier).pieces base ≡ Some (Change change)
       → IsFinished (state_of pairs words earlier) change.node → ¬ (Happened (Okays base) earlier)
       → ¬ (Happened (Okays base) log)
   no_okay_on earlier _ same_log h base change e f unseen k = unseen k
-  no_okay_on earlier _ (one_event {log = log} event g) h base change e f unseen (inr k) = no_okay_on earlier log g h.0 base change e f unseen k
-  no_okay_on earlier _ (one_event {log = log} event g) h base change e f unseen (inl k) = at event h k
+  no_okay_on earlier _ (one_event {log = log} event g) h base change e f unseen (inr k) =
+      no_okay_on earlier log g h.0 base change e f unseen k
+  no_okay_on earlier _ (one_event {log = log} event g) h base change e f unseen (inl k) =
+      at event h k
     where
       t : Snapshot
       t = state_of pairs words log
@@ -156,11 +187,14 @@ module _ (pairs : List Pair) (words : ℕ) (opens : CanOpen pairs words) where
       at : (ev : Event) → EachEnabled (start pairs words) (ev ∷ log) → Okays base ev → ⊥
       at (Okay caller b) j same =
           let grows = grow_between pairs words earlier log h.0 g in
-          let it = change_there (state_of pairs words earlier).pieces t.pieces grows base change e in
+          let it =
+          change_there (state_of pairs words earlier).pieces t.pieces grows base change e in
           let can : CanOkay t caller base = subst (λ x. CanOkay t caller x) same j.1 in
           let one = same_change (t.pieces base) can.change it.0 can.pending.published it.1 in
-          let node : can.change.node ≡ change.node = ap (λ c. c.node) one ∙ ap (λ c. c.node) it.2.others in
-          open_unfinished pairs words opens log h.0 change.node (subst (λ x. IsOpen t x) node can.node_open)
+          let node : can.change.node ≡ change.node =
+          ap (λ c. c.node) one ∙ ap (λ c. c.node) it.2.others in
+          open_unfinished pairs words opens log h.0 change.node
+          (subst (λ x. IsOpen t x) node can.node_open)
           (finished_grows (state_of pairs words earlier) t grows change.node f)
       at (Enter caller) j same = same
       at (Reserve caller b size) j same = same
@@ -178,7 +212,8 @@ module _ (pairs : List Pair) (words : ℕ) (opens : CanOpen pairs words) where
 
   -- a change without an Okay at a finished node is never decided yes
   pub never_yes : (earlier log : Log) → GoesOn earlier log → EachEnabled (start pairs words) log
-      → (base : ℕ) (old new : ChangeRow) → (state_of pairs words earlier).pieces base ≡ Some (Change old)
+      → (base : ℕ) (old new : ChangeRow)
+      → (state_of pairs words earlier).pieces base ≡ Some (Change old)
       → IsFinished (state_of pairs words earlier) old.node → ¬ (Happened (Okays base) earlier)
       → old.decision ≢ decided_yes → (state_of pairs words log).pieces base ≡ Some (Change new)
       → new.decision ≢ decided_yes

@@ -38,9 +38,11 @@ alone : (number : ℕ) (xs mid rest : List Entry) (entry : Entry) → entry.owne
     → entries_by number ((xs ++ mid) ++ (entry ∷ rest)) ≡ entries_by number xs ++ entry ∷ []
 alone number xs mid rest entry own few =
     parts
-    ∙ ap (λ es. (entries_by number xs ++ es) ++ (entry ∷ entries_by number rest)) (no_element (entries_by number mid) (let a = lengths in omega arith))
+    ∙ ap (λ es. (entries_by number xs ++ es) ++ (entry ∷ entries_by number rest))
+    (no_element (entries_by number mid) (let a = lengths in omega arith))
     ∙ ap (λ es. es ++ (entry ∷ entries_by number rest)) (append-nil (entries_by number xs))
-    ∙ ap (λ es. entries_by number xs ++ (entry ∷ es)) (no_element (entries_by number rest) (let a = lengths in omega arith))
+    ∙ ap (λ es. entries_by number xs ++ (entry ∷ es))
+    (no_element (entries_by number rest) (let a = lengths in omega arith))
   where
     kept : entries_by number (entry ∷ rest) ≡ entry ∷ entries_by number rest
     kept = let test : (entry.owner == number) ≡ true = grind (arith, nat_tests) in rw test refl
@@ -48,13 +50,16 @@ alone number xs mid rest entry own few =
     parts : entries_by number ((xs ++ mid) ++ (entry ∷ rest)) ≡ (entries_by number xs ++ entries_by number mid) ++ (entry ∷ entries_by number rest)
     parts =
         filter-append (λ e. e.owner == number) (xs ++ mid) (entry ∷ rest)
-        ∙ ap (λ es. es ++ entries_by number (entry ∷ rest)) (filter-append (λ e. e.owner == number) xs mid)
+        ∙ ap (λ es. es ++ entries_by number (entry ∷ rest))
+        (filter-append (λ e. e.owner == number) xs mid)
         ∙ ap (λ es. (entries_by number xs ++ entries_by number mid) ++ es) kept
 
     lengths : (length (entries_by number xs) + length (entries_by number mid)) + suc (length (entries_by number rest)) ≤ length (entries_by number xs) + 1
     lengths =
         let a = ap length parts in
-        let b = length-append (entries_by number xs ++ entries_by number mid) (entry ∷ entries_by number rest) in
+        let b =
+        length-append (entries_by number xs ++ entries_by number mid)
+        (entry ∷ entries_by number rest) in
         let c = length-append (entries_by number xs) (entries_by number mid) in
         omega arith
 
@@ -67,11 +72,13 @@ same_command : (x y : Command) → Some x ≡ Some y → x ≡ y
 same_command x y e = cc
 
 -- one element of a list at a place
-same_first : (xs : List Entry) (i : ℕ) (x y : Entry) → slice_get xs i ≡ Some x → slice_get xs i ≡ Some y → x ≡ y
+same_first : (xs : List Entry) (i : ℕ) (x y : Entry) → slice_get xs i ≡ Some x
+    → slice_get xs i ≡ Some y → x ≡ y
 same_first xs i x y e f = same_entry x y (sym e ∙ f)
 
 -- what each element has, one at a place has
-each_get : (P : Entry → Type 0) (xs : List Entry) (i : ℕ) (x : Entry) → Each P xs → slice_get xs i ≡ Some x → P x
+each_get : (P : Entry → Type 0) (xs : List Entry) (i : ℕ) (x : Entry) → Each P xs
+    → slice_get xs i ≡ Some x → P x
 each_get P [] i x h e = absurd (cc)
 each_get P (y ∷ xs) zero x h e = subst P (same_entry y x e) h.0
 each_get P (y ∷ xs) (suc i) x h e = each_get P xs i x h.1 e
@@ -91,7 +98,8 @@ module _ (pairs : List Pair) (words : ℕ) (opens : CanOpen pairs words) where
         call = call;
         call_is = refl;
         changes =
-            each_get (λ entry. makes_entry entry.command entry.reply ≡ true) (changes_of pairs words log) (length front) (entry_by number call)
+            each_get (λ entry. makes_entry entry.command entry.reply ≡ true)
+            (changes_of pairs words log) (length front) (entry_by number call)
             (entries_change pairs words opens log h) (has ∙ ap (λ x. Some x) one);
         effect = record {
           earlier = turn.at;
@@ -119,7 +127,8 @@ module _ (pairs : List Pair) (words : ℕ) (opens : CanOpen pairs words) where
       old = changes_of pairs words seen
 
       call : Call
-      call = record { command = command; reply = reply_of (state_of pairs words log).pieces change; position = length front; stamp = stamp }
+      call =
+          record { command = command; reply = reply_of (state_of pairs words log).pieces change; position = length front; stamp = stamp }
 
       whole : Log
       whole = Decide turn.caller base true ∷ turn.at
@@ -137,19 +146,24 @@ module _ (pairs : List Pair) (words : ℕ) (opens : CanOpen pairs words) where
       before = m.1.change
 
       there : (later : ChangeRow) × ((state_of pairs words log).pieces base ≡ Some (Change later)) × ChangeGrows before later
-      there = change_there t.pieces (state_of pairs words log).pieces (grow_between pairs words turn.at log h on) base before m.1.pending.published
+      there =
+          change_there t.pieces (state_of pairs words log).pieces
+          (grow_between pairs words turn.at log h on) base before m.1.pending.published
 
       -- the row had the command when it was decided
       command_was : command_of before ≡ Some command
       command_was =
-          sym (command_stays before there.0 there.2) ∙ ap command_of (same_change ((state_of pairs words log).pieces base) there.0 change there.1 e) ∙ is
+          sym (command_stays before there.0 there.2)
+          ∙ ap command_of
+          (same_change ((state_of pairs words log).pieces base) there.0 change there.1 e) ∙ is
 
       -- its entry then
       first : Entry
       first = record { owner = before.owner; command = command; reply = reply_of t.pieces before }
 
       made : entry_of t.pieces (t.pieces base) ≡ first ∷ []
-      made = ap (entry_of t.pieces) m.1.pending.published ∙ ap (entry_for t.pieces before) command_was
+      made =
+          ap (entry_of t.pieces) m.1.pending.published ∙ ap (entry_for t.pieces before) command_was
 
       mid : (more : List Entry) × (front ≡ old ++ more)
       mid = changes_on (start pairs words) seen turn.at turn.since
@@ -158,22 +172,28 @@ module _ (pairs : List Pair) (words : ℕ) (opens : CanOpen pairs words) where
       rest = changes_on (start pairs words) whole log turn.until
 
       behind : changes_of pairs words log ≡ front ++ (first ∷ rest.0)
-      behind = rest.1 ∙ ap (λ es. (front ++ es) ++ rest.0) made ∙ append_assoc front (first ∷ []) rest.0
+      behind =
+          rest.1 ∙ ap (λ es. (front ++ es) ++ rest.0) made ∙ append_assoc front (first ∷ []) rest.0
 
       are : changes_of pairs words log ≡ (old ++ mid.0) ++ (first ∷ rest.0)
       are = behind ∙ ap (λ es. es ++ (first ∷ rest.0)) mid.1
 
       has : slice_get (changes_of pairs words log) (length front) ≡ Some first
-      has = subst (λ es. slice_get es (length front) ≡ Some first) (sym behind) (get_at front rest.0 first)
+      has =
+          subst (λ es. slice_get es (length front) ≡ Some first) (sym behind)
+          (get_at front rest.0 first)
 
       it : IsEntryOf pairs words log (length front) base
-      it = entry_made pairs words opens log h turn.caller base turn.at turn.until command before m.1.pending.published command_was
+      it =
+          entry_made pairs words opens log h turn.caller base turn.at turn.until command before m.1.pending.published command_was
 
       -- and the entry of the row behind the log are one
       one : first ≡ entry_by number call
       one =
-          let same = same_change ((state_of pairs words log).pieces base) it.change change it.published e in
-          let word = same_command it.command command (sym it.command_is ∙ ap command_of same ∙ is) in
+          let same =
+          same_change ((state_of pairs words log).pieces base) it.change change it.published e in
+          let word =
+          same_command it.command command (sym it.command_is ∙ ap command_of same ∙ is) in
           same_first (changes_of pairs words log) (length front) first
           record { owner = it.change.owner; command = it.command; reply = reply_of (state_of pairs words log).pieces it.change }
           has it.entry

@@ -1,9 +1,8 @@
 -- The changes of a log are exactly the puts and removes that were decided yes. Serves `laws.updates_are_entries`.
-use Rattle.std.proofs.Common.{◌≡◌, ℕ, zero, suc, ◌+◌, ◌<◌, ◌⊎◌, true, List, [], ◌∷◌, ◌++◌, length, slice_get, Option, Some, None, option_map, refl, sym, ap, ◌∙◌, subst, inl, inr, ⊎_elim, arith, length-append, append_assoc}
+use Rattle.std.proofs.Common.{◌≡◌, ℕ, zero, suc, ◌+◌, ◌⊎◌, true, List, [], ◌∷◌, ◌++◌, length, slice_get, Option, Some, None, option_map, refl, sym, ap, ◌∙◌, subst, inl, inr, ⊎_elim, arith, append_assoc}
 use Rattle.ist_core.specs.declared.commands.Command.{Command}
 use Rattle.ist_core.specs.declared.pairs.Pair.{Pair}
 use Rattle.ist_core.specs.declared.states.ChangeRow.{ChangeRow}
-use Rattle.ist_core.specs.declared.events.Event.{Event}
 use Rattle.ist_core.specs.declared.events.Event.TheVariants.{Decide}
 use Rattle.ist_core.specs.References.{Ref, LeafAt, ref_of}
 use Rattle.ist_core.specs.Statuses.{decided_yes}
@@ -19,21 +18,23 @@ use Rattle.ist_core.proofs.RowLemmas.{changed_at-same}
 use Rattle.ist_core.proofs.NamingLemmas.{SideNames}
 use Rattle.ist_core.proofs.OrderLemmas.{names}
 use Rattle.ist_core.proofs.FreezingLemmas.{same_change}
-use Rattle.ist_histories.proofs.DecisionLemmas.{prefixes, yes_decided, decided_behind}
+use Rattle.ist_histories.proofs.DecisionLemmas.{yes_decided}
 use Rattle.ist_histories.specs.Telling.{IsEntryOf}
-use Rattle.ist_histories.proofs.ChangeLemmas.{on_trans, changes_on, changes_rise, get_at}
+use Rattle.ist_histories.proofs.ChangeLemmas.{on_trans, changes_on, get_at}
 
 -- an element of two lists in a row
 get_both : {A : Type 0} (xs ys : List A) (i : ℕ) (x : A) → slice_get (xs ++ ys) i ≡ Some x
     → (slice_get xs i ≡ Some x) ⊎ ((j : ℕ) × (i ≡ length xs + j) × (slice_get ys j ≡ Some x))
 get_both [] ys i x e = inr (i, omega arith, e)
 get_both (y ∷ xs) ys zero x e = inl e
-get_both (y ∷ xs) ys (suc i) x e = ⊎_elim (λ w. inl w) (λ w. (let is = w.1 in inr (w.0, omega arith, w.2))) (get_both xs ys i x e)
+get_both (y ∷ xs) ys (suc i) x e =
+    ⊎_elim (λ w. inl w) (λ w. (let is = w.1 in inr (w.0, omega arith, w.2))) (get_both xs ys i x e)
 
 -- ---- replies
 
 -- what may be put into a slot gives a key the same value ever
-value_stays : (ps qs : Pieces) → AllGrow ps qs → (node i : ℕ) (ref : Option Ref) (key : ℕ) → SideNames ps node i ref
+value_stays : (ps qs : Pieces) → AllGrow ps qs → (node i : ℕ) (ref : Option Ref) (key : ℕ)
+    → SideNames ps node i ref
     → value_at qs ref key ≡ value_at ps ref key
 value_stays ps qs g node i (Some (LeafAt base)) key h =
     ap (λ o. value_in o key) (leaf_there ps qs g base h.0 h.1) ∙ sym (ap (λ o. value_in o key) h.1)
@@ -43,18 +44,13 @@ value_stays ps qs g node i _ key h = refl
 pub command_stays : (old new : ChangeRow) → ChangeGrows old new → command_of new ≡ command_of old
 command_stays old new g = ap command_of g.others
 
--- the same prefix has one event behind it
-same_prefix : (a b c d : ℕ) (x y : Log) → Decide a b true ∷ x ≡ Decide c d true ∷ y → x ≡ y
-same_prefix a b c d x y e = cc
-
--- one event decides one change
-same_base : (a b c d : ℕ) (x y : Log) → Decide a b true ∷ x ≡ Decide c d true ∷ y → b ≡ d
-same_base a b c d x y e = cc
-
 module _ (pairs : List Pair) (words : ℕ) (opens : CanOpen pairs words) where
   -- the entry that a decision makes
-  pub entry_made : (log : Log) → EachEnabled (start pairs words) log → (caller base : ℕ) (earlier : Log) → GoesOn (Decide caller base true ∷ earlier) log
-      → (command : Command) → (old : ChangeRow) → (state_of pairs words earlier).pieces base ≡ Some (Change old) → command_of old ≡ Some command
+  pub entry_made : (log : Log) → EachEnabled (start pairs words) log
+      → (caller base : ℕ) (earlier : Log) → GoesOn (Decide caller base true ∷ earlier) log
+      → (command : Command) → (old : ChangeRow)
+      → (state_of pairs words earlier).pieces base ≡ Some (Change old)
+      → command_of old ≡ Some command
       → IsEntryOf pairs words log (length (changes_of pairs words earlier)) base
   entry_made log h caller base earlier g command old e is =
       let first = start pairs words in
@@ -64,23 +60,33 @@ module _ (pairs : List Pair) (words : ℕ) (opens : CanOpen pairs words) where
       let now = state_of pairs words (Decide caller base true ∷ earlier) in
       let can = m.1 in
       let same = same_change (t.pieces base) can.change old can.pending.published e in
-      let on = grow_between pairs words earlier log h (on_trans earlier (Decide caller base true ∷ earlier) log (one_event (Decide caller base true) same_log) g) in
+      let on =
+      grow_between pairs words earlier log h
+      (on_trans earlier (Decide caller base true ∷ earlier) log (one_event (Decide caller base true) same_log) g) in
       let turned : ChangeRow = record old { decision = decided_yes } in
-      let there : now.pieces base ≡ Some (Change turned) = changed_at-same t.pieces base (with_decision decided_yes) ∙ ap (option_map (with_decision decided_yes)) e in
-      let it = change_there now.pieces u.pieces (grow_between pairs words (Decide caller base true ∷ earlier) log h g) base turned there in
-      let others : ChangeGrows old it.0 = record { decided = λ set. absurd (set (ap (λ c. c.decision) (sym same) ∙ can.pending.unset)); others = it.2.others } in
+      let there : now.pieces base ≡ Some (Change turned) =
+      changed_at-same t.pieces base (with_decision decided_yes)
+      ∙ ap (option_map (with_decision decided_yes)) e in
+      let it =
+      change_there now.pieces u.pieces
+      (grow_between pairs words (Decide caller base true ∷ earlier) log h g) base turned there in
+      let others : ChangeGrows old it.0 =
+      record { decided = λ set. absurd (set (ap (λ c. c.decision) (sym same) ∙ can.pending.unset)); others = it.2.others } in
       let row = (names pairs words opens earlier m.0).rows base (Change old) e in
       let reply : reply_of u.pieces it.0 ≡ reply_of t.pieces old =
-      ap (λ c. value_at u.pieces (ref_of c.from) c.key) it.2.others ∙ value_stays t.pieces u.pieces on old.node old.index (ref_of old.from) old.key row.0 in
+      ap (λ c. value_at u.pieces (ref_of c.from) c.key) it.2.others
+      ∙ value_stays t.pieces u.pieces on old.node old.index (ref_of old.from) old.key row.0 in
       let made : entry_of t.pieces (t.pieces base) ≡ record { owner = old.owner; command = command; reply = reply_of t.pieces old } ∷ [] =
       ap (entry_of t.pieces) e ∙ ap (entry_for t.pieces old) is in
-      let entry : Entry = record { owner = it.0.owner; command = command; reply = reply_of u.pieces it.0 } in
+      let entry : Entry =
+      record { owner = it.0.owner; command = command; reply = reply_of u.pieces it.0 } in
       let one : record { owner = old.owner; command = command; reply = reply_of t.pieces old } ≡ entry =
       λ i. record { owner = (ap (λ c. c.owner) (sym it.2.others)) i; command = command; reply = (sym reply) i } in
       let front = changes_of pairs words earlier in
       let behind = changes_on first (Decide caller base true ∷ earlier) log g in
       let are : changes_of pairs words log ≡ front ++ (entry ∷ behind.0) =
-      behind.1 ∙ ap (λ es. (front ++ es) ++ behind.0) (made ∙ ap (λ x. x ∷ []) one) ∙ append_assoc front (entry ∷ []) behind.0 in
+      behind.1 ∙ ap (λ es. (front ++ es) ++ behind.0) (made ∙ ap (λ x. x ∷ []) one)
+      ∙ append_assoc front (entry ∷ []) behind.0 in
       record {
         caller = caller;
         earlier = earlier;
@@ -91,23 +97,30 @@ module _ (pairs : List Pair) (words : ℕ) (opens : CanOpen pairs words) where
         decision = it.2.decided (λ none. omega arith);
         command = command;
         command_is = command_stays old it.0 others ∙ is;
-        entry = subst (λ es. slice_get es (length front) ≡ Some entry) (sym are) (get_at front behind.0 entry);
+        entry =
+            subst (λ es. slice_get es (length front) ≡ Some entry) (sym are)
+            (get_at front behind.0 entry);
       }
 
   -- each put or remove that was decided yes has an entry
-  pub update_entry : (log : Log) → EachEnabled (start pairs words) log → (base : ℕ) (change : ChangeRow) (command : Command)
-      → (state_of pairs words log).pieces base ≡ Some (Change change) → change.decision ≡ decided_yes → command_of change ≡ Some command
+  pub update_entry : (log : Log) → EachEnabled (start pairs words) log
+      → (base : ℕ) (change : ChangeRow) (command : Command)
+      → (state_of pairs words log).pieces base ≡ Some (Change change)
+      → change.decision ≡ decided_yes → command_of change ≡ Some command
       → (position : ℕ) × IsEntryOf pairs words log position base
   update_entry log h base change command e said is =
       let d = yes_decided pairs words log h base change e said in
-      let m = enabled_before (start pairs words) (Decide d.caller base true ∷ d.earlier) log d.decided h in
+      let m =
+      enabled_before (start pairs words)
+      (Decide d.caller base true ∷ d.earlier) log d.decided h in
       let old = m.1.change in
       let t = state_of pairs words d.earlier in
       let it = change_there t.pieces (state_of pairs words log).pieces
       (grow_between pairs words d.earlier log h (on_trans d.earlier (Decide d.caller base true ∷ d.earlier) log (one_event (Decide d.caller base true) same_log) d.decided)) base old m.1.pending.published in
       let same = same_change ((state_of pairs words log).pieces base) it.0 change it.1 e in (
         length (changes_of pairs words d.earlier),
-        entry_made log h d.caller base d.earlier d.decided command old m.1.pending.published (sym (command_stays old it.0 it.2) ∙ ap command_of same ∙ is),
+        entry_made log h d.caller base d.earlier d.decided command old m.1.pending.published
+            (sym (command_stays old it.0 it.2) ∙ ap command_of same ∙ is),
       )
 
   -- where an entry comes from
@@ -123,7 +136,8 @@ module _ (pairs : List Pair) (words : ℕ) (opens : CanOpen pairs words) where
     command_is : command_of change ≡ Some command
 
   -- each entry comes from a Decide with yes
-  source : (log : Log) → EachEnabled (start pairs words) log → (position : ℕ) (entry : Entry) → slice_get (changes_of pairs words log) position ≡ Some entry
+  source : (log : Log) → EachEnabled (start pairs words) log → (position : ℕ) (entry : Entry)
+      → slice_get (changes_of pairs words log) position ≡ Some entry
       → Source log position
   source [] h position entry e = absurd (cc)
   source (Decide caller base true ∷ log) h position entry e =
@@ -146,8 +160,10 @@ module _ (pairs : List Pair) (words : ℕ) (opens : CanOpen pairs words) where
       (λ new. at t.pieces new.0 (command_of h.1.change) refl new.1 (subst (λ es. slice_get es new.0 ≡ Some entry) made new.2))
       (get_both front (entry_of t.pieces (t.pieces base)) position entry e)
     where
-      at : (ps : Pieces) (j : ℕ) (o : Option Command) → command_of h.1.change ≡ o → position ≡ length (changes_of pairs words log) + j
-          → slice_get (entry_for ps h.1.change o) j ≡ Some entry → Source (Decide caller base true ∷ log) position
+      at : (ps : Pieces) (j : ℕ) (o : Option Command) → command_of h.1.change ≡ o
+          → position ≡ length (changes_of pairs words log) + j
+          → slice_get (entry_for ps h.1.change o) j ≡ Some entry
+          → Source (Decide caller base true ∷ log) position
       at ps j None is where_it is_there = absurd (cc)
       at ps (suc j) (Some command) is where_it is_there = absurd (cc)
       at ps zero (Some command) is where_it is_there =
@@ -177,80 +193,10 @@ module _ (pairs : List Pair) (words : ℕ) (opens : CanOpen pairs words) where
       }
 
   -- each entry is that of a put or remove that was decided yes
-  pub entry_update : (log : Log) → EachEnabled (start pairs words) log → (position : ℕ) (entry : Entry)
-      → slice_get (changes_of pairs words log) position ≡ Some entry → (base : ℕ) × IsEntryOf pairs words log position base
+  pub entry_update : (log : Log) → EachEnabled (start pairs words) log
+      → (position : ℕ) (entry : Entry)
+      → slice_get (changes_of pairs words log) position ≡ Some entry
+      → (base : ℕ) × IsEntryOf pairs words log position base
   entry_update log h position entry e =
       let s = source log h position entry e in
       (s.base, subst (λ p. IsEntryOf pairs words log p s.base) (sym s.position_is) (entry_made log h s.caller s.base s.earlier s.decided s.command s.change s.published s.command_is))
-
-  -- ---- once
-
-  -- a change that was decided isn't pending behind that
-  undecided_later : (caller base other : ℕ) (a b : Log) → EachEnabled (start pairs words) (Decide other base true ∷ b) → ¬ (GoesOn (Decide caller base true ∷ a) b)
-  undecided_later caller base other a b h g =
-      let said = decided_behind pairs words caller base a b g h.0 h.1.change h.1.pending.published in
-      let none = h.1.pending.unset in
-      omega arith
-
-  -- a change is decided yes behind one log
-  one_decision : (log : Log) → EachEnabled (start pairs words) log → (c d base : ℕ) (a b : Log)
-      → GoesOn (Decide c base true ∷ a) log → GoesOn (Decide d base true ∷ b) log → a ≡ b
-  one_decision log h c d base a b g k = ⊎_elim (λ x. later c d a b x k) (λ x. sym (later d c b a x g)) (prefixes (Decide c base true ∷ a) (Decide d base true ∷ b) log g k)
-    where
-      later : (c d : ℕ) (a b : Log) → GoesOn (Decide c base true ∷ a) (Decide d base true ∷ b) → GoesOn (Decide d base true ∷ b) log → a ≡ b
-      later c d a b x k = at (Decide d base true ∷ b) refl x
-        where
-          at : (whole : Log) → whole ≡ Decide d base true ∷ b → GoesOn (Decide c base true ∷ a) whole → a ≡ b
-          at _ e same_log = same_prefix c base d base a b e
-          at _ e (one_event {log = rest} event y) =
-              let tail : rest ≡ b = the_rest event rest e in
-              absurd (undecided_later c base d a b (enabled_before (start pairs words) (Decide d base true ∷ b) log k h) (subst (λ r. GoesOn (Decide c base true ∷ a) r) tail y))
-            where
-              the_rest : (ev : Event) (r : Log) → ev ∷ r ≡ Decide d base true ∷ b → r ≡ b
-              the_rest ev r e = cc
-
-  -- of one change there is one entry
-  pub entries_once : (log : Log) → EachEnabled (start pairs words) log → (base p q : ℕ) → IsEntryOf pairs words log p base → IsEntryOf pairs words log q base → p ≡ q
-  entries_once log h base p q x y =
-      x.position_is ∙ ap (λ l. length (changes_of pairs words l)) (one_decision log h x.caller y.caller base x.earlier y.earlier x.decided y.decided) ∙ sym y.position_is
-
-  -- behind the decision of an update there are more changes
-  more_changes : (log : Log) → EachEnabled (start pairs words) log → (position base : ℕ) → (x : IsEntryOf pairs words log position base) → (b : Log)
-      → GoesOn (Decide x.caller base true ∷ x.earlier) b → GoesOn b log → position < length (changes_of pairs words b)
-  more_changes log h position base x b g k =
-      let first = start pairs words in
-      let m = enabled_before first (Decide x.caller base true ∷ x.earlier) log x.decided h in
-      let t = state_of pairs words x.earlier in
-      let it = change_there t.pieces (state_of pairs words log).pieces
-      (grow_between pairs words x.earlier log h (on_trans x.earlier (Decide x.caller base true ∷ x.earlier) log (one_event (Decide x.caller base true) same_log) x.decided)) base m.1.change m.1.pending.published in
-      let same = same_change ((state_of pairs words log).pieces base) it.0 x.change it.1 x.published in
-      let is : command_of m.1.change ≡ Some x.command = sym (command_stays m.1.change it.0 it.2) ∙ ap command_of same ∙ x.command_is in
-      let made : entry_of t.pieces (t.pieces base) ≡ record { owner = m.1.change.owner; command = x.command; reply = reply_of t.pieces m.1.change } ∷ [] =
-      ap (entry_of t.pieces) m.1.pending.published ∙ ap (entry_for t.pieces m.1.change) is in
-      let long = length-append (changes_of pairs words x.earlier) (entry_of t.pieces (t.pieces base)) in
-      let one = ap length made in
-      let rise = changes_rise first (Decide x.caller base true ∷ x.earlier) b g in
-      let at = x.position_is in
-      omega arith
-
-  -- an entry is of one change
-  pub entries_of_one : (log : Log) → EachEnabled (start pairs words) log → (position base other : ℕ) → IsEntryOf pairs words log position base
-      → IsEntryOf pairs words log position other → base ≡ other
-  entries_of_one log h position base other x y =
-      ⊎_elim (λ g. later base other x y g) (λ g. sym (later other base y x g)) (prefixes (Decide x.caller base true ∷ x.earlier) (Decide y.caller other true ∷ y.earlier) log x.decided y.decided)
-    where
-      later : (m n : ℕ) (x : IsEntryOf pairs words log position m) (y : IsEntryOf pairs words log position n)
-          → GoesOn (Decide x.caller m true ∷ x.earlier) (Decide y.caller n true ∷ y.earlier) → m ≡ n
-      later m n x y g = at (Decide y.caller n true ∷ y.earlier) refl g
-        where
-          at : (whole : Log) → whole ≡ Decide y.caller n true ∷ y.earlier → GoesOn (Decide x.caller m true ∷ x.earlier) whole → m ≡ n
-          at _ e same_log = same_base x.caller m y.caller n x.earlier y.earlier e
-          at _ e (one_event {log = rest} event z) =
-              let tail : rest ≡ y.earlier = the_rest event rest e in
-              let before = subst (λ r. GoesOn (Decide x.caller m true ∷ x.earlier) r) tail z in
-              let less = more_changes log h position m x y.earlier before (on_trans y.earlier (Decide y.caller n true ∷ y.earlier) log (one_event (Decide y.caller n true) same_log) y.decided) in
-              let same = y.position_is in
-              absurd (omega arith)
-            where
-              the_rest : (ev : Event) (r : Log) → ev ∷ r ≡ Decide y.caller n true ∷ y.earlier → r ≡ y.earlier
-              the_rest ev r e = cc

@@ -4,6 +4,7 @@ pub mod MapLemmas
 pub mod WovenLemmas
 pub mod OnceLemmas
 pub mod PlacedLemmas
+pub mod ItemLemmas
 pub mod ReadLemmas
 pub mod PassLemmas
 pub mod NeedLemmas
@@ -11,8 +12,8 @@ pub mod LedLemmas
 pub mod DecisionLemmas
 pub mod SeenLemmas
 pub mod SearchLemmas
-pub mod LoadLemmas
 pub mod LoadOnLemmas
+pub mod LoadLemmas
 pub mod FindLemmas
 pub mod CameLemmas
 pub mod SideLemmas
@@ -20,11 +21,13 @@ pub mod ValueLemmas
 pub mod BelowLemmas
 pub mod RootLemmas
 pub mod TellLemmas
+pub mod ToldLemmas
 pub mod OpeningLemmas
 pub mod NeededLemmas
 pub mod ContentLemmas
 pub mod PositionLemmas
 pub mod EntryLemmas
+pub mod EntryOnceLemmas
 pub mod EntryChangeLemmas
 pub mod EffectLemmas
 pub mod WordLemmas

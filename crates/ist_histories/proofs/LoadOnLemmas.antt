@@ -1,5 +1,5 @@
 -- What was loaded stays so as the log goes on. Serves `laws.searches_go_on`.
-use Rattle.std.proofs.Common.{◌≡◌, ℕ, suc, ◌-◌, ◌≤◌, List, ◌∷◌, length, drop, Option, refl, sym, ap, ◌∙◌, subst, arith}
+use Rattle.std.proofs.Common.{◌≡◌, ℕ, zero, suc, ◌-◌, ◌≤◌, List, [], ◌∷◌, length, drop, Option, refl, sym, ap, ◌∙◌, subst, arith}
 use Rattle.ist_core.specs.declared.pairs.Pair.{Pair}
 use Rattle.ist_core.specs.References.{Ref}
 use Rattle.ist_core.specs.Logs.{Log, GoesOn, same_log, one_event}
@@ -9,13 +9,38 @@ use Rattle.ist_core.specs.Lawful.{state_of}
 use Rattle.ist_histories.specs.Loads.{Load, log_at, HasWord, IsLoad}
 use Rattle.ist_histories.specs.Searching.{ReadsSide, no_change, by_to, by_from, ReadsTarget, no_rebuild, by_target, LooksAt, ComesTo, begins, goes_down, ReadsValue, of_nothing, of_other, of_key, Searched}
 
+-- ---- the log at a length
+
+-- a log goes on from what is left without its newest events
+drop_on : (k : ℕ) (log : Log) → GoesOn (drop k log) log
+drop_on zero log = same_log
+drop_on (suc k) [] = same_log
+drop_on (suc k) (event ∷ log) = one_event event (drop_on k log)
+
+-- and the more is left, the longer it is
+drop_rises : (a b : ℕ) (log : Log) → b ≤ a → GoesOn (drop a log) (drop b log)
+drop_rises a zero log h = drop_on a log
+drop_rises zero (suc b) log h = absurd (omega arith)
+drop_rises (suc a) (suc b) [] h = same_log
+drop_rises (suc a) (suc b) (event ∷ log) h = drop_rises a b log (omega arith)
+
+-- the log goes on from what it was
+pub at_on : (log : Log) (n : ℕ) → GoesOn (log_at log n) log
+at_on log n = drop_on (length log - n) log
+
+-- with more events it is a longer one
+pub at_rises : (log : Log) (m n : ℕ) → m ≤ n → GoesOn (log_at log m) (log_at log n)
+at_rises log m n h = drop_rises (length log - m) (length log - n) log (omega arith)
+
 -- a log that goes on is no shorter
 length_rises : (log longer : Log) → GoesOn log longer → length log ≤ length longer
 length_rises log _ same_log = omega arith
-length_rises log _ (one_event {log = rest} event g) = let low = length_rises log rest g in omega arith
+length_rises log _ (one_event {log = rest} event g) =
+    let low = length_rises log rest g in omega arith
 
 -- a log keeps at each length what it was
-at_same : (log longer : Log) → GoesOn log longer → (n : ℕ) → n ≤ length log → log_at longer n ≡ log_at log n
+at_same : (log longer : Log) → GoesOn log longer → (n : ℕ) → n ≤ length log
+    → log_at longer n ≡ log_at log n
 at_same log _ same_log n h = refl
 at_same log _ (one_event {log = rest} event g) n h =
     let low = length_rises log rest g in
@@ -55,17 +80,20 @@ module _ (pairs : List Pair) (words : ℕ) (log longer : Log) (g : GoesOn log lo
   target_on : (least word : ℕ) (ref : Ref) → ReadsTarget pairs words log least word ref
       → ReadsTarget pairs words longer least word ref
   target_on least word _ (no_rebuild ref is plain) = no_rebuild ref is plain
-  target_on least word _ (by_target base target is load) = by_target base target is (load_on _ _ target load)
+  target_on least word _ (by_target base target is load) =
+      by_target base target is (load_on _ _ target load)
 
   -- a look at a slot is one there too
-  pub look_on : (key least last node : ℕ) (ref : Ref) → LooksAt pairs words log key least last node ref
+  pub look_on : (key least last node : ℕ) (ref : Ref)
+      → LooksAt pairs words log key least last node ref
       → LooksAt pairs words longer key least last node ref
   look_on key least last node ref h =
       let same = sym (at_same log longer g h.slot.length h.is_load.within) in
       record {
         slot = h.slot;
         index = h.index;
-        index_is = subst (λ l. IsChildFor (state_of pairs words l) node key h.index) same h.index_is;
+        index_is =
+            subst (λ l. IsChildFor (state_of pairs words l) node key h.index) same h.index_is;
         is_load =
             subst (λ l. IsLoad pairs words longer (place_of_slot (state_of pairs words l) node h.index) least h.slot) same
             (load_on _ _ h.slot h.is_load);
@@ -82,14 +110,17 @@ module _ (pairs : List Pair) (words : ℕ) (log longer : Log) (g : GoesOn log lo
       goes_down (come_on key began least node c) (look_on key least last node _ look)
 
   -- what a leaf gave stays
-  value_on : (key least : ℕ) (ref : Ref) (value : Option ℕ) → ReadsValue pairs words log key least ref value
+  value_on : (key least : ℕ) (ref : Ref) (value : Option ℕ)
+      → ReadsValue pairs words log key least ref value
       → ReadsValue pairs words longer key least ref value
   value_on key least _ _ of_nothing = of_nothing
   value_on key least _ _ (of_other load is other) = of_other load (load_on _ _ load is) other
-  value_on key least _ _ (of_key load value is same at) = of_key load value (load_on _ _ load is) same (load_on _ _ value at)
+  value_on key least _ _ (of_key load value is same at) =
+      of_key load value (load_on _ _ load is) same (load_on _ _ value at)
 
   -- a search that ended, ended so
-  pub end_on : (key began node : ℕ) (value : Option ℕ) → Searched pairs words log key began node value
+  pub end_on : (key began node : ℕ) (value : Option ℕ)
+      → Searched pairs words log key began node value
       → Searched pairs words longer key began node value
   end_on key began node value h =
       record {

@@ -1,6 +1,7 @@
 -- What commands leave of a map, and replies to lists of commands. Serves the laws on histories.
-use Rattle.std.proofs.Common.{◌≡◌, ℕ, false, List, [], ◌∷◌, ◌++◌, map, is_some, Option, Some, None, refl, sym, ap, ◌∙◌, ⊎_elim, arith}
+use Rattle.std.proofs.Common.{◌≡◌, ℕ, false, List, [], ◌∷◌, ◌++◌, map, is_some, Option, Some, None, refl, sym, ap, ◌∙◌, subst, ⊎_elim, arith}
 use Rattle.std.proofs.lemmas.Bool.Decides.{nat_tests, eqb_tells}
+use Rattle.std.proofs.lemmas.List.{map-append}
 use Rattle.std.specs.Cmp.{nat_cmp_total}
 use Rattle.std.specs.FinMap as fin
 use Rattle.std.specs.FinMap.{gets, same_map, nat_cmp-IsAntisymmetric}
@@ -8,8 +9,10 @@ use Rattle.ist_core.specs.declared.commands.Command.{Command}
 use Rattle.ist_core.specs.declared.commands.Command.TheVariants.{Put, Remove, Get}
 use Rattle.ist_core.specs.Map.{Map, map_after, reply_to, replay, replies}
 use Rattle.ist_core.specs.Replies.{Answered}
+use Rattle.ist_core.specs.Changes.{Entry, map_behind}
 use Rattle.ist_core.specs.Standing.{makes_entry}
-use Rattle.ist_core.specs.Histories.{IsLegal}
+use Rattle.ist_core.specs.Histories.{told_by_entry, IsLegal}
+use Rattle.ist_histories.specs.Telling.{AreLegal}
 
 -- ---- lists of commands
 
@@ -47,7 +50,8 @@ pub legal_append : (m : Map) (xs ys : List Answered) → IsLegal m xs → IsLega
     → IsLegal m (xs ++ ys)
 legal_append m [] ys h k = k
 legal_append m (x ∷ xs) ys h k =
-    same_cons _ _ _ _ (same_head _ _ _ _ h) (legal_append (map_after m x.command) xs ys (same_tail _ _ _ _ h) k)
+    same_cons _ _ _ _ (same_head _ _ _ _ h)
+    (legal_append (map_after m x.command) xs ys (same_tail _ _ _ _ h) k)
 
 -- ---- commands that leave the map
 
@@ -68,3 +72,25 @@ pub no_entry_leaves : (m : Map) (command : Command) (reply : Option ℕ)
 no_entry_leaves m (Put key value) reply h e = absurd (cc)
 no_entry_leaves m (Remove key) reply h e = remove_none m key (sym e ∙ no_value reply h)
 no_entry_leaves m (Get key) reply h e = refl
+
+-- ---- entries
+
+-- the map behind what entries were told is the map behind the entries
+map_told-entries : (m : Map) (entries : List Entry)
+    → map_told m (map told_by_entry entries) ≡ map_behind m entries
+map_told-entries m [] = refl
+map_told-entries m (entry ∷ entries) = map_told-entries (map_after m entry.command) entries
+
+-- entries that are legal one list behind the other
+pub entries_append : (m : Map) (xs ys : List Entry) → AreLegal m xs → AreLegal (map_behind m xs) ys
+    → AreLegal m (xs ++ ys)
+entries_append m xs ys h k =
+    subst (λ hs. IsLegal m hs) (sym (map-append told_by_entry xs ys))
+    (legal_append m (map told_by_entry xs) (map told_by_entry ys) h (subst (λ n. AreLegal n ys) (sym (map_told-entries m xs)) k))
+
+-- the map behind two lists of entries
+pub map_behind-append : (m : Map) (xs ys : List Entry)
+    → map_behind m (xs ++ ys) ≡ map_behind (map_behind m xs) ys
+map_behind-append m xs ys =
+    ap (replay m) (map-append (λ e. e.command) xs ys)
+    ∙ replay-append m (map (λ e. e.command) xs) (map (λ e. e.command) ys)

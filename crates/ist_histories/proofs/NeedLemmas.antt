@@ -29,24 +29,31 @@ pub record IsPair (ps : Pieces) (base key left right : ℕ) : Type 0 where
 -- what the sides of a pending change are, by its kind
 pub data HasForm (t : Snapshot) (change : ChangeRow) : Type 0 where
   into_nothing : (leaf : ℕ) → change.kind ≡ put_kind → ref_of change.from ≡ Some Empty
-      → ref_of change.to ≡ Some (LeafAt leaf) → t.pieces leaf ≡ Some (new_leaf change) → HasForm t change
+      → ref_of change.to ≡ Some (LeafAt leaf) → t.pieces leaf ≡ Some (new_leaf change)
+      → HasForm t change
   over_leaf : (old leaf : ℕ) → change.kind ≡ put_kind → ref_of change.from ≡ Some (LeafAt old)
       → IsLeafOf t old change.key
-      → ref_of change.to ≡ Some (LeafAt leaf) → t.pieces leaf ≡ Some (new_leaf change) → HasForm t change
-  beside_low : (other other_key leaf pair : ℕ) → change.kind ≡ put_kind → ref_of change.from ≡ Some (LeafAt other)
+      → ref_of change.to ≡ Some (LeafAt leaf) → t.pieces leaf ≡ Some (new_leaf change)
+      → HasForm t change
+  beside_low : (other other_key leaf pair : ℕ) → change.kind ≡ put_kind
+      → ref_of change.from ≡ Some (LeafAt other)
       → IsLeafOf t other other_key → other_key < change.key
       → ref_of change.to ≡ Some (InnerAt pair) → IsPair t.pieces pair change.key other leaf
       → t.pieces leaf ≡ Some (new_leaf change) → HasForm t change
-  beside_high : (other other_key leaf pair : ℕ) → change.kind ≡ put_kind → ref_of change.from ≡ Some (LeafAt other)
+  beside_high : (other other_key leaf pair : ℕ) → change.kind ≡ put_kind
+      → ref_of change.from ≡ Some (LeafAt other)
       → IsLeafOf t other other_key → change.key < other_key
       → ref_of change.to ≡ Some (InnerAt pair) → IsPair t.pieces pair other_key leaf other
       → t.pieces leaf ≡ Some (new_leaf change) → HasForm t change
   takes_out : (leaf : ℕ) → change.kind ≡ remove_kind → ref_of change.from ≡ Some (LeafAt leaf)
       → IsLeafOf t leaf change.key → ref_of change.to ≡ Some Empty → HasForm t change
-  begins : (target rebuild : ℕ) → change.kind ≡ start_kind → ref_of change.from ≡ Some (InnerAt target)
+  begins : (target rebuild : ℕ) → change.kind ≡ start_kind
+      → ref_of change.from ≡ Some (InnerAt target)
       → ref_of change.to ≡ Some (RebuildAt rebuild) → HasTarget t rebuild target → HasForm t change
-  ends : (rebuild : ℕ) (row : RebuildRow) → change.kind ≡ finish_kind → ref_of change.from ≡ Some (RebuildAt rebuild)
-      → t.pieces rebuild ≡ Some (Rebuild row) → change.to ≡ row.root → row.root ≢ unset_word → HasForm t change
+  ends : (rebuild : ℕ) (row : RebuildRow) → change.kind ≡ finish_kind
+      → ref_of change.from ≡ Some (RebuildAt rebuild)
+      → t.pieces rebuild ≡ Some (Rebuild row) → change.to ≡ row.root → row.root ≢ unset_word
+      → HasForm t change
 
 -- what is needed of the state behind a log
 pub record Needs (pairs : List Pair) (words : ℕ) (log : Log) : Type 0 where
@@ -57,19 +64,24 @@ pub record Needs (pairs : List Pair) (words : ℕ) (log : Log) : Type 0 where
   pub in_slot : (base : ℕ) (change : ChangeRow) → IsPending (state_of pairs words log) base change
       → SlotHolds (state_of pairs words log) change.node change.index (word_of (ChangeAt base))
   -- where a pending finish has an Okay, its root has the leaves of its rebuild's target
-  pub same_leaves : (base : ℕ) (change : ChangeRow) → IsPending (state_of pairs words log) base change
+  pub same_leaves : (base : ℕ) (change : ChangeRow)
+      → IsPending (state_of pairs words log) base change
       → Happened (Okays base) log → change.kind ≡ finish_kind → (leaves : List PlacedLeaf)
-      × HasLeaves (state_of pairs words log).pieces (past_rebuild (state_of pairs words log).pieces (ref_of change.from)) leaves
-      × HasLeaves (state_of pairs words log).pieces (past_rebuild (state_of pairs words log).pieces (ref_of change.to)) leaves
+      × HasLeaves (state_of pairs words log).pieces
+      (past_rebuild (state_of pairs words log).pieces (ref_of change.from)) leaves
+      × HasLeaves (state_of pairs words log).pieces
+      (past_rebuild (state_of pairs words log).pieces (ref_of change.to)) leaves
   -- the target of a rebuild with a root is finished
-  pub target_finished : (rebuild : ℕ) (row : RebuildRow) → (state_of pairs words log).pieces rebuild ≡ Some (Rebuild row)
+  pub target_finished : (rebuild : ℕ) (row : RebuildRow)
+      → (state_of pairs words log).pieces rebuild ≡ Some (Rebuild row)
       → row.root ≢ unset_word → IsFinished (state_of pairs words log) row.target
   -- each slot of a finished row was passed
   pub passed : (node i word : ℕ) → IsFinished (state_of pairs words log) node
       → SlotHolds (state_of pairs words log) node i word → (v : ℕ) × Happened (Passes node i v) log
   -- the inner children of a finished row are finished
   pub finished_below : (node i child : ℕ) → IsFinished (state_of pairs words log) node
-      → IsChild (state_of pairs words log) node i child → IsFinished (state_of pairs words log) child
+      → IsChild (state_of pairs words log) node i child
+      → IsFinished (state_of pairs words log) child
 
 -- each lawful log has what is needed
 unfoldable pub AllNeeds : List Pair → ℕ → Type 0

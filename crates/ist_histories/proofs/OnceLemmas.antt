@@ -23,10 +23,12 @@ use Rattle.ist_histories.proofs.WovenLemmas.{of_passes, among-in_order}
 put_in_moves : (x : Reading) (ys : List Reading) → IsPermutation (x ∷ ys) (put_in x ys)
 put_in_moves x [] = IsPermutation-refl (x ∷ [])
 put_in_moves x (y ∷ ys) =
-    elim (comes_first x y) as (λ v. IsPermutation (x ∷ y ∷ ys) (if v then x ∷ y ∷ ys else y ∷ put_in x ys)) [
+    elim (comes_first x y) as
+    (λ v. IsPermutation (x ∷ y ∷ ys) (if v then x ∷ y ∷ ys else y ∷ put_in x ys)) [
       | true ↦ IsPermutation-refl (x ∷ y ∷ ys)
       | false ↦
-          IsPermutation-trans (x ∷ y ∷ ys) (y ∷ x ∷ ys) (y ∷ put_in x ys) (IsPermutation-sym (y ∷ x ∷ ys) (x ∷ y ∷ ys) (IsPermutation-middle (y ∷ []) x ys))
+          IsPermutation-trans (x ∷ y ∷ ys) (y ∷ x ∷ ys) (y ∷ put_in x ys)
+          (IsPermutation-sym (y ∷ x ∷ ys) (x ∷ y ∷ ys) (IsPermutation-middle (y ∷ []) x ys))
           (IsPermutation-cons y (x ∷ ys) (put_in x ys) (put_in_moves x ys))
     ]
 
@@ -34,7 +36,8 @@ put_in_moves x (y ∷ ys) =
 in_order_moves : (xs : List Reading) → IsPermutation xs (in_order xs)
 in_order_moves [] = IsPermutation-refl []
 in_order_moves (x ∷ xs) =
-    IsPermutation-trans (x ∷ xs) (x ∷ in_order xs) (put_in x (in_order xs)) (IsPermutation-cons x xs (in_order xs) (in_order_moves xs)) (put_in_moves x (in_order xs))
+    IsPermutation-trans (x ∷ xs) (x ∷ in_order xs) (put_in x (in_order xs))
+    (IsPermutation-cons x xs (in_order xs) (in_order_moves xs)) (put_in_moves x (in_order xs))
 
 -- ---- readings by position
 
@@ -47,19 +50,23 @@ is_at : ℕ → Reading → Bool
 is_at position x = x.call.position == position
 
 -- from here on are those here, and those from the next position on
-here_only : (position : ℕ) (xs : List Reading) → filter (is_at position) (from_position position xs) ≡ at_position position xs
+here_only : (position : ℕ) (xs : List Reading)
+    → filter (is_at position) (from_position position xs) ≡ at_position position xs
 unfolding from_position is_at
 here_only position [] = refl
 here_only position (x ∷ xs) = grind (arith, nat_tests, here_only position xs)
 
 -- the others are those from the next position on
-behind_only : (position : ℕ) (xs : List Reading) → filter (λ x. not (is_at position x)) (from_position position xs) ≡ from_position (position + 1) xs
+behind_only : (position : ℕ) (xs : List Reading)
+    → filter (λ x. not (is_at position x))
+    (from_position position xs) ≡ from_position (position + 1) xs
 unfolding from_position is_at
 behind_only position [] = refl
 behind_only position (x ∷ xs) = grind (arith, nat_tests, behind_only position xs)
 
 -- where no reading lies behind a position, those from it on are those there
-last_only : (position : ℕ) (xs : List Reading) → Each (λ x. x.call.position ≤ position) xs → from_position position xs ≡ at_position position xs
+last_only : (position : ℕ) (xs : List Reading) → Each (λ x. x.call.position ≤ position) xs
+    → from_position position xs ≡ at_position position xs
 unfolding from_position
 last_only position [] h = refl
 last_only position (x ∷ xs) h = let low = h.0 in grind (arith, nat_tests, last_only position xs h.1)
@@ -68,7 +75,9 @@ last_only position (x ∷ xs) h = let low = h.0 in grind (arith, nat_tests, last
 from_first : (xs : List Reading) → from_position 0 xs ≡ xs
 unfolding from_position
 from_first [] = refl
-from_first (x ∷ xs) = let test : nat_le 0 x.call.position ≡ true = grind (arith, nat_tests) in rw test (ap (λ ys. x ∷ ys) (from_first xs))
+from_first (x ∷ xs) =
+    let test : nat_le 0 x.call.position ≡ true =
+    grind (arith, nat_tests) in rw test (ap (λ ys. x ∷ ys) (from_first xs))
 
 -- ---- the items of a history
 
@@ -76,7 +85,8 @@ from_first (x ∷ xs) = let test : nat_le 0 x.call.position ≡ true = grind (ar
 abbrev pub placed_from : ℕ → List Entry → List Reading → List Item
 placed_from position [] xs = map reading_by (at_position position xs)
 placed_from position (entry ∷ entries) xs =
-    map reading_by (at_position position xs) ++ (change_at position entry ∷ placed_from (position + 1) entries xs)
+    map reading_by
+    (at_position position xs) ++ (change_at position entry ∷ placed_from (position + 1) entries xs)
 
 -- readings tell what they were
 told_readings : (xs : List Reading) → map told_by (map reading_by xs) ≡ map told_by_reading xs
@@ -84,12 +94,16 @@ told_readings [] = refl
 told_readings (x ∷ xs) = ap (λ ys. told_by_reading x ∷ ys) (told_readings xs)
 
 -- the items tell what is woven
-pub told_placed : (position : ℕ) (entries : List Entry) (xs : List Reading) → map told_by (placed_from position entries xs) ≡ woven_from position entries xs
+pub told_placed : (position : ℕ) (entries : List Entry) (xs : List Reading)
+    → map told_by (placed_from position entries xs) ≡ woven_from position entries xs
 told_placed position [] xs = told_readings (at_position position xs)
 told_placed position (entry ∷ entries) xs =
-    map-append told_by (map reading_by (at_position position xs)) (change_at position entry ∷ placed_from (position + 1) entries xs)
-    ∙ ap (λ ys. ys ++ (told_by_entry entry ∷ map told_by (placed_from (position + 1) entries xs))) (told_readings (at_position position xs))
-    ∙ ap (λ ys. map told_by_reading (at_position position xs) ++ (told_by_entry entry ∷ ys)) (told_placed (position + 1) entries xs)
+    map-append told_by (map reading_by (at_position position xs))
+    (change_at position entry ∷ placed_from (position + 1) entries xs)
+    ∙ ap (λ ys. ys ++ (told_by_entry entry ∷ map told_by (placed_from (position + 1) entries xs)))
+    (told_readings (at_position position xs))
+    ∙ ap (λ ys. map told_by_reading (at_position position xs) ++ (told_by_entry entry ∷ ys))
+    (told_placed (position + 1) entries xs)
 
 -- two lists before a third, in the other order
 exchange : (xs ys zs : List Item) → IsPermutation (xs ++ (ys ++ zs)) (ys ++ (xs ++ zs))
@@ -99,22 +113,32 @@ exchange xs ys zs =
 
 -- readings from a position on, as items
 split : (position : ℕ) (xs : List Reading)
-    → IsPermutation (map reading_by (from_position position xs)) (map reading_by (at_position position xs) ++ map reading_by (from_position (position + 1) xs))
+    → IsPermutation (map reading_by (from_position position xs))
+    (map reading_by (at_position position xs) ++ map reading_by (from_position (position + 1) xs))
 unfolding is_at
 split position xs =
     let ys = from_position position xs in
-    let both = IsPermutation-filter_both (is_at position) (λ x. not (is_at position x)) (λ x. refl) ys in
-    let parted = subst (λ bs. IsPermutation ys (at_position position xs ++ bs)) (behind_only position xs) (subst (λ heres. IsPermutation ys (heres ++ filter (λ x. not (is_at position x)) ys)) (here_only position xs) both) in
-    subst (λ ls. IsPermutation (map reading_by ys) ls) (map-append reading_by (at_position position xs) (from_position (position + 1) xs))
+    let both =
+    IsPermutation-filter_both (is_at position) (λ x. not (is_at position x)) (λ x. refl) ys in
+    let parted =
+    subst (λ bs. IsPermutation ys (at_position position xs ++ bs)) (behind_only position xs)
+    (subst (λ heres. IsPermutation ys (heres ++ filter (λ x. not (is_at position x)) ys)) (here_only position xs) both) in
+    subst (λ ls. IsPermutation (map reading_by ys) ls)
+    (map-append reading_by (at_position position xs) (from_position (position + 1) xs))
     (IsPermutation-map reading_by ys (at_position position xs ++ from_position (position + 1) xs) parted)
 
 -- the items from a position on are the changes, and the readings from there on
-placed_moves : (position : ℕ) (entries : List Entry) (xs : List Reading) → Each (λ x. x.call.position ≤ position + length entries) xs
-    → IsPermutation (changes_from position entries ++ map reading_by (from_position position xs)) (placed_from position entries xs)
+placed_moves : (position : ℕ) (entries : List Entry) (xs : List Reading)
+    → Each (λ x. x.call.position ≤ position + length entries) xs
+    → IsPermutation (changes_from position entries ++ map reading_by (from_position position xs))
+    (placed_from position entries xs)
 unfolding from_position
 placed_moves position [] xs h =
-    let low : Each (λ x. x.call.position ≤ position) xs = subst (λ n. Each (λ x. x.call.position ≤ n) xs) (let same : position + 0 ≡ position = omega arith in same) h in
-    subst (λ ys. IsPermutation (map reading_by (from_position position xs)) (map reading_by ys)) (last_only position xs low) (IsPermutation-refl (map reading_by (from_position position xs)))
+    let low : Each (λ x. x.call.position ≤ position) xs =
+    subst (λ n. Each (λ x. x.call.position ≤ n) xs)
+    (let same : position + 0 ≡ position = omega arith in same) h in
+    subst (λ ys. IsPermutation (map reading_by (from_position position xs)) (map reading_by ys))
+    (last_only position xs low) (IsPermutation-refl (map reading_by (from_position position xs)))
 placed_moves position (entry ∷ entries) xs h =
     let first = change_at position entry in
     let front = changes_from (position + 1) entries in
@@ -123,37 +147,55 @@ placed_moves position (entry ∷ entries) xs h =
     let behind = map reading_by (from_position (position + 1) xs) in
     let rest = placed_from (position + 1) entries xs in
     let later : Each (λ x. x.call.position ≤ position + 1 + length entries) xs =
-    subst (λ n. Each (λ x. x.call.position ≤ n) xs) (let same : position + suc (length entries) ≡ position + 1 + length entries = omega arith in same) h in
+    subst (λ n. Each (λ x. x.call.position ≤ n) xs)
+    (let same : position + suc (length entries) ≡ position + 1 + length entries = omega arith in same) h in
     let one = IsPermutation-append_right front from (here ++ behind) (split position xs) in
-    let two = IsPermutation-trans (front ++ from) (front ++ (here ++ behind)) (here ++ (front ++ behind)) one (exchange front here behind) in
+    let two =
+    IsPermutation-trans (front ++ from) (front ++ (here ++ behind))
+    (here ++ (front ++ behind)) one (exchange front here behind) in
     let three = IsPermutation-cons first (front ++ from) (here ++ (front ++ behind)) two in
-    let four = IsPermutation-sym (here ++ first ∷ (front ++ behind)) (first ∷ (here ++ (front ++ behind))) (IsPermutation-middle here first (front ++ behind)) in
-    let five = IsPermutation-append_right here (first ∷ (front ++ behind)) (first ∷ rest) (IsPermutation-cons first (front ++ behind) rest (placed_moves (position + 1) entries xs later)) in
-    IsPermutation-trans (first ∷ (front ++ from)) (first ∷ (here ++ (front ++ behind))) (here ++ first ∷ rest) three
+    let four =
+    IsPermutation-sym (here ++ first ∷ (front ++ behind)) (first ∷ (here ++ (front ++ behind)))
+    (IsPermutation-middle here first (front ++ behind)) in
+    let five =
+    IsPermutation-append_right here (first ∷ (front ++ behind)) (first ∷ rest)
+    (IsPermutation-cons first (front ++ behind) rest (placed_moves (position + 1) entries xs later)) in
+    IsPermutation-trans (first ∷ (front ++ from)) (first ∷ (here ++ (front ++ behind)))
+    (here ++ first ∷ rest) three
     (IsPermutation-trans (first ∷ (here ++ (front ++ behind))) (here ++ first ∷ (front ++ behind)) (here ++ first ∷ rest) four five)
 
 -- each element of a list
-each_of : (P : Reading → Type 0) (xs : List Reading) → ((x : Reading) → Among x xs → P x) → Each P xs
+each_of : (P : Reading → Type 0) (xs : List Reading) → ((x : Reading) → Among x xs → P x)
+    → Each P xs
 each_of P [] h = tt
 each_of P (x ∷ xs) h = (h x (inl refl), each_of P xs (λ y i. h y (inr i)))
 
 -- the items in order are each change and each reading, once
-pub placed_once : (pairs : List Pair) (words : ℕ) (log : Log) (passes : List PassCalls) → StandInPrefixes pairs words log passes
-    → IsPermutation (items (changes_of pairs words log) passes) (placed_from 0 (changes_of pairs words log) (in_order (readings passes)))
+pub placed_once : (pairs : List Pair) (words : ℕ) (log : Log) (passes : List PassCalls)
+    → StandInPrefixes pairs words log passes
+    → IsPermutation (items (changes_of pairs words log) passes)
+    (placed_from 0 (changes_of pairs words log) (in_order (readings passes)))
 placed_once pairs words log passes all =
     let entries = changes_of pairs words log in
     let xs = readings passes in
-    let low = each_of (λ x. x.call.position ≤ 0 + length entries) (in_order xs) (λ x i. within x (among-in_order x xs i)) in
-    let moves = subst (λ ys. IsPermutation (changes_from 0 entries ++ map reading_by ys) (placed_from 0 entries (in_order xs))) (from_first (in_order xs)) (placed_moves 0 entries (in_order xs) low) in
-    IsPermutation-trans (items entries passes) (changes_from 0 entries ++ map reading_by (in_order xs)) (placed_from 0 entries (in_order xs))
+    let low =
+    each_of (λ x. x.call.position ≤ 0 + length entries) (in_order xs)
+    (λ x i. within x (among-in_order x xs i)) in
+    let moves =
+    subst (λ ys. IsPermutation (changes_from 0 entries ++ map reading_by ys) (placed_from 0 entries (in_order xs))) (from_first (in_order xs)) (placed_moves 0 entries (in_order xs) low) in
+    IsPermutation-trans (items entries passes)
+    (changes_from 0 entries ++ map reading_by (in_order xs)) (placed_from 0 entries (in_order xs))
     (IsPermutation-append_right (changes_from 0 entries) (map reading_by xs) (map reading_by (in_order xs)) (IsPermutation-map reading_by xs (in_order xs) (in_order_moves xs))) moves
   where
-    within : (x : Reading) → Among x (readings passes) → x.call.position ≤ 0 + length (changes_of pairs words log)
+    within : (x : Reading) → Among x (readings passes)
+        → x.call.position ≤ 0 + length (changes_of pairs words log)
     within x i =
         let it = of_passes passes x i in
-        let stands = each-among (λ pass. (prefix : Log) × GoesOn prefix log × StandsIn pairs words prefix pass.number pass.calls) it.0 passes all it.1 in
+        let stands =
+        each-among (λ pass. (prefix : Log) × GoesOn prefix log × StandsIn pairs words prefix pass.number pass.calls) it.0 passes all it.1 in
         let on = changes_on (start pairs words) stands.0 log stands.1 in
         let read : IsRead (map_of pairs) (changes_of pairs words log) x.call =
-        subst (λ es. IsRead (map_of pairs) es x.call) (sym on.1) (read_on (map_of pairs) (changes_of pairs words stands.0) on.0 x.call (stands.2.read x.call it.2.call it.2.plain)) in
+        subst (λ es. IsRead (map_of pairs) es x.call) (sym on.1)
+        (read_on (map_of pairs) (changes_of pairs words stands.0) on.0 x.call (stands.2.read x.call it.2.call it.2.plain)) in
         let low = read.within in
         omega arith

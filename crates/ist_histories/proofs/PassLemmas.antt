@@ -17,5 +17,7 @@ pub passed_plain : (first : Snapshot) (log : Log) (node i word : ℕ) → EachEn
     → Happened (Passes node i word) log → IsPlain word
 passed_plain first [] node i word h p = absurd p
 passed_plain first (event ∷ log) node i word h (inl now) =
-    let can = (passing first log event node i word h.1 now).1 in record { set = not_unset word can.set; no_change = can.no_change }
-passed_plain first (event ∷ log) node i word h (inr before) = passed_plain first log node i word h.0 before
+    let can =
+    (passing first log event node i word h.1 now).1 in record { set = not_unset word can.set; no_change = can.no_change }
+passed_plain first (event ∷ log) node i word h (inr before) =
+    passed_plain first log node i word h.0 before

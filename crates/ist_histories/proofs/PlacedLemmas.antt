@@ -1,17 +1,13 @@
--- The items of the woven history stand in order, and each call has its item. Serves `laws.calls_have_places`.
-use Rattle.std.proofs.Common.{◌≡◌, ℕ, zero, suc, ◌+◌, ◌<◌, ◌≤◌, ◌==◌, nat_lt, not, if◌then◌else◌, Bool, true, false, List, [], ◌∷◌, ◌++◌, map, filter, slice_get, Some, refl, sym, ap, ◌∙◌, subst, inl, inr, arith}
+-- The items of the woven history stand in order. Serves `laws.calls_have_places`.
+use Rattle.std.proofs.Common.{◌≡◌, ℕ, ◌+◌, ◌<◌, ◌≤◌, ◌==◌, nat_lt, if◌then◌else◌, Bool, true, false, List, [], ◌∷◌, ◌++◌, map, refl, inl, inr, arith}
 use Rattle.std.proofs.lemmas.Bool.Decides.{nat_tests}
-use Rattle.ist_core.specs.declared.calls.Call.{Call}
 use Rattle.ist_core.specs.declared.pairs.Pair.{Pair}
-use Rattle.ist_core.specs.Elements.{Among, Each}
-use Rattle.ist_core.specs.StartLayout.{start}
-use Rattle.ist_core.specs.Logs.{Log, GoesOn}
+use Rattle.ist_core.specs.Elements.{Each}
+use Rattle.ist_core.specs.Logs.{Log}
 use Rattle.ist_core.specs.Changes.{Entry, changes_of}
-use Rattle.ist_core.specs.Standing.{is_change, entry_by, Follows, StandsIn}
-use Rattle.ist_core.specs.Histories.{PassCalls, StandInPrefixes, Reading, readings_of, readings, comes_first, put_in, in_order, at_position}
-use Rattle.ist_core.proofs.ElementLemmas.{among_left, among_right, among_filter, each-among, each_append}
-use Rattle.ist_histories.specs.Placing.{Item, change_at, reading_by, changes_from, items, StandsBefore, AllInOrder, HasPlaces, item_of}
-use Rattle.ist_histories.proofs.ChangeLemmas.{changes_on, get_left}
+use Rattle.ist_core.specs.Histories.{PassCalls, StandInPrefixes, Reading, readings, comes_first, put_in, in_order, at_position}
+use Rattle.ist_core.proofs.ElementLemmas.{each_append}
+use Rattle.ist_histories.specs.Placing.{Item, change_at, reading_by, StandsBefore, AllInOrder, HasPlaces}
 use Rattle.ist_histories.proofs.OnceLemmas.{placed_from, told_placed, placed_once}
 
 -- ---- readings by their stamps
@@ -26,7 +22,8 @@ first_low : (x y : Reading) → comes_first x y ≡ true → x.call.stamp ≤ y.
 first_low x y e = at (x.call.stamp == y.call.stamp) refl e
   where
     at : (v : Bool) → (x.call.stamp == y.call.stamp) ≡ v
-        → (if v then nat_lt x.number y.number else nat_lt x.call.stamp y.call.stamp) ≡ true → x.call.stamp ≤ y.call.stamp
+        → (if v then nat_lt x.number y.number else nat_lt x.call.stamp y.call.stamp) ≡ true
+        → x.call.stamp ≤ y.call.stamp
     at true f g = let same : x.call.stamp ≡ y.call.stamp = grind (arith, nat_tests) in omega arith
     at false f g = let less : x.call.stamp < y.call.stamp = grind (arith, nat_tests) in omega arith
 
@@ -35,12 +32,14 @@ last_high : (x y : Reading) → comes_first x y ≡ false → y.call.stamp ≤ x
 last_high x y e = at (x.call.stamp == y.call.stamp) refl e
   where
     at : (v : Bool) → (x.call.stamp == y.call.stamp) ≡ v
-        → (if v then nat_lt x.number y.number else nat_lt x.call.stamp y.call.stamp) ≡ false → y.call.stamp ≤ x.call.stamp
+        → (if v then nat_lt x.number y.number else nat_lt x.call.stamp y.call.stamp) ≡ false
+        → y.call.stamp ≤ x.call.stamp
     at true f g = let same : x.call.stamp ≡ y.call.stamp = grind (arith, nat_tests) in omega arith
     at false f g = grind (arith, nat_tests)
 
 -- what is so of a reading and of others is so of all where it is put in among them
-each_put_in : (P : Reading → Type 0) (x : Reading) (ys : List Reading) → P x → Each P ys → Each P (put_in x ys)
+each_put_in : (P : Reading → Type 0) (x : Reading) (ys : List Reading) → P x → Each P ys
+    → Each P (put_in x ys)
 each_put_in P x [] p h = (p, tt)
 each_put_in P x (y ∷ ys) p h =
     elim (comes_first x y) as (λ v. Each P (if v then x ∷ y ∷ ys else y ∷ put_in x ys)) [
@@ -49,7 +48,8 @@ each_put_in P x (y ∷ ys) p h =
     ]
 
 -- stamps that are higher than one are higher than a lower one
-each_higher : (m n : ℕ) → m ≤ n → (ys : List Reading) → Each (λ y. n ≤ y.call.stamp) ys → Each (λ y. m ≤ y.call.stamp) ys
+each_higher : (m n : ℕ) → m ≤ n → (ys : List Reading) → Each (λ y. n ≤ y.call.stamp) ys
+    → Each (λ y. m ≤ y.call.stamp) ys
 each_higher m n low [] h = tt
 each_higher m n low (y ∷ ys) h = (let high = h.0 in omega arith, each_higher m n low ys h.1)
 
@@ -59,7 +59,8 @@ unfolding StampsRise
 put_in_rises x [] h = (tt, tt)
 put_in_rises x (y ∷ ys) h = at (put_in_rises x ys h.1) (comes_first x y) refl
   where
-    at : StampsRise (put_in x ys) → (v : Bool) → comes_first x y ≡ v → StampsRise (if v then x ∷ y ∷ ys else y ∷ put_in x ys)
+    at : StampsRise (put_in x ys) → (v : Bool) → comes_first x y ≡ v
+        → StampsRise (if v then x ∷ y ∷ ys else y ∷ put_in x ys)
     at rest true e =
         let low : x.call.stamp ≤ y.call.stamp = first_low x y e in
         ((low, each_higher x.call.stamp y.call.stamp low ys h.0), h)
@@ -81,96 +82,125 @@ IsFrom position (change_at i entry) = position ≤ i
 IsFrom position (reading_by x) = position ≤ x.call.position
 
 -- what is so of each item is so of it in a weaker form
-each_item : (P Q : Item → Type 0) → ((item : Item) → P item → Q item) → (xs : List Item) → Each P xs → Each Q xs
+each_item : (P Q : Item → Type 0) → ((item : Item) → P item → Q item) → (xs : List Item) → Each P xs
+    → Each Q xs
 each_item P Q f [] h = tt
 each_item P Q f (x ∷ xs) h = (f x h.0, each_item P Q f xs h.1)
 
 -- items in order before others that each of them stands before
-in_order_append : (xs ys : List Item) → AllInOrder xs → AllInOrder ys → Each (λ x. Each (StandsBefore x) ys) xs → AllInOrder (xs ++ ys)
+in_order_append : (xs ys : List Item) → AllInOrder xs → AllInOrder ys
+    → Each (λ x. Each (StandsBefore x) ys) xs → AllInOrder (xs ++ ys)
 in_order_append [] ys h k all = k
-in_order_append (x ∷ xs) ys h k all = (each_append (StandsBefore x) xs ys h.0 all.0, in_order_append xs ys h.1 k all.1)
+in_order_append (x ∷ xs) ys h k all =
+    (each_append (StandsBefore x) xs ys h.0 all.0, in_order_append xs ys h.1 k all.1)
 
 -- readings at a position are from it on
-here_from : (position : ℕ) (xs : List Reading) → Each (IsFrom position) (map reading_by (at_position position xs))
+here_from : (position : ℕ) (xs : List Reading)
+    → Each (IsFrom position) (map reading_by (at_position position xs))
 unfolding IsFrom
 here_from position [] = tt
 here_from position (x ∷ xs) = at (here_from position xs) (x.call.position == position) refl
   where
-    at : Each (IsFrom position) (map reading_by (at_position position xs)) → (v : Bool) → (x.call.position == position) ≡ v
-        → Each (IsFrom position) (map reading_by (if v then x ∷ at_position position xs else at_position position xs))
-    at rest true e = (let same : x.call.position ≡ position = grind (arith, nat_tests) in omega arith, rest)
+    at : Each (IsFrom position) (map reading_by (at_position position xs)) → (v : Bool)
+        → (x.call.position == position) ≡ v
+        → Each (IsFrom position)
+        (map reading_by (if v then x ∷ at_position position xs else at_position position xs))
+    at rest true e =
+        (let same : x.call.position ≡ position = grind (arith, nat_tests) in omega arith, rest)
     at rest false e = rest
 
 -- a reading stands before those at its position that have no lower stamp
-one_before : (position : ℕ) (x : Reading) → x.call.position ≡ position → (ys : List Reading) → Each (λ y. x.call.stamp ≤ y.call.stamp) ys
+one_before : (position : ℕ) (x : Reading) → x.call.position ≡ position → (ys : List Reading)
+    → Each (λ y. x.call.stamp ≤ y.call.stamp) ys
     → Each (StandsBefore (reading_by x)) (map reading_by (at_position position ys))
 one_before position x same [] h = tt
-one_before position x same (y ∷ ys) h = at (one_before position x same ys h.1) (y.call.position == position) refl
+one_before position x same (y ∷ ys) h =
+    at (one_before position x same ys h.1) (y.call.position == position) refl
   where
-    at : Each (StandsBefore (reading_by x)) (map reading_by (at_position position ys)) → (v : Bool) → (y.call.position == position) ≡ v
-        → Each (StandsBefore (reading_by x)) (map reading_by (if v then y ∷ at_position position ys else at_position position ys))
-    at rest true e = (inr (let there : y.call.position ≡ position = grind (arith, nat_tests) in omega arith, h.0), rest)
+    at : Each (StandsBefore (reading_by x)) (map reading_by (at_position position ys)) → (v : Bool)
+        → (y.call.position == position) ≡ v
+        → Each (StandsBefore (reading_by x))
+        (map reading_by (if v then y ∷ at_position position ys else at_position position ys))
+    at rest true e =
+        (inr (let there : y.call.position ≡ position = grind (arith, nat_tests) in omega arith, h.0), rest)
     at rest false e = rest
 
 -- those at one position stand in order of their stamps
-here_in_order : (position : ℕ) (xs : List Reading) → StampsRise xs → AllInOrder (map reading_by (at_position position xs))
+here_in_order : (position : ℕ) (xs : List Reading) → StampsRise xs
+    → AllInOrder (map reading_by (at_position position xs))
 unfolding StampsRise
 here_in_order position [] h = tt
-here_in_order position (x ∷ xs) h = at (here_in_order position xs h.1) (x.call.position == position) refl
+here_in_order position (x ∷ xs) h =
+    at (here_in_order position xs h.1) (x.call.position == position) refl
   where
-    at : AllInOrder (map reading_by (at_position position xs)) → (v : Bool) → (x.call.position == position) ≡ v
+    at : AllInOrder (map reading_by (at_position position xs)) → (v : Bool)
+        → (x.call.position == position) ≡ v
         → AllInOrder (map reading_by (if v then x ∷ at_position position xs else at_position position xs))
-    at rest true e = (one_before position x (let same : x.call.position ≡ position = grind (arith, nat_tests) in same) xs h.0, rest)
+    at rest true e =
+        (one_before position x (let same : x.call.position ≡ position = grind (arith, nat_tests) in same) xs h.0, rest)
     at rest false e = rest
 
 -- readings at a position stand before the change there, and before all behind it
-here_before : (position : ℕ) (entry : Entry) (ys : List Item) → Each (IsFrom (position + 1)) ys → (xs : List Reading)
-    → Each (λ x. Each (StandsBefore x) (change_at position entry ∷ ys)) (map reading_by (at_position position xs))
+here_before : (position : ℕ) (entry : Entry) (ys : List Item) → Each (IsFrom (position + 1)) ys
+    → (xs : List Reading)
+    → Each (λ x. Each (StandsBefore x) (change_at position entry ∷ ys))
+    (map reading_by (at_position position xs))
 unfolding IsFrom
 here_before position entry ys h [] = tt
-here_before position entry ys h (x ∷ xs) = at (here_before position entry ys h xs) (x.call.position == position) refl
+here_before position entry ys h (x ∷ xs) =
+    at (here_before position entry ys h xs) (x.call.position == position) refl
   where
-    behind : x.call.position ≡ position → (item : Item) → IsFrom (position + 1) item → StandsBefore (reading_by x) item
+    behind : x.call.position ≡ position → (item : Item) → IsFrom (position + 1) item
+        → StandsBefore (reading_by x) item
     behind same (change_at i other) low = omega arith
     behind same (reading_by y) low = inl (omega arith)
 
-    at : Each (λ z. Each (StandsBefore z) (change_at position entry ∷ ys)) (map reading_by (at_position position xs))
+    at : Each (λ z. Each (StandsBefore z) (change_at position entry ∷ ys))
+        (map reading_by (at_position position xs))
         → (v : Bool) → (x.call.position == position) ≡ v
-        → Each (λ z. Each (StandsBefore z) (change_at position entry ∷ ys)) (map reading_by (if v then x ∷ at_position position xs else at_position position xs))
+        → Each (λ z. Each (StandsBefore z) (change_at position entry ∷ ys))
+        (map reading_by (if v then x ∷ at_position position xs else at_position position xs))
     at rest true e =
         let same : x.call.position ≡ position = grind (arith, nat_tests) in
         ((omega arith, each_item (IsFrom (position + 1)) (StandsBefore (reading_by x)) (behind same) ys h), rest)
     at rest false e = rest
 
 -- the items from a position on stand there or behind it
-placed_high : (position : ℕ) (entries : List Entry) (xs : List Reading) → Each (IsFrom position) (placed_from position entries xs)
+placed_high : (position : ℕ) (entries : List Entry) (xs : List Reading)
+    → Each (IsFrom position) (placed_from position entries xs)
 unfolding IsFrom
 placed_high position [] xs = here_from position xs
 placed_high position (entry ∷ entries) xs =
-    each_append (IsFrom position) (map reading_by (at_position position xs)) (change_at position entry ∷ placed_from (position + 1) entries xs)
-    (here_from position xs) (omega arith, each_item (IsFrom (position + 1)) (IsFrom position) lower (placed_from (position + 1) entries xs) (placed_high (position + 1) entries xs))
+    each_append (IsFrom position) (map reading_by (at_position position xs))
+    (change_at position entry ∷ placed_from (position + 1) entries xs)
+    (here_from position xs)
+    (omega arith, each_item (IsFrom (position + 1)) (IsFrom position) lower (placed_from (position + 1) entries xs) (placed_high (position + 1) entries xs))
   where
     lower : (item : Item) → IsFrom (position + 1) item → IsFrom position item
     lower (change_at i other) low = omega arith
     lower (reading_by y) low = omega arith
 
 -- and they stand in order
-placed_in_order : (position : ℕ) (entries : List Entry) (xs : List Reading) → StampsRise xs → AllInOrder (placed_from position entries xs)
+placed_in_order : (position : ℕ) (entries : List Entry) (xs : List Reading) → StampsRise xs
+    → AllInOrder (placed_from position entries xs)
 unfolding IsFrom
 placed_in_order position [] xs h = here_in_order position xs h
 placed_in_order position (entry ∷ entries) xs h =
     let rest = placed_from (position + 1) entries xs in
     let high = placed_high (position + 1) entries xs in
-    in_order_append (map reading_by (at_position position xs)) (change_at position entry ∷ rest) (here_in_order position xs h)
+    in_order_append (map reading_by (at_position position xs)) (change_at position entry ∷ rest)
+    (here_in_order position xs h)
     (each_item (IsFrom (position + 1)) (StandsBefore (change_at position entry)) behind rest high, placed_in_order (position + 1) entries xs h)
     (here_before position entry rest high xs)
   where
-    behind : (item : Item) → IsFrom (position + 1) item → StandsBefore (change_at position entry) item
+    behind : (item : Item) → IsFrom (position + 1) item
+        → StandsBefore (change_at position entry) item
     behind (change_at i other) low = omega arith
     behind (reading_by y) low = omega arith
 
 -- the woven history has its places
-pub has_places : (pairs : List Pair) (words : ℕ) (log : Log) (passes : List PassCalls) → StandInPrefixes pairs words log passes
+pub has_places : (pairs : List Pair) (words : ℕ) (log : Log) (passes : List PassCalls)
+    → StandInPrefixes pairs words log passes
     → HasPlaces (changes_of pairs words log) passes
 has_places pairs words log passes all =
     let entries = changes_of pairs words log in
@@ -181,81 +211,3 @@ has_places pairs words log passes all =
       once = placed_once pairs words log passes all;
       in_order = placed_in_order 0 entries xs (in_order_rises (readings passes));
     }
-
--- ---- the items of calls
-
--- an entry at a place is the change with its number
-among_changes : (position : ℕ) (entries : List Entry) (i : ℕ) (entry : Entry) → slice_get entries i ≡ Some entry
-    → Among (change_at (position + i) entry) (changes_from position entries)
-among_changes position [] i entry e = absurd (cc)
-among_changes position (x ∷ entries) zero entry e =
-    let same : x ≡ entry = cc in
-    let here : position + zero ≡ position = omega arith in
-    inl (ap (λ n. change_at n entry) here ∙ ap (λ y. change_at position y) (sym same))
-among_changes position (x ∷ entries) (suc i) entry e =
-    let next : position + 1 + i ≡ position + suc i = omega arith in
-    inr (subst (λ n. Among (change_at n entry) (changes_from (position + 1) entries)) next (among_changes (position + 1) entries i entry e))
-
--- what is among a list is among it with more
-among_map : {A B : Type 0} (f : A → B) (x : A) (xs : List A) → Among x xs → Among (f x) (map f xs)
-among_map f x [] h = h
-among_map f x (y ∷ xs) (inl e) = inl (ap f e)
-among_map f x (y ∷ xs) (inr h) = inr (among_map f x xs h)
-
--- a call of a pass that changes nothing is one of its readings
-among_readings_of : (pass : PassCalls) (call : Call) → Among call pass.calls → is_change call ≡ false
-    → Among (record { number = pass.number; call = call }) (readings_of pass)
-among_readings_of pass call i plain =
-    let test = λ (c : Call). not (is_change c) in
-    among_map (λ (c : Call). record { number = pass.number; call = c }) call (filter test pass.calls) (among_filter test call pass.calls i (ap not plain))
-
--- and so one of the readings of the passes
-among_readings : (passes : List PassCalls) (pass : PassCalls) → Among pass passes → (call : Call) → Among call pass.calls → is_change call ≡ false
-    → Among (record { number = pass.number; call = call }) (readings passes)
-among_readings [] pass h call i plain = absurd h
-among_readings (one ∷ passes) pass (inl e) call i plain =
-    among_left (record { number = pass.number; call = call }) (readings_of one) (readings passes)
-    (subst (λ p. Among (record { number = pass.number; call = call }) (readings_of p)) e (among_readings_of pass call i plain))
-among_readings (one ∷ passes) pass (inr h) call i plain =
-    among_right (record { number = pass.number; call = call }) (readings_of one) (readings passes) (among_readings passes pass h call i plain)
-
--- each call of the passes has its item
-pub calls_placed : (pairs : List Pair) (words : ℕ) (log : Log) (passes : List PassCalls) → StandInPrefixes pairs words log passes
-    → (pass : PassCalls) → Among pass passes → (call : Call) → Among call pass.calls
-    → Among (item_of pass.number call) (items (changes_of pairs words log) passes)
-calls_placed pairs words log passes all pass h call i = at (is_change call) refl
-  where
-    entries : List Entry
-    entries = changes_of pairs words log
-
-    stands : (prefix : Log) × GoesOn prefix log × StandsIn pairs words prefix pass.number pass.calls
-    stands = each-among (λ one. (prefix : Log) × GoesOn prefix log × StandsIn pairs words prefix one.number one.calls) pass passes all h
-
-    made : is_change call ≡ true → slice_get entries call.position ≡ Some (entry_by pass.number call)
-    made e =
-        let on = changes_on (start pairs words) stands.0 log stands.1 in
-        subst (λ es. slice_get es call.position ≡ Some (entry_by pass.number call)) (sym on.1)
-        (get_left (changes_of pairs words stands.0) on.0 call.position (entry_by pass.number call) (stands.2.made call i e))
-
-    at : (v : Bool) → is_change call ≡ v
-        → Among (if v then change_at call.position (entry_by pass.number call) else reading_by record { number = pass.number; call = call }) (items entries passes)
-    at true e =
-        let number : 0 + call.position ≡ call.position = omega arith in
-        among_left (change_at call.position (entry_by pass.number call)) (changes_from 0 entries) (map reading_by (readings passes))
-        (subst (λ n. Among (change_at n (entry_by pass.number call)) (changes_from 0 entries)) number (among_changes 0 entries call.position (entry_by pass.number call) (made e)))
-    at false e =
-        let x : Reading = record { number = pass.number; call = call } in
-        among_right (reading_by x) (changes_from 0 entries) (map reading_by (readings passes)) (among_map reading_by x (readings passes) (among_readings passes pass h call i e))
-
--- a call that follows another doesn't stand before it
-pub follower_later : (number other : ℕ) (call later : Call) → Follows call later → ¬ (StandsBefore (item_of other later) (item_of number call))
-follower_later number other call later f = at (is_change call) (is_change later) f.position
-  where
-    at : (u v : Bool) → (if u then call.position + 1 else call.position) ≤ later.position
-        → ¬ (StandsBefore (if v then change_at later.position (entry_by other later) else reading_by record { number = other; call = later })
-        (if u then change_at call.position (entry_by number call) else reading_by record { number = number; call = call }))
-    at true true low h = absurd (omega arith)
-    at true false low h = absurd (omega arith)
-    at false true low h = absurd (omega arith)
-    at false false low (inl h) = absurd (omega arith)
-    at false false low (inr h) = absurd (let up = f.stamp in let down = h.1 in omega arith)

@@ -23,7 +23,7 @@ use Rattle.ist_core.proofs.NamingStepLemmas.{side_names}
 use Rattle.ist_core.proofs.OrderLemmas.{names, past_change_names}
 use Rattle.ist_core.proofs.FreezingLemmas.{side_not_yes}
 use Rattle.ist_links.proofs.InductionLemmas.{grow_behind}
-use Rattle.ist_links.proofs.ReadLemmas.{decide_reads}
+use Rattle.ist_links.proofs.ReadEventLemmas.{decide_reads}
 use Rattle.ist_links.proofs.ReadLemmas as links
 use Rattle.ist_links.proofs.ReadStepLemmas as steps
 
@@ -34,7 +34,8 @@ pub side_reads : (ps qs : Pieces) → AllGrow ps qs → (node i : ℕ) (ref : Op
     → SideNames ps node i ref → past_rebuild qs ref ≡ past_rebuild ps ref
 side_reads ps qs g node i (Some (RebuildAt base)) h =
     let it = rebuild_there ps qs g base h.row h.published in
-    ap rebuild_reads it.1 ∙ ap (λ n. Some (InnerAt n)) it.2.target ∙ sym (ap rebuild_reads h.published)
+    ap rebuild_reads it.1 ∙ ap (λ n. Some (InnerAt n)) it.2.target
+    ∙ sym (ap rebuild_reads h.published)
 side_reads ps qs g node i _ h = refl
 
 -- what a change may put into a slot is no change
@@ -58,7 +59,9 @@ plain_side ps node i _ h set plain = h
 pub change_logical : (ps : Pieces) (word base : ℕ) (r : ChangeRow)
     → ref_of word ≡ Some (ChangeAt base) → ps base ≡ Some (Change r)
     → logical ps word ≡ past_rebuild ps (ref_of (side_of r))
-change_logical ps word base r is e = ap (λ ref. past_rebuild ps (past_change ps ref)) is ∙ ap (λ o. past_rebuild ps (change_reads o)) e
+change_logical ps word base r is e =
+    ap (λ ref. past_rebuild ps (past_change ps ref)) is
+    ∙ ap (λ o. past_rebuild ps (change_reads o)) e
 
 -- ---- over a log
 
@@ -96,7 +99,8 @@ word_reads t u g o node i (Some (ChangeAt base)) h =
     λ e.
     ap (λ x. past_rebuild u.pieces (change_reads x)) it.1
     ∙ ap (λ w. past_rebuild u.pieces (ref_of w)) e
-    ∙ side_reads t.pieces u.pieces g old.node old.index (ref_of (side_of old)) (side_names t.pieces old.node old.index old row.0 row.1)
+    ∙ side_reads t.pieces u.pieces g old.node old.index (ref_of (side_of old))
+    (side_names t.pieces old.node old.index old row.0 row.1)
     ∙ sym (ap (λ x. past_rebuild t.pieces (change_reads x)) h.published) in
     ⊎_elim
     (λ yes. inl (alike (same_side new old from to (it.2.decided (λ none. (let one = yes.1 in absurd (omega arith)))))))
@@ -106,7 +110,8 @@ word_reads t u g o node i (Some (ChangeAt base)) h =
     (λ no. inl (alike (side_not_yes new no.1 ∙ from ∙ sym (side_not_yes old not_yet.1))))
     (eqb_tells new.decision 1))
     (eqb_tells old.decision 1)
-word_reads t u g o node i (Some (RebuildAt base)) h = inl (side_reads t.pieces u.pieces g node i (Some (RebuildAt base)) h)
+word_reads t u g o node i (Some (RebuildAt base)) h =
+    inl (side_reads t.pieces u.pieces g node i (Some (RebuildAt base)) h)
 word_reads t u g o node i _ h = inl refl
 
 -- ---- at an event
@@ -136,15 +141,19 @@ pub record Turns (t u : Snapshot) (event : Event) (node i : ℕ) (ref : Option R
 
 module _ (pairs : List Pair) (words : ℕ) (opens : CanOpen pairs words) where
   -- a change that the event decides yes turns its slot
-  turned : (log : Log) (event : Event) → EachEnabled (start pairs words) (event ∷ log) → (node i : ℕ) (ref : Ref)
+  turned : (log : Log) (event : Event) → EachEnabled (start pairs words) (event ∷ log)
+      → (node i : ℕ) (ref : Ref)
       → links.Turns (start pairs words) log node i ref event
-      → Turns (state_of pairs words log) (state_of pairs words (event ∷ log)) event node i (past_rebuild (state_of pairs words log).pieces (Some ref))
+      → Turns (state_of pairs words log)
+      (state_of pairs words (event ∷ log)) event node i
+      (past_rebuild (state_of pairs words log).pieces (Some ref))
   turned log _ h node i ref (links.turned_by {caller = caller} {base = base} can node_is index from) =
       let t = state_of pairs words log in
       let u = state_of pairs words (Decide caller base true ∷ log) in
       let change = can.change in
       let row = (names pairs words opens log h.0).rows base (Change change) can.pending.published in
-      let now : ReadsAs u change.node change.index (past_rebuild t.pieces (ref_of change.to)) = put_in (ref_of change.to) refl row.1 in
+      let now : ReadsAs u change.node change.index (past_rebuild t.pieces (ref_of change.to)) =
+      put_in (ref_of change.to) refl row.1 in
       record {
         base = base;
         decides = record { caller = caller; is = refl };
@@ -153,28 +162,34 @@ module _ (pairs : List Pair) (words : ℕ) (opens : CanOpen pairs words) where
         node_is = node_is;
         index = index;
         from = ap (past_rebuild t.pieces) from;
-        now = subst (λ j. ReadsAs u node j (past_rebuild t.pieces (ref_of change.to))) index (subst (λ n. ReadsAs u n change.index (past_rebuild t.pieces (ref_of change.to))) node_is now);
+        now =
+            subst (λ j. ReadsAs u node j (past_rebuild t.pieces (ref_of change.to))) index
+            (subst (λ n. ReadsAs u n change.index (past_rebuild t.pieces (ref_of change.to))) node_is now);
       }
     where
-      put_in : (o : Option Ref) → ref_of can.change.to ≡ o → SideNames (state_of pairs words log).pieces can.change.node can.change.index o
+      put_in : (o : Option Ref) → ref_of can.change.to ≡ o
+          → SideNames (state_of pairs words log).pieces can.change.node can.change.index o
           → ReadsAs (state_of pairs words (Decide caller base true ∷ log)) can.change.node can.change.index (past_rebuild (state_of pairs words log).pieces (ref_of can.change.to))
       put_in None is side = absurd side
       put_in (Some to) is side =
           let t = state_of pairs words log in
           let u = state_of pairs words (Decide caller base true ∷ log) in
-          let r = decide_reads pairs words opens log caller base h can.change can.pending.published to is in
+          let r =
+          decide_reads pairs words opens log caller base h can.change can.pending.published to is in
           record {
             word = r.word;
             holds = r.holds;
             reads =
                 ap (past_rebuild u.pieces) r.reads
-                ∙ side_reads t.pieces u.pieces (grow_behind pairs words log (Decide caller base true) h) can.change.node can.change.index (Some to) side
+                ∙ side_reads t.pieces u.pieces
+                (grow_behind pairs words log (Decide caller base true) h) can.change.node can.change.index (Some to) side
                 ∙ ap (past_rebuild t.pieces) (sym is);
           }
 
   -- a slot that is set reads as it did behind an event, or the event turns a change of it
   pub reads_step : (log : Log) (event : Event) → EachEnabled (start pairs words) (event ∷ log)
-      → (node i : ℕ) (ref : Option Ref) → ref ≢ Some Unset → ReadsAs (state_of pairs words log) node i ref
+      → (node i : ℕ) (ref : Option Ref) → ref ≢ Some Unset
+      → ReadsAs (state_of pairs words log) node i ref
       → ReadsAs (state_of pairs words (event ∷ log)) node i ref
       ⊎ Turns (state_of pairs words log) (state_of pairs words (event ∷ log)) event node i ref
   reads_step log event h node i ref set r =
@@ -192,16 +207,21 @@ module _ (pairs : List Pair) (words : ℕ) (opens : CanOpen pairs words) where
       unset_side : (plain : Ref) → plain ≡ Unset → ¬ (SideNames t.pieces node i (Some plain))
       unset_side plain e side = subst (λ x. SideNames t.pieces node i (Some x)) e side
 
-      at : (o : Option Ref) → past_change t.pieces (ref_of r.word) ≡ o → SideNames t.pieces node i o → ReadsAs u node i ref ⊎ Turns t u event node i ref
+      at : (o : Option Ref) → past_change t.pieces (ref_of r.word) ≡ o → SideNames t.pieces node i o
+          → ReadsAs u node i ref ⊎ Turns t u event node i ref
       at None is side = absurd side
       at (Some plain) is side =
-          let same : past_rebuild t.pieces (Some plain) ≡ ref = ap (past_rebuild t.pieces) (sym is) ∙ r.reads in
+          let same : past_rebuild t.pieces (Some plain) ≡ ref =
+          ap (past_rebuild t.pieces) (sym is) ∙ r.reads in
           ⊎_elim
           (λ k.
           inl record {
             word = k.word;
             holds = k.holds;
-            reads = ap (past_rebuild u.pieces) k.reads ∙ side_reads t.pieces u.pieces (grow_behind pairs words log event h) node i (Some plain) side ∙ same;
+            reads =
+                ap (past_rebuild u.pieces) k.reads
+                ∙ side_reads t.pieces u.pieces (grow_behind pairs words log event h) node i
+                (Some plain) side ∙ same;
           })
           (λ k. inr (subst (λ x. Turns t u event node i x) same (turned log event h node i plain k)))
           (steps.reads_step pairs words opens log event h node i plain (λ e. unset_side plain e side) record { word = r.word; holds = r.holds; reads = is })

@@ -29,11 +29,13 @@ use Rattle.ist_histories.specs.ExampleCalls.{refused_installed, refused}
 
 -- the put, with a decision
 abbrev the_put : ℕ → ChangeRow
-the_put decision = record { decision = decision; kind = put_kind; node = 4; index = 1; from = 105; to = 233; owner = 1; key = 20; value = 9 }
+the_put decision =
+    record { decision = decision; kind = put_kind; node = 4; index = 1; from = 105; to = 233; owner = 1; key = 20; value = 9 }
 
 -- the target, with a status and the word in its second slot
 abbrev target : ℕ → ℕ → InnerRow
-target status word = record { status = status; count = 0; degree = 2; size = 2; keys = 20 ∷ []; slots = 89 ∷ word ∷ [] }
+target status word =
+    record { status = status; count = 0; degree = 2; size = 2; keys = 20 ∷ []; slots = 89 ∷ word ∷ [] }
 
 -- the log is enabled until its row is reserved
 reserved : EachEnabled two late_reserved
@@ -42,7 +44,8 @@ reserved = late_is_lawful.enabled.0.0.0.0.0.0.0.0.0
 -- the rebuild is started
 is_started : IsStarted (state two late_reserved) 15
 unfolding ref_of
-is_started = record { base = 20; change = the_start 1; published = refl; kind = refl; decision = refl; to = refl }
+is_started =
+    record { base = 20; change = the_start 1; published = refl; kind = refl; decision = refl; to = refl }
 
 -- so its target may be marked
 marked : CanMark (state two late_reserved) late_reserved 0 4
@@ -53,7 +56,8 @@ marked =
       row = target 0 105;
       published = refl;
       row_open = refl;
-      called = as_target 15 record { row = the_rebuild 7; published = refl; target_is = refl } is_started;
+      called =
+          as_target 15 record { row = the_rebuild 7; published = refl; target_is = refl } is_started;
     }
 
 -- the target hangs below the anchor, behind the rebuild
@@ -83,7 +87,8 @@ installed =
       fits =
           a_put record {
             kind = refl;
-            by_key = record { led = inl (down 0 from_anchor (of_anchor refl refl) target_hangs); index = of_row (target 1 105) refl refl };
+            by_key =
+                record { led = inl (down 0 from_anchor (of_anchor refl refl) target_hangs); index = of_row (target 1 105) refl refl };
             from = same_key 13 refl record { row = high; published = refl; key_is = refl };
             leaf = 29;
             to = refl;
@@ -97,21 +102,25 @@ unfolding rows_within degree square_root root_up_to part_len part_lens ideal_wor
 not_open (anchor_is e) = omega arith
 not_open (row_is r e s) = let one : ◌≡◌ {A = ℕ} 1 r.status = status_is r e in omega arith
   where
-    status_is : (r : InnerRow) → (state two refused_installed).pieces 4 ≡ Some (Inner r) → 1 ≡ r.status
+    status_is : (r : InnerRow) → (state two refused_installed).pieces 4 ≡ Some (Inner r)
+        → 1 ≡ r.status
     status_is r e = cc
 
 -- it is decided no, since its node is marked
 decided : CanDecide (state two refused_installed) refused_installed 2 31 false
-decided = record { known = omega arith; change = the_put 0; pending = record { published = refl; unset = refl }; outcome = not_open }
+decided =
+    record { known = omega arith; change = the_put 0; pending = record { published = refl; unset = refl }; outcome = not_open }
 
 -- and it is resolved
 resolved : CanResolve (state two (Decide 2 31 false ∷ refused_installed)) 0 31
 unfolding rows_within degree square_root root_up_to part_len part_lens ideal_words ideal_words_within
-resolved = record { known = omega arith; change = the_put 2; published = refl; decided = λ e. omega arith; in_slot = in_row (target 1 251) refl refl }
+resolved =
+    record { known = omega arith; change = the_put 2; published = refl; decided = λ e. omega arith; in_slot = in_row (target 1 251) refl refl }
 
 -- the log is lawful
 pub refused_is_lawful : Lawful start_pairs 100 refused
-refused_is_lawful = record { opens = start_is_lawful.opens; enabled = ((((reserved, marked), installed), decided), resolved) }
+refused_is_lawful =
+    record { opens = start_is_lawful.opens; enabled = ((((reserved, marked), installed), decided), resolved) }
 
 -- it changes nothing
 pub refused_changes : changes_of start_pairs 100 refused ≡ []
@@ -124,7 +133,9 @@ unfolding ref_of rows_within degree square_root root_up_to part_len part_lens id
 refused_contents =
     record {
       leaves = both;
-      reached = row_here (target 1 105) refl (one_slot (leaf_here low refl) (one_slot (leaf_here high refl) no_slot));
+      reached =
+          row_here (target 1 105) refl
+          (one_slot (leaf_here low refl) (one_slot (leaf_here high refl) no_slot));
       pairs_are = refl;
     }
 

@@ -32,13 +32,15 @@ the_leaf = record { key = 1; value = 1 }
 -- the contents are its pair
 pub put_contents : HasContents (state_of [] 15 put_resolved) (pair 1 1 ∷ [])
 unfolding ref_of rows_within
-put_contents = record { leaves = record { base = 4; row = the_leaf } ∷ []; reached = leaf_here the_leaf refl; pairs_are = refl }
+put_contents =
+    record { leaves = record { base = 4; row = the_leaf } ∷ []; reached = leaf_here the_leaf refl; pairs_are = refl }
 
 -- ---- loads
 
 -- the put's change, with a decision
 abbrev the_put : ℕ → ChangeRow
-the_put decision = record { decision = decision; kind = put_kind; node = 2; index = 0; from = 0; to = 33; owner = 0; key = 1; value = 1 }
+the_put decision =
+    record { decision = decision; kind = put_kind; node = 2; index = 0; from = 0; to = 33; owner = 0; key = 1; value = 1 }
 
 -- a load, when the log had so many events
 abbrev load : ℕ → ℕ → ℕ → Load
@@ -50,22 +52,31 @@ decided = put_is_lawful.enabled.0
 
 -- the anchor's slot is loaded while the change is undecided
 slot_load : IsLoad [] 15 put_decided 3 4 (load 3 51 4)
-slot_load = record { tells = λ word h. one_word [] 15 (log_at put_decided 4) decided.0.0 3 51 word (in_anchor_slot refl refl) h; place_is = refl; since = omega arith; within = omega arith }
+slot_load =
+    record { tells = λ word h. one_word [] 15 (log_at put_decided 4) decided.0.0 3 51 word (in_anchor_slot refl refl) h; place_is = refl; since = omega arith; within = omega arith }
 
 -- a word of a row is loaded behind the decision
-row_load : (base k word : ℕ) (p : Piece) → (state_of [] 15 put_decided).pieces base ≡ Some p → slice_get (words_of p) k ≡ Some word → IsLoad [] 15 put_decided (base + k) 4 (load (base + k) word 6)
+row_load : (base k word : ℕ) (p : Piece) → (state_of [] 15 put_decided).pieces base ≡ Some p
+    → slice_get (words_of p) k ≡ Some word
+    → IsLoad [] 15 put_decided (base + k) 4 (load (base + k) word 6)
 row_load base k word p e read =
     record { tells = λ other h. one_word [] 15 (log_at put_decided 6) decided (base + k) word other (in_published base k p e refl read) h; place_is = refl; since = omega arith; within = omega arith }
 
 -- or before it
-early_load : (base k word : ℕ) (p : Piece) → (state_of [] 15 (log_at put_decided 5)).pieces base ≡ Some p → slice_get (words_of p) k ≡ Some word
+early_load : (base k word : ℕ) (p : Piece)
+    → (state_of [] 15 (log_at put_decided 5)).pieces base ≡ Some p
+    → slice_get (words_of p) k ≡ Some word
     → IsLoad [] 15 put_decided (base + k) 4 (load (base + k) word 5)
 early_load base k word p e read =
     record { tells = λ other h. one_word [] 15 (log_at put_decided 5) decided.0 (base + k) word other (in_published base k p e refl read) h; place_is = refl; since = omega arith; within = omega arith }
 
 -- a load that counts only from a later moment
-since_6 : (base k word : ℕ) (p : Piece) → (state_of [] 15 put_decided).pieces base ≡ Some p → slice_get (words_of p) k ≡ Some word → IsLoad [] 15 put_decided (base + k) 6 (load (base + k) word 6)
-since_6 base k word p e read = let it = row_load base k word p e read in record { tells = it.tells; place_is = refl; since = omega arith; within = omega arith }
+since_6 : (base k word : ℕ) (p : Piece) → (state_of [] 15 put_decided).pieces base ≡ Some p
+    → slice_get (words_of p) k ≡ Some word
+    → IsLoad [] 15 put_decided (base + k) 6 (load (base + k) word 6)
+since_6 base k word p e read =
+    let it =
+    row_load base k word p e read in record { tells = it.tells; place_is = refl; since = omega arith; within = omega arith }
 
 -- ---- the search
 
@@ -79,7 +90,10 @@ look_behind =
       index_is = of_anchor refl refl;
       is_load = slot_load;
       side = 33;
-      side_is = by_to 6 (load 6 1 6) (load 11 33 6) refl (row_load 6 0 1 (Change (the_put 1)) refl refl) refl (row_load 6 5 33 (Change (the_put 1)) refl refl);
+      side_is =
+          by_to 6 (load 6 1 6) (load 11 33 6) refl
+          (row_load 6 0 1 (Change (the_put 1)) refl refl) refl
+          (row_load 6 5 33 (Change (the_put 1)) refl refl);
       ref_is = no_rebuild (LeafAt 4) refl (λ base e. cc);
     }
 
@@ -94,7 +108,9 @@ search_behind =
       comes = begins;
       ref = LeafAt 4;
       look = look_behind;
-      value_is = of_key {base = 4} (load 4 1 6) (load 5 1 6) (since_6 4 0 1 (Leaf the_leaf) refl refl) refl (since_6 4 1 1 (Leaf the_leaf) refl refl);
+      value_is =
+          of_key {base = 4} (load 4 1 6) (load 5 1 6) (since_6 4 0 1 (Leaf the_leaf) refl refl) refl
+          (since_6 4 1 1 (Leaf the_leaf) refl refl);
     }
 
 -- the look whose decision is loaded before it
@@ -107,10 +123,14 @@ look_before =
       index_is = of_anchor refl refl;
       is_load = slot_load;
       side = 0;
-      side_is = by_from 6 (load 6 0 5) (load 10 0 5) refl (early_load 6 0 0 (Change (the_put 0)) refl refl) (λ e. omega arith) (early_load 6 4 0 (Change (the_put 0)) refl refl);
+      side_is =
+          by_from 6 (load 6 0 5) (load 10 0 5) refl
+          (early_load 6 0 0 (Change (the_put 0)) refl refl) (λ e. omega arith)
+          (early_load 6 4 0 (Change (the_put 0)) refl refl);
       ref_is = no_rebuild Empty refl (λ base e. cc);
     }
 
 -- and none where it loads it before that
 pub search_before : Searched [] 15 put_decided 1 4 2 None
-search_before = record { least = 4; last = 5; since = omega arith; comes = begins; ref = Empty; look = look_before; value_is = of_nothing }
+search_before =
+    record { least = 4; last = 5; since = omega arith; comes = begins; ref = Empty; look = look_before; value_is = of_nothing }

@@ -39,34 +39,45 @@ says_self r key e = let same : (r.key == key) ≡ true = grind (arith, nat_tests
 
 -- and none for another
 says_other : (r : LeafRow) (key : ℕ) → r.key ≢ key → says r key ≡ None
-says_other r key ne = let differs : (r.key == key) ≡ false = grind (arith, nat_tests) in rw differs refl
+says_other r key ne =
+    let differs : (r.key == key) ≡ false = grind (arith, nat_tests) in rw differs refl
 
 -- the value that a pair row gives the key, from its right key on that of the right leaf
 pub pair_says : LeafRow → ℕ → LeafRow → ℕ → Option ℕ
 pair_says left right_key right key = if nat_lt key right_key then says left key else says right key
 
 -- a pair says for a low key what its left row says
-left_says : (left : LeafRow) (right_key : ℕ) (right : LeafRow) (key : ℕ) → key < right_key → pair_says left right_key right key ≡ says left key
+left_says : (left : LeafRow) (right_key : ℕ) (right : LeafRow) (key : ℕ) → key < right_key
+    → pair_says left right_key right key ≡ says left key
 unfolding pair_says
-left_says left right_key right key h = let test : nat_lt key right_key ≡ true = grind (arith, nat_tests) in rw test refl
+left_says left right_key right key h =
+    let test : nat_lt key right_key ≡ true = grind (arith, nat_tests) in rw test refl
 
 -- and for a high one what its right row says
-right_says : (left : LeafRow) (right_key : ℕ) (right : LeafRow) (key : ℕ) → right_key ≤ key → pair_says left right_key right key ≡ says right key
+right_says : (left : LeafRow) (right_key : ℕ) (right : LeafRow) (key : ℕ) → right_key ≤ key
+    → pair_says left right_key right key ≡ says right key
 unfolding pair_says
-right_says left right_key right key h = let test : nat_lt key right_key ≡ false = grind (arith, nat_tests) in rw test refl
+right_says left right_key right key h =
+    let test : nat_lt key right_key ≡ false = grind (arith, nat_tests) in rw test refl
 
 -- the left slot is that of a low key
-left_slot : (left right : ℕ) (right_key key : ℕ) → key < right_key → slice_get (left ∷ right ∷ []) (child_count (right_key ∷ []) key) ≡ Some left
-left_slot left right right_key key h = let test : nat_le right_key key ≡ false = grind (arith, nat_tests) in rw test refl
+left_slot : (left right : ℕ) (right_key key : ℕ) → key < right_key
+    → slice_get (left ∷ right ∷ []) (child_count (right_key ∷ []) key) ≡ Some left
+left_slot left right right_key key h =
+    let test : nat_le right_key key ≡ false = grind (arith, nat_tests) in rw test refl
 
 -- the right slot is that of a high one
-right_slot : (left right : ℕ) (right_key key : ℕ) → right_key ≤ key → slice_get (left ∷ right ∷ []) (child_count (right_key ∷ []) key) ≡ Some right
-right_slot left right right_key key h = let test : nat_le right_key key ≡ true = grind (arith, nat_tests) in rw test refl
+right_slot : (left right : ℕ) (right_key key : ℕ) → right_key ≤ key
+    → slice_get (left ∷ right ∷ []) (child_count (right_key ∷ []) key) ≡ Some right
+right_slot left right right_key key h =
+    let test : nat_le right_key key ≡ true = grind (arith, nat_tests) in rw test refl
 
 module _ (ps : Pieces) (key : ℕ) where
   -- what is found through a slot of a pair row
-  pair_through : (pair right_key left right at : ℕ) (value : Option ℕ) → IsGoodBase at → (h : IsPair ps pair right_key left right)
-      → slice_get (word_of (LeafAt left) ∷ word_of (LeafAt right) ∷ []) (child_count (right_key ∷ []) key) ≡ Some (word_of (LeafAt at))
+  pair_through : (pair right_key left right at : ℕ) (value : Option ℕ) → IsGoodBase at
+      → (h : IsPair ps pair right_key left right)
+      → slice_get (word_of (LeafAt left) ∷ word_of (LeafAt right) ∷ [])
+      (child_count (right_key ∷ []) key) ≡ Some (word_of (LeafAt at))
       → Finds ps key (Some (LeafAt at)) value → Finds ps key (Some (InnerAt pair)) value
   pair_through pair right_key left right at value good h e f =
       in_node h.row h.published
@@ -78,8 +89,10 @@ module _ (ps : Pieces) (key : ℕ) where
       leaf_logical good = rw (ref_of-word_of (LeafAt at) good) refl
 
   -- a pair row gives each key what one of its leaves gives it
-  pub pair_finds : (pair right_key left right : ℕ) (l r : LeafRow) → IsGoodBase left → IsGoodBase right → IsPair ps pair right_key left right
-      → ps left ≡ Some (Leaf l) → ps right ≡ Some (Leaf r) → Finds ps key (Some (InnerAt pair)) (pair_says l right_key r key)
+  pub pair_finds : (pair right_key left right : ℕ) (l r : LeafRow) → IsGoodBase left
+      → IsGoodBase right → IsPair ps pair right_key left right
+      → ps left ≡ Some (Leaf l) → ps right ≡ Some (Leaf r)
+      → Finds ps key (Some (InnerAt pair)) (pair_says l right_key r key)
   pair_finds pair right_key left right l r gl gr h el er =
       ⊎_elim
       (λ low. subst (λ v. Finds ps key (Some (InnerAt pair)) v) (sym (left_says l right_key r key low)) (pair_through pair right_key left right left (says l key) gl h (left_slot _ _ right_key key low) (in_leaf l el)))
@@ -94,7 +107,8 @@ pub record Makes (change : ChangeRow) (new : Option ℕ) : Type 0 where
   pub command_is : command_of change ≡ Some command
   pub key_is : key_of command ≡ change.key
   pub made : (m : Map) → fin.get (map_after m command) change.key ≡ new
-  pub others : (m : Map) (key : ℕ) → key ≢ change.key → fin.get (map_after m command) key ≡ fin.get m key
+  pub others : (m : Map) (key : ℕ) → key ≢ change.key
+      → fin.get (map_after m command) key ≡ fin.get m key
 
 -- a start has no command
 pub start_commands : (change : ChangeRow) → change.kind ≡ start_kind → command_of change ≡ None
@@ -105,24 +119,28 @@ pub finish_commands : (change : ChangeRow) → change.kind ≡ finish_kind → c
 finish_commands change kind = rw kind refl
 
 -- what a put makes of a map
-put_makes : (change : ChangeRow) (new : Option ℕ) → change.kind ≡ put_kind → new ≡ Some change.value → Makes change new
+put_makes : (change : ChangeRow) (new : Option ℕ) → change.kind ≡ put_kind → new ≡ Some change.value
+    → Makes change new
 put_makes change new kind is =
     record {
       command = Put change.key change.value;
       command_is = rw kind refl;
       key_is = refl;
-      made = λ m. (let got : fin.get (fin.insert m change.key change.value) change.key ≡ Some change.value = grind (arith, nat_tests, gets) in got ∙ sym is);
+      made =
+          λ m. (let got : fin.get (fin.insert m change.key change.value) change.key ≡ Some change.value = grind (arith, nat_tests, gets) in got ∙ sym is);
       others = λ m key ne. grind (arith, nat_tests, gets);
     }
 
 -- what a remove makes of one
-remove_makes : (change : ChangeRow) (new : Option ℕ) → change.kind ≡ remove_kind → new ≡ None → Makes change new
+remove_makes : (change : ChangeRow) (new : Option ℕ) → change.kind ≡ remove_kind → new ≡ None
+    → Makes change new
 remove_makes change new kind is =
     record {
       command = Remove change.key;
       command_is = rw kind refl;
       key_is = refl;
-      made = λ m. (let got : fin.get (fin.remove m change.key) change.key ≡ None = grind (arith, nat_tests, gets) in got ∙ sym is);
+      made =
+          λ m. (let got : fin.get (fin.remove m change.key) change.key ≡ None = grind (arith, nat_tests, gets) in got ∙ sym is);
       others = λ m key ne. grind (arith, nat_tests, gets);
     }
 
@@ -132,7 +150,8 @@ remove_makes change new kind is =
 pub record Sides (t u : Snapshot) (change : ChangeRow) : Type 0 where
   pub old : ℕ → Option ℕ
   pub new : ℕ → Option ℕ
-  pub from_finds : (key : ℕ) → Finds t.pieces key (past_rebuild t.pieces (ref_of change.from)) (old key)
+  pub from_finds : (key : ℕ)
+      → Finds t.pieces key (past_rebuild t.pieces (ref_of change.from)) (old key)
   pub to_finds : (key : ℕ) → Finds u.pieces key (past_rebuild t.pieces (ref_of change.to)) (new key)
   pub others : (key : ℕ) → key ≢ change.key → new key ≡ old key
   pub reply : old change.key ≡ reply_of t.pieces change
@@ -144,32 +163,44 @@ pub record RowsStay (ps qs : Pieces) : Type 0 where
   pub inners : (base : ℕ) (r : InnerRow) → ps base ≡ Some (Inner r) → qs base ≡ Some (Inner r)
 
 -- a pair row stays where rows stay
-pair_stays : (ps qs : Pieces) (pair key left right : ℕ) → RowsStay ps qs → IsPair ps pair key left right → IsPair qs pair key left right
-pair_stays ps qs pair key left right s h = record { row = h.row; published = s.inners pair h.row h.published; keys = h.keys; slots = h.slots }
+pair_stays : (ps qs : Pieces) (pair key left right : ℕ) → RowsStay ps qs
+    → IsPair ps pair key left right → IsPair qs pair key left right
+pair_stays ps qs pair key left right s h =
+    record { row = h.row; published = s.inners pair h.row h.published; keys = h.keys; slots = h.slots }
 
 -- what is found from a word that reads as the reference
-at_ref : (ps qs : Pieces) (key word : ℕ) (ref : Option Ref) (value : Option ℕ) → ref_of word ≡ ref → Finds qs key (past_rebuild ps ref) value
+at_ref : (ps qs : Pieces) (key word : ℕ) (ref : Option Ref) (value : Option ℕ) → ref_of word ≡ ref
+    → Finds qs key (past_rebuild ps ref) value
     → Finds qs key (past_rebuild ps (ref_of word)) value
 at_ref ps qs key word ref value e f = subst (λ x. Finds qs key (past_rebuild ps x) value) (sym e) f
 
 -- the reply of a change over a leaf is what the leaf says
-leaf_reply : (ps : Pieces) (change : ChangeRow) (base : ℕ) (r : LeafRow) → ref_of change.from ≡ Some (LeafAt base) → ps base ≡ Some (Leaf r)
+leaf_reply : (ps : Pieces) (change : ChangeRow) (base : ℕ) (r : LeafRow)
+    → ref_of change.from ≡ Some (LeafAt base) → ps base ≡ Some (Leaf r)
     → says r change.key ≡ reply_of ps change
-leaf_reply ps change base r from e = sym (ap (λ x. value_at ps x change.key) from ∙ ap (λ o. value_in o change.key) e)
+leaf_reply ps change base r from e =
+    sym (ap (λ x. value_at ps x change.key) from ∙ ap (λ o. value_in o change.key) e)
 
-module _ (t u : Snapshot) (change : ChangeRow) (stay : RowsStay t.pieces u.pieces) (good : (base : ℕ) (p : Piece) → t.pieces base ≡ Some p → IsGoodBase base) where
+module _ (t u : Snapshot) (change : ChangeRow) (stay : RowsStay t.pieces u.pieces)
+    (good : (base : ℕ) (p : Piece) → t.pieces base ≡ Some p → IsGoodBase base) where
   -- an update in the place of a leaf
-  leaf_from : (base : ℕ) (r : LeafRow) → ref_of change.from ≡ Some (LeafAt base) → t.pieces base ≡ Some (Leaf r) → (key : ℕ)
+  leaf_from : (base : ℕ) (r : LeafRow) → ref_of change.from ≡ Some (LeafAt base)
+      → t.pieces base ≡ Some (Leaf r) → (key : ℕ)
       → Finds t.pieces key (past_rebuild t.pieces (ref_of change.from)) (says r key)
-  leaf_from base r from e key = at_ref t.pieces t.pieces key change.from (Some (LeafAt base)) (says r key) from (in_leaf r e)
+  leaf_from base r from e key =
+      at_ref t.pieces t.pieces key change.from (Some (LeafAt base)) (says r key) from (in_leaf r e)
 
   -- what a put of one leaf leaves is its row
-  put_to : (leaf : ℕ) → ref_of change.to ≡ Some (LeafAt leaf) → t.pieces leaf ≡ Some (new_leaf change) → (key : ℕ)
+  put_to : (leaf : ℕ) → ref_of change.to ≡ Some (LeafAt leaf)
+      → t.pieces leaf ≡ Some (new_leaf change) → (key : ℕ)
       → Finds u.pieces key (past_rebuild t.pieces (ref_of change.to)) (says (put_row change) key)
-  put_to leaf to new key = at_ref t.pieces u.pieces key change.to (Some (LeafAt leaf)) (says (put_row change) key) to (in_leaf (put_row change) (stay.leaves leaf (put_row change) new))
+  put_to leaf to new key =
+      at_ref t.pieces u.pieces key change.to (Some (LeafAt leaf)) (says (put_row change) key) to
+      (in_leaf (put_row change) (stay.leaves leaf (put_row change) new))
 
   -- what a put beside a leaf leaves is a pair of rows
-  pair_to : (pair right_key left right : ℕ) (l r : LeafRow) → ref_of change.to ≡ Some (InnerAt pair) → IsPair t.pieces pair right_key left right
+  pair_to : (pair right_key left right : ℕ) (l r : LeafRow) → ref_of change.to ≡ Some (InnerAt pair)
+      → IsPair t.pieces pair right_key left right
       → t.pieces left ≡ Some (Leaf l) → t.pieces right ≡ Some (Leaf r) → (key : ℕ)
       → Finds u.pieces key (past_rebuild t.pieces (ref_of change.to)) (pair_says l right_key r key)
   pair_to pair right_key left right l r to h el er key =
@@ -182,11 +213,14 @@ module _ (t u : Snapshot) (change : ChangeRow) (stay : RowsStay t.pieces u.piece
       record {
         old = λ key. None;
         new = says (put_row change);
-        from_finds = λ key. at_ref t.pieces t.pieces key change.from (Some Empty) None from in_nothing;
+        from_finds =
+            λ key. at_ref t.pieces t.pieces key change.from (Some Empty) None from in_nothing;
         to_finds = put_to leaf to new;
         others = λ key ne. says_other (put_row change) key (λ e. ne (sym e));
         reply = sym (ap (λ x. value_at t.pieces x change.key) from);
-        makes = put_makes change (says (put_row change) change.key) kind (says_self (put_row change) change.key refl);
+        makes =
+            put_makes change (says (put_row change) change.key) kind
+            (says_self (put_row change) change.key refl);
       }
   sides (over_leaf old leaf kind from is to new) update =
       record {
@@ -194,9 +228,13 @@ module _ (t u : Snapshot) (change : ChangeRow) (stay : RowsStay t.pieces u.piece
         new = says (put_row change);
         from_finds = leaf_from old is.row from is.published;
         to_finds = put_to leaf to new;
-        others = λ key ne. says_other (put_row change) key (λ e. ne (sym e)) ∙ sym (says_other is.row key (λ e. ne (sym e ∙ is.key_is)));
+        others =
+            λ key ne. says_other (put_row change) key (λ e. ne (sym e))
+            ∙ sym (says_other is.row key (λ e. ne (sym e ∙ is.key_is)));
         reply = leaf_reply t.pieces change old is.row from is.published;
-        makes = put_makes change (says (put_row change) change.key) kind (says_self (put_row change) change.key refl);
+        makes =
+            put_makes change (says (put_row change) change.key) kind
+            (says_self (put_row change) change.key refl);
       }
   sides (beside_low other other_key leaf pair kind from is less to p new) update =
       record {
@@ -210,7 +248,8 @@ module _ (t u : Snapshot) (change : ChangeRow) (stay : RowsStay t.pieces u.piece
             (right_says is.row change.key (put_row change) change.key (omega arith) ∙ says_self (put_row change) change.key refl);
       }
     where
-      low_other : (key : ℕ) → key ≢ change.key → pair_says is.row change.key (put_row change) key ≡ says is.row key
+      low_other : (key : ℕ) → key ≢ change.key
+          → pair_says is.row change.key (put_row change) key ≡ says is.row key
       low_other key ne =
           ⊎_elim
           (λ low. left_says is.row change.key (put_row change) key low)
@@ -228,7 +267,8 @@ module _ (t u : Snapshot) (change : ChangeRow) (stay : RowsStay t.pieces u.piece
             (left_says (put_row change) other_key is.row change.key less ∙ says_self (put_row change) change.key refl);
       }
     where
-      high_other : (key : ℕ) → key ≢ change.key → pair_says (put_row change) other_key is.row key ≡ says is.row key
+      high_other : (key : ℕ) → key ≢ change.key
+          → pair_says (put_row change) other_key is.row key ≡ says is.row key
       high_other key ne =
           ⊎_elim
           (λ low. left_says (put_row change) other_key is.row key low ∙ says_other (put_row change) key (λ e. ne (sym e)) ∙ sym (says_other is.row key (λ e. (let a = is.key_is in omega arith))))
@@ -244,5 +284,7 @@ module _ (t u : Snapshot) (change : ChangeRow) (stay : RowsStay t.pieces u.piece
         reply = leaf_reply t.pieces change leaf is.row from is.published;
         makes = remove_makes change None kind refl;
       }
-  sides (begins target rebuild kind from to h) update = absurd (⊎_elim (λ e. (omega arith)) (λ e. (omega arith)) update)
-  sides (ends rebuild row kind from e f set) update = absurd (⊎_elim (λ e. (omega arith)) (λ e. (omega arith)) update)
+  sides (begins target rebuild kind from to h) update =
+      absurd (⊎_elim (λ e. (omega arith)) (λ e. (omega arith)) update)
+  sides (ends rebuild row kind from e f set) update =
+      absurd (⊎_elim (λ e. (omega arith)) (λ e. (omega arith)) update)

@@ -22,7 +22,8 @@ get-map_of [] key = grind (arith, nat_tests, gets)
 get-map_of (pair ∷ pairs) key = grind (arith, nat_tests, gets, get-map_of pairs key)
 
 -- a key that no pair has has no value
-pub value_of-none : (key : ℕ) (pairs : List Pair) → Each (λ pair. pair.key ≢ key) pairs → value_of key pairs ≡ None
+pub value_of-none : (key : ℕ) (pairs : List Pair) → Each (λ pair. pair.key ≢ key) pairs
+    → value_of key pairs ≡ None
 unfolding value_of
 value_of-none key [] h = refl
 value_of-none key (pair ∷ pairs) h =
@@ -31,11 +32,13 @@ value_of-none key (pair ∷ pairs) h =
     rw differs (value_of-none key pairs h.1)
 
 -- where keys rise, each pair of the list gives its key its value
-pub value_of-among : (pair : Pair) (pairs : List Pair) → Rises (λ p. p.key) pairs → Among pair pairs → value_of pair.key pairs ≡ Some pair.value
+pub value_of-among : (pair : Pair) (pairs : List Pair) → Rises (λ p. p.key) pairs → Among pair pairs
+    → value_of pair.key pairs ≡ Some pair.value
 unfolding value_of
 value_of-among pair [] rise i = absurd i
 value_of-among pair (p ∷ pairs) rise (inl e) =
-    let same : (p.key == pair.key) ≡ true = (let k = ap (λ x. x.key) e in grind (arith, nat_tests)) in
+    let same : (p.key == pair.key) ≡ true =
+    (let k = ap (λ x. x.key) e in grind (arith, nat_tests)) in
     rw same (ap (λ x. Some x.value) (sym e))
 value_of-among pair (p ∷ pairs) rise (inr i) =
     let less = each-among (λ q. p.key < q.key) pair pairs rise.0 i in
@@ -43,7 +46,8 @@ value_of-among pair (p ∷ pairs) rise (inr i) =
     rw differs (value_of-among pair pairs rise.1 i)
 
 -- two pairs of a rising list with one key are one
-pub same_pair : (p q : Pair) (pairs : List Pair) → Rises (λ x. x.key) pairs → Among p pairs → Among q pairs → p.key ≡ q.key → p ≡ q
+pub same_pair : (p q : Pair) (pairs : List Pair) → Rises (λ x. x.key) pairs → Among p pairs
+    → Among q pairs → p.key ≡ q.key → p ≡ q
 same_pair p q [] rise i j e = absurd i
 same_pair p q (x ∷ xs) rise (inl a) (inl b) e = a ∙ sym b
 same_pair p q (x ∷ xs) rise (inl a) (inr j) e =

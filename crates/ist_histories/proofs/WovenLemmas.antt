@@ -34,15 +34,18 @@ readings_legal m [] h = (refl, refl)
 readings_legal m (x ∷ xs) h =
     let rest = readings_legal m xs h.1 in
     let read = h.0 in (
-      same_cons _ _ _ _ (sym read.reply) (subst (λ n. IsLegal n (map told_by_reading xs)) (sym read.leaves) rest.0),
+      same_cons _ _ _ _ (sym read.reply)
+          (subst (λ n. IsLegal n (map told_by_reading xs)) (sym read.leaves) rest.0),
       ap (λ n. map_told n (map told_by_reading xs)) read.leaves ∙ rest.1,
     )
 
 -- what the readings at a position have
 each_at : (P : Reading → Type 0) (position : ℕ) (xs : List Reading)
-    → ((x : Reading) → Among x xs → x.call.position ≡ position → P x) → Each P (at_position position xs)
+    → ((x : Reading) → Among x xs → x.call.position ≡ position → P x)
+    → Each P (at_position position xs)
 each_at P position [] h = tt
-each_at P position (x ∷ xs) h = at (each_at P position xs (λ y i e. h y (inr i) e)) (eqb_tells x.call.position position)
+each_at P position (x ∷ xs) h =
+    at (each_at P position xs (λ y i e. h y (inr i) e)) (eqb_tells x.call.position position)
   where
     at : Each P (at_position position xs)
         → (((x.call.position == position) ≡ true) × (x.call.position ≡ position)) ⊎ (((x.call.position == position) ≡ false) × (x.call.position ≢ position))
@@ -51,16 +54,23 @@ each_at P position (x ∷ xs) h = at (each_at P position xs (λ y i e. h y (inr 
     at rest (inr e) = rw e.0 rest
 
 -- entries that are legal alone, with readings that leave the maps at their positions, are a legal history
-legal_from : (position : ℕ) (entries : List Entry) (xs : List Reading) (m : Map) → AreLegal m entries
+legal_from : (position : ℕ) (entries : List Entry) (xs : List Reading) (m : Map)
+    → AreLegal m entries
     → ((x : Reading) → Among x xs → (j : ℕ) → x.call.position ≡ position + j → LeavesMap (map_at m entries j) x.call)
     → IsLegal m (woven_from position entries xs)
 legal_from position [] xs m r h =
     (readings_legal m (at_position position xs) (each_at (λ x. LeavesMap m x.call) position xs (λ x i e. h x i 0 (omega arith)))).0
 legal_from position (entry ∷ entries) xs m r h =
-    let here = readings_legal m (at_position position xs) (each_at (λ x. LeavesMap m x.call) position xs (λ x i e. h x i 0 (omega arith))) in
-    let later = legal_from (position + 1) entries xs (map_after m entry.command) (same_tail _ _ _ _ r) (λ x i j e. h x i (suc j) (omega arith)) in
-    let rest : IsLegal m (told_by_entry entry ∷ woven_from (position + 1) entries xs) = same_cons _ _ _ _ (same_head _ _ _ _ r) later in
-    legal_append m (map told_by_reading (at_position position xs)) (told_by_entry entry ∷ woven_from (position + 1) entries xs) here.0
+    let here =
+    readings_legal m (at_position position xs)
+    (each_at (λ x. LeavesMap m x.call) position xs (λ x i e. h x i 0 (omega arith))) in
+    let later =
+    legal_from (position + 1) entries xs (map_after m entry.command) (same_tail _ _ _ _ r)
+    (λ x i j e. h x i (suc j) (omega arith)) in
+    let rest : IsLegal m (told_by_entry entry ∷ woven_from (position + 1) entries xs) =
+    same_cons _ _ _ _ (same_head _ _ _ _ r) later in
+    legal_append m (map told_by_reading (at_position position xs))
+    (told_by_entry entry ∷ woven_from (position + 1) entries xs) here.0
     (subst (λ n. IsLegal n (told_by_entry entry ∷ woven_from (position + 1) entries xs)) (sym here.1) rest)
 
 -- ---- the readings of passes
@@ -80,7 +90,8 @@ among-put_in x y (z ∷ ys) h = at (among-put_in x y ys) (comes_first y z) h
 -- readings in order are the same readings
 pub among-in_order : (x : Reading) (xs : List Reading) → Among x (in_order xs) → Among x xs
 among-in_order x [] h = h
-among-in_order x (y ∷ xs) h = ⊎_elim (λ e. inl e) (λ i. inr (among-in_order x xs i)) (among-put_in x y (in_order xs) h)
+among-in_order x (y ∷ xs) h =
+    ⊎_elim (λ e. inl e) (λ i. inr (among-in_order x xs i)) (among-put_in x y (in_order xs) h)
 
 -- a reading is a call of its pass that changes nothing
 pub record IsOf (pass : PassCalls) (x : Reading) : Type 0 where
@@ -97,7 +108,9 @@ among_numbered number (call ∷ calls) x (inr h) = inr (among_numbered number ca
 -- a reading of a pass is one of its calls
 of_pass : (pass : PassCalls) (x : Reading) → Among x (readings_of pass) → IsOf pass x
 of_pass pass x h =
-    let kept = among-filter (λ call. not (is_change call)) x.call pass.calls (among_numbered pass.number (filter (λ call. not (is_change call)) pass.calls) x h) in
+    let kept =
+    among-filter (λ call. not (is_change call)) x.call pass.calls
+    (among_numbered pass.number (filter (λ call. not (is_change call)) pass.calls) x h) in
     record { call = kept.0; plain = untold (is_change x.call) kept.1 }
   where
     untold : (v : Bool) → not v ≡ true → v ≡ false
@@ -130,35 +143,44 @@ woven_legal pairs words log passes legal all =
     entries : List Entry
     entries = changes_of pairs words log
 
-    leaves : (x : Reading) → Among x (readings passes) → LeavesMap (map_at m entries x.call.position) x.call
+    leaves : (x : Reading) → Among x (readings passes)
+        → LeavesMap (map_at m entries x.call.position) x.call
     leaves x i =
         let it = of_passes passes x i in
-        let stands = each-among (λ pass. (prefix : Log) × GoesOn prefix log × StandsIn pairs words prefix pass.number pass.calls) it.0 passes all it.1 in
+        let stands =
+        each-among (λ pass. (prefix : Log) × GoesOn prefix log × StandsIn pairs words prefix pass.number pass.calls) it.0 passes all it.1 in
         let on = changes_on (start pairs words) stands.0 log stands.1 in
-        let read : IsRead m entries x.call = subst (λ es. IsRead m es x.call) (sym on.1) (read_on m (changes_of pairs words stands.0) on.0 x.call (stands.2.read x.call it.2.call it.2.plain)) in
+        let read : IsRead m entries x.call =
+        subst (λ es. IsRead m es x.call) (sym on.1)
+        (read_on m (changes_of pairs words stands.0) on.0 x.call (stands.2.read x.call it.2.call it.2.plain)) in
         record { reply = read.reply; leaves = no_entry_leaves (map_at m entries x.call.position) x.call.command x.call.reply it.2.plain read.reply }
 
 -- passes that were taken back stand in the whole log
 taken_stand : (pairs : List Pair) (words : ℕ) (log : Log) (number : ℕ) (taken : List (List Call))
-    → AllStandIn pairs words log number taken → StandInPrefixes pairs words log (numbered number taken)
+    → AllStandIn pairs words log number taken
+    → StandInPrefixes pairs words log (numbered number taken)
 taken_stand pairs words log number [] h = tt
-taken_stand pairs words log number (calls ∷ more) h = ((log, same_log, h.0), taken_stand pairs words log (number + 1) more h.1)
+taken_stand pairs words log number (calls ∷ more) h =
+    ((log, same_log, h.0), taken_stand pairs words log (number + 1) more h.1)
 
 -- so are passes that were taken back
 pub taken_legal : (pairs : List Pair) (words : ℕ) (log : Log) (taken : List (List Call))
     → AreLegal (map_of pairs) (changes_of pairs words log) → AllStandIn pairs words log 0 taken
     → IsLegal (map_of pairs) (woven (changes_of pairs words log) (numbered 0 taken))
-taken_legal pairs words log taken legal h = woven_legal pairs words log (numbered 0 taken) legal (taken_stand pairs words log 0 taken h)
+taken_legal pairs words log taken legal h =
+    woven_legal pairs words log (numbered 0 taken) legal (taken_stand pairs words log 0 taken h)
 
 -- ---- calls that were learnt of
 
 -- what is so of all that is among a list is so of each element
-each_of : (P : Call → Type 0) (calls : List Call) → ((call : Call) → Among call calls → P call) → Each P calls
+each_of : (P : Call → Type 0) (calls : List Call) → ((call : Call) → Among call calls → P call)
+    → Each P calls
 each_of P [] h = tt
 each_of P (call ∷ calls) h = (h call (inl refl), each_of P calls (λ x i. h x (inr i)))
 
 -- calls that were learnt of come before a fresh call
-pub learnt_first : (pairs : List Pair) (words : ℕ) (earlier seen : Log) (number told stamp : ℕ) (calls : List Call) (call : Call)
+pub learnt_first : (pairs : List Pair) (words : ℕ) (earlier seen : Log) (number told stamp : ℕ)
+    (calls : List Call) (call : Call)
     → HasCalls pairs words earlier number told calls
     → GoesOn earlier seen → told ≤ stamp → IsFresh pairs words seen stamp call
     → Each (λ learnt. Follows learnt call) calls
@@ -167,7 +189,8 @@ learnt_first pairs words earlier seen number told stamp calls call has on low fr
     (λ learnt i.
     fresh_follows pairs words earlier number stamp calls call has.stand
     record {
-      position = (let a = fresh.position in let b = changes_rise (start pairs words) earlier seen on in omega arith);
+      position =
+          (let a = fresh.position in let b = changes_rise (start pairs words) earlier seen on in omega arith);
       later = fresh.later;
     }
     learnt i (let c = each-among (λ x. x.stamp ≤ told) learnt calls has.stamps i in omega arith))

@@ -48,6 +48,13 @@ pub record HasCalls (pairs : List Pair) (words : ℕ) (seen : Log) (number stamp
   pub stand : StandsIn pairs words seen number calls
   pub stamps : Each (λ call. call.stamp ≤ stamp) calls
 
+-- it has them in a log that goes on, with a stamp that is no lower, where it made no entry meanwhile
+abbrev pub CallsAreKept : Type 0
+CallsAreKept =
+    (pairs : List Pair) (words : ℕ) (earlier log : Log) (number told stamp : ℕ) (calls : List Call)
+    → GoesOn earlier log → MadeNoEntry pairs words number earlier log → told ≤ stamp
+    → HasCalls pairs words earlier number told calls → HasCalls pairs words log number stamp calls
+
 -- a call that changes nothing is added at any fresh position at which the map has its reply
 abbrev pub ReadingsStand : Type 0
 ReadingsStand =

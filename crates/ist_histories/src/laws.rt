@@ -3,8 +3,8 @@ ghost use Rattle.ist_histories.specs.Telling.{TreeGivesTheMap, ContentsAreThePai
 ghost use Rattle.ist_histories.specs.Telling.{ChangesAreLegal, UpdatesHaveEntries};
 ghost use Rattle.ist_histories.specs.Telling.{EntriesAreUpdates, EntriesAreOnce, EntriesAreOfOne};
 ghost use Rattle.ist_histories.specs.Telling.{EntriesChangeTheMap};
-ghost use Rattle.ist_histories.specs.Calls.{ChangesGoOn, CallsStandOn, ReadingsStand};
-ghost use Rattle.ist_histories.specs.Calls.{UpdatesTakeEffect, UpdatesStand};
+ghost use Rattle.ist_histories.specs.Calls.{ChangesGoOn, CallsStandOn, CallsAreKept};
+ghost use Rattle.ist_histories.specs.Calls.{ReadingsStand, UpdatesTakeEffect, UpdatesStand};
 ghost use Rattle.ist_histories.specs.Weaving.{WovenIsLegal, TakenBackIsLegal};
 ghost use Rattle.ist_histories.specs.Weaving.{LearntCallsComeFirst};
 ghost use Rattle.ist_histories.specs.Placing.{WovenHasPlaces, CallsHavePlaces};
@@ -36,10 +36,12 @@ pub fn updates_are_entries()
 {}
 
 /// The changes of a log stand at the front of those of each log that goes on from it; and calls
-/// that stand in it stand there too, where their pass made no entry meanwhile.
+/// that stand in it stand there too, where their pass made no entry meanwhile, with a stamp of the
+/// pass that is no lower.
 pub fn calls_stand_on()
     ensures front { ChangesGoOn }
     ensures stand { CallsStandOn }
+    ensures keep { CallsAreKept }
 {}
 
 /// What a call adds to the calls of its pass. A get, and a remove that found nothing, stands at any

@@ -1,4 +1,5 @@
--- Builds behind longer logs, and how the rows of a caller are merged from builds and others. Serves fairness.
+-- Builds behind longer logs, and how the rows of a caller are merged from builds and others. Serves
+-- fairness.
 use Rattle.std.proofs.Common.{◌≡◌, ℕ, ◌≤◌, not, Bool, true, false, if◌then◌else◌, List, [], ◌∷◌, ◌++◌, map, filter, refl, sym, ap, ◌∙◌, subst, arith}
 use Rattle.ist_core.specs.Snapshots.{Snapshot}
 use Rattle.ist_core.specs.References.{ref_of}
@@ -15,7 +16,8 @@ pub record ComesBehind (t u : Snapshot) : Type 0 where
   pub grow : AllGrow t.pieces u.pieces
 
 -- a finished status stays
-finished_stays : (old new k : ℕ) → StatusGoesOn old new → old ≡ finished_word k → new ≡ finished_word k
+finished_stays : (old new k : ℕ) → StatusGoesOn old new → old ≡ finished_word k
+    → new ≡ finished_word k
 finished_stays old new k (status_stays e) is = e ∙ is
 finished_stays old new k (is_marked e f) is = absurd (omega arith)
 finished_stays old new k (is_finished j e f) is = absurd (omega arith)
@@ -41,7 +43,8 @@ module _ (t u : Snapshot) (b : ComesBehind t u) where
   finished_on : (node k : ℕ) → IsFinishedWith t node k → IsFinishedWith u node k
   finished_on node k f =
       let it = inner_there t.pieces u.pieces b.grow node f.row f.published in
-      record { row = it.0; published = it.1; status = finished_stays f.row.status it.0.status k it.2.status f.status }
+      record { row = it.0; published = it.1; status =
+          finished_stays f.row.status it.0.status k it.2.status f.status }
 
   -- a building list stays one
   pub building_on : (sizes : List ℕ) → IsBuilding t sizes → IsBuilding u sizes
@@ -53,7 +56,8 @@ module _ (t u : Snapshot) (b : ComesBehind t u) where
         published = it.1;
         started = started_on h.rebuild h.started;
         k = h.k;
-        finished = subst (λ n. IsFinishedWith u n h.k) (sym it.2.target) (finished_on h.row.target h.k h.finished);
+        finished = subst (λ n. IsFinishedWith u n h.k) (sym it.2.target)
+            (finished_on h.row.target h.k h.finished);
         build = h.build;
       }
 
@@ -66,7 +70,8 @@ module _ (t u : Snapshot) (b : ComesBehind t u) where
       let more_used = b.next in
       let short = s.no_room in
       stuck_build
-      record { next_size = s.next_size; rest = s.rest; building = building_on (sizes ++ s.next_size ∷ s.rest) s.building; no_room = omega arith }
+      record { next_size = s.next_size; rest = s.rest; building =
+          building_on (sizes ++ s.next_size ∷ s.rest) s.building; no_room = omega arith }
       (builds_on more a)
 
 -- ---- merging
@@ -77,16 +82,25 @@ pub merge_filter : {A : Type 0} (f : A → ℕ) (p : A → Bool) (xs : List A)
 merge_filter f p [] = at_end
 merge_filter f p (x ∷ xs) = at (merge_filter f p xs) (p x) refl
   where
-    at : IsMerge (map f xs) (map f (filter (λ y. not (p y)) xs)) (map f (filter p xs)) → (b : Bool) → p x ≡ b → IsMerge (map f (x ∷ xs)) (map f (filter (λ y. not (p y)) (x ∷ xs))) (map f (filter p (x ∷ xs)))
+    at : IsMerge (map f xs) (map f (filter (λ y. not (p y)) xs)) (map f (filter p xs)) → (b : Bool)
+        → p x ≡ b → IsMerge (map f (x ∷ xs)) (map f (filter (λ y. not (p y)) (x ∷ xs)))
+        (map f (filter p (x ∷ xs)))
     at rest true e =
-        subst (λ v. IsMerge (map f (x ∷ xs)) (map f (if not v then x ∷ filter (λ y. not (p y)) xs else filter (λ y. not (p y)) xs)) (map f (if v then x ∷ filter p xs else filter p xs))) (sym e)
+        subst (λ v. IsMerge (map f (x ∷ xs))
+            (map f (if not v then x ∷ filter (λ y. not (p y)) xs else filter (λ y. not (p y)) xs))
+            (map f (if v then x ∷ filter p xs else filter p xs))) (sym e)
         (from_right (f x) rest)
     at rest false e =
-        subst (λ v. IsMerge (map f (x ∷ xs)) (map f (if not v then x ∷ filter (λ y. not (p y)) xs else filter (λ y. not (p y)) xs)) (map f (if v then x ∷ filter p xs else filter p xs))) (sym e)
+        subst (λ v. IsMerge (map f (x ∷ xs))
+            (map f (if not v then x ∷ filter (λ y. not (p y)) xs else filter (λ y. not (p y)) xs))
+            (map f (if v then x ∷ filter p xs else filter p xs))) (sym e)
         (from_left (f x) rest)
 
 -- one more comes last, from the right
-pub merge_more : (xs left right : List ℕ) (size : ℕ) → IsMerge xs left right → IsMerge (xs ++ size ∷ []) left (right ++ size ∷ [])
+pub merge_more : (xs left right : List ℕ) (size : ℕ) → IsMerge xs left right
+    → IsMerge (xs ++ size ∷ []) left (right ++ size ∷ [])
 merge_more _ _ _ size at_end = from_right size at_end
-merge_more _ _ _ size (from_left {sizes = xs} {left = left} {right = right} n m) = from_left n (merge_more xs left right size m)
-merge_more _ _ _ size (from_right {sizes = xs} {left = left} {right = right} n m) = from_right n (merge_more xs left right size m)
+merge_more _ _ _ size (from_left {sizes = xs} {left = left} {right = right} n m) =
+    from_left n (merge_more xs left right size m)
+merge_more _ _ _ size (from_right {sizes = xs} {left = left} {right = right} n m) =
+    from_right n (merge_more xs left right size m)

@@ -41,7 +41,8 @@ use Rattle.ist_rows.proofs.HeldListLemmas.{distinct_filter, distinct_more, held_
 use Rattle.ist_rows.proofs.BuildLemmas.{ComesBehind, builds_on, merge_filter, merge_more}
 
 -- the next word never falls along a longer log
-next_later : (pairs : List Pair) (words : ℕ) (number : ℕ) (old log : Log) → EachEnabled (start pairs words) log → Later (CallerOf number) old log
+next_later : (pairs : List Pair) (words : ℕ) (number : ℕ) (old log : Log)
+    → EachEnabled (start pairs words) log → Later (CallerOf number) old log
     → (state_of pairs words old).next ≤ (state_of pairs words log).next
 next_later pairs words number old _ enabled no_more = le_refl (state_of pairs words old).next
 next_later pairs words number old _ enabled (one_more {log = log} event l other) =
@@ -50,11 +51,13 @@ next_later pairs words number old _ enabled (one_more {log = log} event l other)
     omega arith
 
 -- a later state comes behind an earlier one
-pub comes_behind : (pairs : List Pair) (words : ℕ) (number : ℕ) (old log : Log) → Lawful pairs words log → Later (CallerOf number) old log
+pub comes_behind : (pairs : List Pair) (words : ℕ) (number : ℕ) (old log : Log)
+    → Lawful pairs words log → Later (CallerOf number) old log
     → ComesBehind (state_of pairs words old) (state_of pairs words log)
 comes_behind pairs words number old log lawful l =
     record {
-      words = words_same pairs words lawful.opens log ∙ sym (words_same pairs words lawful.opens old);
+      words = words_same pairs words lawful.opens log ∙ sym
+          (words_same pairs words lawful.opens old);
       next = next_later pairs words number old log lawful.enabled l;
       grow = grow_between pairs words old log lawful.enabled (later-goes_on l);
     }
@@ -63,18 +66,25 @@ comes_behind pairs words number old log lawful l =
 
 -- what the rows of a caller are in a state
 pub record IsCallerIn (t : Snapshot) (number : ℕ) (own : Spares) : Type 0 where
-  pub rows : (kind : Kind) (base : ℕ) → row_of kind own ≡ Some base → HoldsRow t number base (kind_words kind)
+  pub rows : (kind : Kind) (base : ℕ) → row_of kind own ≡ Some base
+      → HoldsRow t number base (kind_words kind)
   pub builds : AreBuilds t (build_sizes t number own)
 
 -- they are so behind each longer log
-pub caller_later : (pairs : List Pair) (words : ℕ) (old log : Log) (number : ℕ) (own : Spares) → Lawful pairs words log → Later (CallerOf number) old log
-    → IsCallerIn (state_of pairs words old) number own → IsCallerIn (state_of pairs words log) number own
+pub caller_later : (pairs : List Pair) (words : ℕ) (old log : Log) (number : ℕ) (own : Spares)
+    → Lawful pairs words log → Later (CallerOf number) old log
+    → IsCallerIn (state_of pairs words old) number own
+        → IsCallerIn (state_of pairs words log) number own
 caller_later pairs words old log number own lawful l c =
     record {
-      rows = λ kind base e. held_later pairs words record { caller = number; base = base; size = kind_words kind } old log lawful.enabled l (c.rows kind base e);
-      builds = builds_on (state_of pairs words old) (state_of pairs words log) (comes_behind pairs words number old log lawful l)
+      rows = λ kind base e. held_later pairs words record { caller = number; base = base; size =
+          kind_words kind } old log lawful.enabled l (c.rows kind base e);
+      builds = builds_on (state_of pairs words old) (state_of pairs words log)
+          (comes_behind pairs words number old log lawful l)
           (build_sizes (state_of pairs words log) number own)
-          (subst (λ held. AreBuilds (state_of pairs words old) (map (λ h. h.size) (filter (λ h. not (is_spare own h.base)) held))) (sym (held_by_later pairs words number old log lawful.enabled l)) c.builds);
+          (subst (λ held. AreBuilds (state_of pairs words old)
+              (map (λ h. h.size) (filter (λ h. not (is_spare own h.base)) held)))
+              (sym (held_by_later pairs words number old log lawful.enabled l)) c.builds);
     }
 
 -- ---- spare rows
@@ -82,7 +92,8 @@ caller_later pairs words old log number own lawful l c =
 -- the row at the base is of this kind
 is_base_some : (o : Option ℕ) (base : ℕ) → is_base o base ≡ true → o ≡ Some base
 is_base_some None base e = cc
-is_base_some (Some b) base e = ⊎_elim (λ k. ap (λ n. Some n) k.1) (λ k. absurd (clash (sym e ∙ k.0))) (eqb_tells b base)
+is_base_some (Some b) base e = ⊎_elim (λ k. ap (λ n. Some n) k.1)
+    (λ k. absurd (clash (sym e ∙ k.0))) (eqb_tells b base)
   where
     clash : true ≡ false → ⊥
     clash f = cc
@@ -93,14 +104,17 @@ or_true true b e = inl refl
 or_true false b e = inr e
 
 -- a spare row is of some kind
-pub spare_kind : (own : Spares) (base : ℕ) → is_spare own base ≡ true → (kind : Kind) × (row_of kind own ≡ Some base)
+pub spare_kind : (own : Spares) (base : ℕ) → is_spare own base ≡ true → (kind : Kind)
+    × (row_of kind own ≡ Some base)
 spare_kind own base e =
     ⊎_elim (λ a. (Leaf, is_base_some own.leaf base a))
     (λ b. ⊎_elim (λ a. (PairKind, is_base_some own.pair base a))
-    (λ c. ⊎_elim (λ a. (Change, is_base_some own.change base a)) (λ a. (Rebuild, is_base_some own.rebuild base a))
+    (λ c. ⊎_elim (λ a. (Change, is_base_some own.change base a))
+        (λ a. (Rebuild, is_base_some own.rebuild base a))
     (or_true (is_base own.change base) (is_base own.rebuild base) c))
     (or_true (is_base own.pair base) (is_base own.change base || is_base own.rebuild base) b))
-    (or_true (is_base own.leaf base) (is_base own.pair base || (is_base own.change base || is_base own.rebuild base)) e)
+    (or_true (is_base own.leaf base)
+        (is_base own.pair base || (is_base own.change base || is_base own.rebuild base)) e)
 
 -- each kind has words of its own number
 pub kind_of_words : (a b : Kind) → kind_words a ≡ kind_words b → a ≡ b
@@ -128,23 +142,31 @@ kind_spare Rebuild = inr (inl refl)
 kind_spare PairKind = inr (inr (inl refl))
 kind_spare Change = inr (inr (inr (inl refl)))
 
-module _ (pairs : List Pair) (words : ℕ) (log : Log) (enabled : EachEnabled (start pairs words) log) (number : ℕ) (own : Spares) (c : IsCallerIn (state_of pairs words log) number own) where
+module _ (pairs : List Pair) (words : ℕ) (log : Log) (enabled : EachEnabled (start pairs words) log)
+    (number : ℕ) (own : Spares) (c : IsCallerIn (state_of pairs words log) number own) where
   abbrev spares : List HeldRow
   spares = filter (λ h. is_spare own h.base) (held_by (state_of pairs words log) number)
 
   -- a spare row has the words of its kind
-  pub spare_words : (h : HeldRow) → Among h spares → (kind : Kind) × (row_of kind own ≡ Some h.base) × (h.size ≡ kind_words kind)
+  pub spare_words : (h : HeldRow) → Among h spares → (kind : Kind) × (row_of kind own ≡ Some h.base)
+      × (h.size ≡ kind_words kind)
   spare_words h i =
-      let it = among-filter (λ (x : HeldRow). is_spare own x.base) h (held_by (state_of pairs words log) number) i in
-      let held = among-filter (λ (x : HeldRow). x.caller == number) h (state_of pairs words log).held it.0 in
+      let it = among-filter (λ (x : HeldRow). is_spare own x.base) h
+              (held_by (state_of pairs words log) number) i in
+      let held = among-filter (λ (x : HeldRow). x.caller == number) h
+              (state_of pairs words log).held it.0 in
       let k = spare_kind own h.base it.1 in
-      (k.0, k.1, ap (λ x. x.size) ((sound (start pairs words) log (sound_start pairs words) enabled).once h record { caller = number; base = h.base; size = kind_words k.0 } held.0 (c.rows k.0 h.base k.1) refl))
+      (k.0, k.1, ap (λ x. x.size) ((sound (start pairs words) log (sound_start pairs words)
+          enabled).once h record { caller = number; base = h.base; size =
+          kind_words k.0 } held.0 (c.rows k.0 h.base k.1) refl))
 
-  few_sizes : (xs : List HeldRow) → ((h : HeldRow) → Among h xs → Among h spares) → Each (λ size. Among size spare_sizes) (map (λ h. h.size) xs)
+  few_sizes : (xs : List HeldRow) → ((h : HeldRow) → Among h xs → Among h spares)
+      → Each (λ size. Among size spare_sizes) (map (λ h. h.size) xs)
   few_sizes [] sub = tt
   few_sizes (h ∷ xs) sub =
       let it = spare_words h (sub h (inl refl)) in
-      (subst (λ n. Among n spare_sizes) (sym it.2) (kind_spare it.0), few_sizes xs (λ g i. sub g (inr i)))
+      (subst (λ n. Among n spare_sizes) (sym it.2) (kind_spare it.0), few_sizes xs
+          (λ g i. sub g (inr i)))
 
   some_one : (a b : ℕ) → Some a ≡ Some b → a ≡ b
   some_one a b e = cc
@@ -157,223 +179,69 @@ module _ (pairs : List Pair) (words : ℕ) (log : Log) (enabled : EachEnabled (s
       let kinds = kind_of_words a.0 b.0 (sym a.2 ∙ same ∙ b.2) in
       some_one g.base h.base (sym a.1 ∙ ap (λ k. row_of k own) kinds ∙ b.1)
 
-  once_each : (xs : List HeldRow) → ((h : HeldRow) → Among h xs → Among h spares) → Distinct (map (λ h. h.base) xs) → Distinct (map (λ h. h.size) xs)
+  once_each : (xs : List HeldRow) → ((h : HeldRow) → Among h xs → Among h spares)
+      → Distinct (map (λ h. h.base) xs) → Distinct (map (λ h. h.size) xs)
   once_each [] sub d = tt
-  once_each (h ∷ xs) sub d = ((λ i. let it = with_size xs i in d.0 (at_base xs it.0 it.1 (one_size h it.0 (sub h (inl refl)) (sub it.0 (inr it.1)) it.2))), once_each xs (λ g i. sub g (inr i)) d.1)
+  once_each (h ∷ xs) sub d = ((λ i. let it =
+      with_size xs i in d.0 (at_base xs it.0 it.1
+      (one_size h it.0 (sub h (inl refl)) (sub it.0 (inr it.1)) it.2))), once_each xs
+      (λ g i. sub g (inr i)) d.1)
     where
-      with_size : (ys : List HeldRow) → Among h.size (map (λ x. x.size) ys) → (g : HeldRow) × Among g ys × (h.size ≡ g.size)
+      with_size : (ys : List HeldRow) → Among h.size (map (λ x. x.size) ys) → (g : HeldRow)
+          × Among g ys × (h.size ≡ g.size)
       with_size [] i = absurd i
       with_size (y ∷ ys) (inl e) = (y, inl refl, e)
       with_size (y ∷ ys) (inr i) = let it = with_size ys i in (it.0, inr it.1, it.2)
 
-      at_base : (ys : List HeldRow) (g : HeldRow) → Among g ys → h.base ≡ g.base → Among h.base (map (λ x. x.base) ys)
+      at_base : (ys : List HeldRow) (g : HeldRow) → Among g ys → h.base ≡ g.base
+          → Among h.base (map (λ x. x.base) ys)
       at_base [] g i e = absurd i
       at_base (y ∷ ys) g (inl same) e = inl (e ∙ ap (λ x. x.base) same)
       at_base (y ∷ ys) g (inr i) e = inr (at_base ys g i e)
 
   -- a row of another kind is fair beside what the caller holds
-  pub fair_with : (kind : Kind) → row_of kind own ≡ None → IsFair (state_of pairs words log) (sizes_held (state_of pairs words log) number ++ kind_words kind ∷ [])
+  pub fair_with : (kind : Kind) → row_of kind own ≡ None
+      → IsFair (state_of pairs words log)
+      (sizes_held (state_of pairs words log) number ++ kind_words kind ∷ [])
   fair_with kind none =
       let sizes = map (λ (h : HeldRow). h.size) spares in
-      let bases = distinct_filter (λ (h : HeldRow). h.base) (λ h. is_spare own h.base) (held_by (state_of pairs words log) number)
-      (distinct_filter (λ (h : HeldRow). h.base) (λ h. h.caller == number) (state_of pairs words log).held (held_distinct pairs words log enabled)) in
+      let bases = distinct_filter (λ (h : HeldRow). h.base) (λ h. is_spare own h.base)
+              (held_by (state_of pairs words log) number)
+      (distinct_filter (λ (h : HeldRow). h.base) (λ h. h.caller == number)
+          (state_of pairs words log).held (held_distinct pairs words log enabled)) in
       record {
         building = build_sizes (state_of pairs words log) number own;
         spare = sizes ++ kind_words kind ∷ [];
-        merge = merge_more (map (λ h. h.size) (held_by (state_of pairs words log) number)) (build_sizes (state_of pairs words log) number own) sizes (kind_words kind)
-            (merge_filter (λ (h : HeldRow). h.size) (λ h. is_spare own h.base) (held_by (state_of pairs words log) number));
+        merge = merge_more (map (λ h. h.size) (held_by (state_of pairs words log) number))
+            (build_sizes (state_of pairs words log) number own) sizes (kind_words kind)
+            (merge_filter (λ (h : HeldRow). h.size) (λ h. is_spare own h.base)
+                (held_by (state_of pairs words log) number));
         builds = c.builds;
-        few = each_append (λ size. Among size spare_sizes) sizes (kind_words kind ∷ []) (few_sizes spares (λ h i. i)) (kind_spare kind, tt);
-        one_each = distinct_more sizes (kind_words kind) (once_each spares (λ h i. i) bases) (λ i. out spares (λ h j. j) i);
+        few = each_append (λ size. Among size spare_sizes) sizes (kind_words kind ∷ [])
+            (few_sizes spares (λ h i. i)) (kind_spare kind, tt);
+        one_each = distinct_more sizes (kind_words kind) (once_each spares (λ h i. i) bases)
+            (λ i. out spares (λ h j. j) i);
       }
     where
       none_some : (b : ℕ) → None ≡ Some b → ⊥
       none_some b e = cc
 
-      out : (xs : List HeldRow) → ((h : HeldRow) → Among h xs → Among h spares) → ¬ (Among (kind_words kind) (map (λ h. h.size) xs))
+      out : (xs : List HeldRow) → ((h : HeldRow) → Among h xs → Among h spares)
+          → ¬ (Among (kind_words kind) (map (λ h. h.size) xs))
       out [] sub i = i
       out (h ∷ xs) sub (inl e) =
           let it = spare_words h (sub h (inl refl)) in
-          none_some h.base (sym none ∙ ap (λ k. row_of k own) (kind_of_words kind it.0 (e ∙ it.2)) ∙ it.1)
+          none_some h.base (sym none ∙ ap (λ k. row_of k own) (kind_of_words kind it.0 (e ∙ it.2)) ∙
+              it.1)
       out (h ∷ xs) sub (inr i) = out xs (λ g j. sub g (inr j)) i
 
 -- a caller without a row of the kind may take one, whatever others do meanwhile
-pub may_take : (who : Caller) (kind : Kind) → IsSound who.seat.view → IsCaller who → row_of kind (spares_of who) ≡ None
+pub may_take : (who : Caller) (kind : Kind) → IsSound who.seat.view → IsCaller who
+    → row_of kind (spares_of who) ≡ None
     → MayTake who.seat.view who.number (kind_words kind)
 may_take who kind s c none log m =
     let v = who.seat.view in
     fair_with v.start v.words log m.lawful.enabled who.number (spares_of who)
-    (caller_later v.start v.words v.log log who.number (spares_of who) m.lawful (subst (λ w. Later w v.log log) c.mine m.later) record { rows = c.rows; builds = c.builds }) kind none
-
--- ---- a caller's seat goes on
-
--- the state that a seat has seen, where it went on from another
-now_is : (v w : View) → GoesOnTo v w → now w ≡ state_of v.start v.words w.log
-now_is v w g = ap₂ (λ p n. state_of p n w.log) (ap (λ x. x.start) g.same) (ap (λ x. x.words) g.same)
-
--- a caller whose seat made loads is a caller
-pub caller_goes_on : (who : Caller) (seat : SeatFace) → IsCaller who → GoesOnTo who.seat.view seat.view → IsCaller (record who { seat = seat })
-caller_goes_on who seat c g =
-    let v = who.seat.view in
-    let lawful : Lawful v.start v.words seat.view.log = subst (λ p. Lawful p v.words seat.view.log) (ap (λ x. x.start) g.same)
-    (subst (λ n. Lawful seat.view.start n seat.view.log) (ap (λ x. x.words) g.same) g.sound.lawful) in
-    let it = caller_later v.start v.words v.log seat.view.log who.number (spares_of who) lawful (subst (λ w. Later w v.log seat.view.log) c.mine g.later) record { rows = c.rows; builds = c.builds } in
-    let there = subst (λ t. IsCallerIn t who.number (spares_of who)) (sym (now_is v seat.view g)) it in
-    record { mine = goes_on_who g ∙ c.mine; rows = there.rows; builds = there.builds }
-
--- a test of a base with one that differs
-base_differs : (base x : ℕ) → base ≢ x → (base == x) ≡ false
-base_differs base x ne = ⊎_elim (λ k. absurd (ne k.1)) (λ k. k.0) (eqb_tells base x)
-
-base_same : (base : ℕ) → (base == base) ≡ true
-base_same base = ⊎_elim (λ k. k.0) (λ k. absurd (k.1 refl)) (eqb_tells base base)
-
-or_any : (a : Bool) → (a || true) ≡ true
-or_any true = refl
-or_any false = refl
-
--- another row is as spare as it was
-spare_else : (own : Spares) (kind : Kind) (base x : ℕ) → row_of kind own ≡ None → base ≢ x → is_spare (with_row kind base own) x ≡ is_spare own x
-spare_else own Leaf base x none ne = ap (λ a. a || (is_base own.pair x || (is_base own.change x || is_base own.rebuild x))) (base_differs base x ne ∙ sym (ap (λ o. is_base o x) none))
-spare_else own PairKind base x none ne = ap (λ a. is_base own.leaf x || (a || (is_base own.change x || is_base own.rebuild x))) (base_differs base x ne ∙ sym (ap (λ o. is_base o x) none))
-spare_else own Change base x none ne = ap (λ a. is_base own.leaf x || (is_base own.pair x || (a || is_base own.rebuild x))) (base_differs base x ne ∙ sym (ap (λ o. is_base o x) none))
-spare_else own Rebuild base x none ne = ap (λ a. is_base own.leaf x || (is_base own.pair x || (is_base own.change x || a))) (base_differs base x ne ∙ sym (ap (λ o. is_base o x) none))
-
--- the new row is spare
-spare_here : (own : Spares) (kind : Kind) (base : ℕ) → is_spare (with_row kind base own) base ≡ true
-spare_here own Leaf base = ap (λ a. a || (is_base own.pair base || (is_base own.change base || is_base own.rebuild base))) (base_same base)
-spare_here own PairKind base =
-    ap (λ a. is_base own.leaf base || (a || (is_base own.change base || is_base own.rebuild base))) (base_same base) ∙ or_any (is_base own.leaf base)
-spare_here own Change base =
-    ap (λ a. is_base own.leaf base || (is_base own.pair base || (a || is_base own.rebuild base))) (base_same base)
-    ∙ ap (λ a. is_base own.leaf base || a) (or_any (is_base own.pair base)) ∙ or_any (is_base own.leaf base)
-spare_here own Rebuild base =
-    ap (λ a. is_base own.leaf base || (is_base own.pair base || (is_base own.change base || a))) (base_same base)
-    ∙ ap (λ a. is_base own.leaf base || (is_base own.pair base || a)) (or_any (is_base own.change base))
-    ∙ ap (λ a. is_base own.leaf base || a) (or_any (is_base own.pair base)) ∙ or_any (is_base own.leaf base)
-
--- filters whose tests agree on each element
-filter_same : {A : Type 0} (p q : A → Bool) (xs : List A) → ((x : A) → Among x xs → p x ≡ q x) → filter p xs ≡ filter q xs
-filter_same p q [] h = refl
-filter_same p q (x ∷ xs) h =
-    ap₂ (λ b ys. if b then x ∷ ys else ys) (h x (inl refl)) (filter_same p q xs (λ y i. h y (inr i)))
-
--- the row of a kind, where one of a kind is taken
-row_taken : (own : Spares) (kind other : Kind) (base b : ℕ) → row_of other (with_row kind base own) ≡ Some b
-    → ((kind ≡ other) × (base ≡ b)) ⊎ (row_of other own ≡ Some b)
-row_taken own Leaf Leaf base b e = inl (refl, cc)
-row_taken own PairKind PairKind base b e = inl (refl, cc)
-row_taken own Change Change base b e = inl (refl, cc)
-row_taken own Rebuild Rebuild base b e = inl (refl, cc)
-row_taken own Leaf PairKind base b e = inr e
-row_taken own Leaf Change base b e = inr e
-row_taken own Leaf Rebuild base b e = inr e
-row_taken own PairKind Leaf base b e = inr e
-row_taken own PairKind Change base b e = inr e
-row_taken own PairKind Rebuild base b e = inr e
-row_taken own Change Leaf base b e = inr e
-row_taken own Change PairKind base b e = inr e
-row_taken own Change Rebuild base b e = inr e
-row_taken own Rebuild Leaf base b e = inr e
-row_taken own Rebuild PairKind base b e = inr e
-row_taken own Rebuild Change base b e = inr e
-
--- a caller that reserved a row of a kind, in the state behind
-module _ (pairs : List Pair) (words : ℕ) (log : Log) (number : ℕ) (own : Spares) (kind : Kind) (base : ℕ)
-    (enabled : EachEnabled (start pairs words) (Reserve number base (kind_words kind) ∷ log)) (none : row_of kind own ≡ None) (c : IsCallerIn (state_of pairs words log) number own) where
-  abbrev t : Snapshot
-  t = state_of pairs words log
-
-  abbrev u : Snapshot
-  u = state_of pairs words (Reserve number base (kind_words kind) ∷ log)
-
-  abbrev new_row : HeldRow
-  new_row = record { caller = number; base = base; size = kind_words kind }
-
-  held_now : held_by u number ≡ held_by t number ++ new_row ∷ []
-  held_now =
-      filter-append (λ (h : HeldRow). h.caller == number) t.held (new_row ∷ [])
-      ∙ ap (λ b. held_by t number ++ (if b then new_row ∷ [] else [])) (base_same number)
-
-  old_base : (h : HeldRow) → Among h (held_by t number) → base ≢ h.base
-  old_base h i same =
-      let it = among-filter (λ (x : HeldRow). x.caller == number) h t.held i in
-      let low = (sound (start pairs words) log (sound_start pairs words) enabled.0).held_below h it.0 in
-      let at_next = enabled.1.base_is in
-      omega arith
-
-  sizes_now : build_sizes u number (with_row kind base own) ≡ build_sizes t number own
-  sizes_now =
-      ap (λ held. map (λ h. h.size) (filter (λ h. not (is_spare (with_row kind base own) h.base)) held)) held_now
-      ∙ ap (map (λ (h : HeldRow). h.size))
-      (filter-append (λ (h : HeldRow). not (is_spare (with_row kind base own) h.base)) (held_by t number) (new_row ∷ [])
-      ∙ ap₂ (λ xs ys. xs ++ ys)
-      (filter_same (λ (h : HeldRow). not (is_spare (with_row kind base own) h.base)) (λ h. not (is_spare own h.base)) (held_by t number)
-      (λ h i. ap not (spare_else own kind base h.base none (old_base h i))))
-      (ap (λ b. if not b then new_row ∷ [] else []) (spare_here own kind base))
-      ∙ append-nil (filter (λ (h : HeldRow). not (is_spare own h.base)) (held_by t number)))
-
-  behind : ComesBehind t u
-  behind = let at_next = enabled.1.base_is in record { words = refl; next = omega arith; grow = all_grow_same t.pieces }
-
-  pub taken_caller : IsCallerIn u number (with_row kind base own)
-  taken_caller =
-      record {
-        rows = λ other b e.
-            ⊎_elim
-            (λ k. subst (λ x. HoldsRow u number x (kind_words other)) k.1 (subst (λ x. HoldsRow u number base (kind_words x)) k.0 (among_right new_row t.held (new_row ∷ []) (inl refl))))
-            (λ k. among_left record { caller = number; base = b; size = kind_words other } t.held (new_row ∷ []) (c.rows other b k))
-            (row_taken own kind other base b e);
-        builds = builds_on t u behind (build_sizes u number (with_row kind base own)) (subst (AreBuilds t) (sym sizes_now) c.builds);
-      }
-
--- a caller that reserved a row is a caller with that row
-pub caller_reserved : (old new : Caller) (kind : Kind) (base : ℕ) → IsCaller old → row_of kind (spares_of old) ≡ None
-    → Reserved old.seat.view old.number base (kind_words kind) new.seat.view
-    → new.number ≡ old.number → spares_of new ≡ with_row kind base (spares_of old) → IsCaller new
-caller_reserved old new kind base c none r number rows =
-    let v = old.seat.view in
-    let w = new.seat.view in
-    let m = r.before in
-    let l = r.reserved in
-    let event = Reserve old.number base (kind_words kind) in
-    let start_is : w.start ≡ v.start = ap (λ x. x.start) l.view ∙ ap (λ x. x.start) r.seen.same in
-    let words_is : w.words ≡ v.words = ap (λ x. x.words) l.view ∙ ap (λ x. x.words) r.seen.same in
-    let who_is : w.who ≡ v.who = ap (λ x. x.who) l.view ∙ goes_on_who r.seen in
-    let log_is : w.log ≡ event ∷ l.before = ap (λ x. x.log) l.view in
-    let lawful : Lawful v.start v.words (event ∷ l.before) =
-    subst (λ p. Lawful p v.words (event ∷ l.before)) start_is
-    (subst (λ n. Lawful w.start n (event ∷ l.before)) words_is (subst (Lawful w.start w.words) log_is l.sound.lawful)) in
-    let later : Later v.who v.log l.before = later_more r.seen.later (subst (λ x. Later x m.log l.before) (goes_on_who r.seen) l.later) in
-    let before = caller_later v.start v.words v.log l.before old.number (spares_of old) record { opens = lawful.opens; enabled = lawful.enabled.0 } (subst (λ x. Later x v.log l.before) c.mine later)
-    record { rows = c.rows; builds = c.builds } in
-    let it = taken_caller v.start v.words l.before old.number (spares_of old) kind base lawful.enabled none before in
-    let now_is : now w ≡ state_of v.start v.words (event ∷ l.before) = ap₂ (λ p n. state_of p n w.log) start_is words_is ∙ ap (state_of v.start v.words) log_is in
-    let there = subst (λ own. IsCallerIn (now w) new.number own) (sym rows) (subst (λ n. IsCallerIn (now w) n (with_row kind base (spares_of old))) (sym number)
-    (subst (λ t. IsCallerIn t old.number (with_row kind base (spares_of old))) (sym now_is) it)) in
-    record { mine = who_is ∙ c.mine ∙ ap CallerOf (sym number); rows = there.rows; builds = there.builds }
-
--- a caller that stored into its row is a caller
-pub caller_storing : (who : Caller) (place word : ℕ) → IsCaller who → IsCaller (record who { seat = record who.seat { view = storing who.seat.view place word } })
-caller_storing who place word c = record { mine = c.mine; rows = c.rows; builds = c.builds }
-
--- a word of an own row lies within the table
-pub place_low : (who : Caller) (base at : ℕ) → IsSound who.seat.view → IsCaller who → HoldsPlace who base at → IsOwn who.seat.view (base + at) × (base + at < who.seat.view.words)
-place_low who base at s c h =
-    let v = who.seat.view in
-    let loose = held_loose v.start v.words v.log s.lawful.enabled record { caller = who.number; base = base; size = h.size } h.held at h.within in
-    let below = loose.below in
-    let low = next_within v.start v.words s.lawful.opens v.log s.lawful.enabled in
-    let all = words_same v.start v.words s.lawful.opens v.log in (
-      record { row = record { caller = who.number; base = base; size = h.size }; held = h.held; mine = c.mine; offset = at; within = h.within; at = refl },
-      omega arith,
-    )
-
--- a table is small
-pub words_low : (v : View) → IsSound v → v.words ≤ place_limit
-words_low v s = s.lawful.opens.within
-
--- a caller whose reserving was refused is a caller
-pub caller_refused : (who : Caller) (seat : SeatFace) (words size : ℕ) (full : Full) → IsCaller who → IsFull who.seat.view words size full seat.view
-    → IsCaller (record who { seat = seat })
-caller_refused who seat words size full c f = caller_goes_on who seat c (goes_on_more _ _ _ f.seen (looked_goes_on _ _ _ _ f.looked))
+    (caller_later v.start v.words v.log log who.number (spares_of who) m.lawful
+        (subst (λ w. Later w v.log log) c.mine m.later) record { rows = c.rows; builds = c.builds })
+        kind none

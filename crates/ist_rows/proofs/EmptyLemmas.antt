@@ -12,7 +12,8 @@ use Rattle.ist_core.specs.Lawful.{CanOpen}
 -- it may be opened
 pub empty_opens : (words : ℕ) → first_row ≤ words → words ≤ place_limit → CanOpen [] words
 unfolding ideal_words ideal_words_within
-empty_opens words enough within = record { rising = λ k h. absurd (omega arith); room = omega arith; within = within }
+empty_opens words enough within =
+    record { rising = λ k h. absurd (omega arith); room = omega arith; within = within }
 
 -- each of some zeros is one
 zero_lies : (n i : ℕ) → i < n → slice_get {X = ℕ} (replicate n 0) i ≡ Some 0
@@ -34,12 +35,14 @@ empty_image zeros enough =
       free = free;
     }
   where
-    free : (place : ℕ) → 4 ≤ place → place < suc zeros → slice_get {X = ℕ} (4 ∷ replicate zeros 0) place ≡ Some 0
+    free : (place : ℕ) → 4 ≤ place → place < suc zeros
+        → slice_get {X = ℕ} (4 ∷ replicate zeros 0) place ≡ Some 0
     free zero low high = absurd (omega arith)
     free (suc place) low high = zero_lies zeros place (omega arith)
 
 -- so are some zeros of which the first is set to 4
-pub zeros_image : (pairs : List Pair) → pairs ≡ [] → (n : ℕ) (words : List ℕ) → words ≡ replicate n 0 → 4 ≤ n
+pub zeros_image : (pairs : List Pair) → pairs ≡ [] → (n : ℕ) (words : List ℕ)
+    → words ≡ replicate n 0 → 4 ≤ n
     → IsImage (start pairs (length (slice_set words 0 4))) (slice_set words 0 4)
 zeros_image pairs none zero words same enough = absurd (omega arith)
 zeros_image pairs none (suc n) words same enough =
@@ -49,10 +52,12 @@ zeros_image pairs none (suc n) words same enough =
     (empty_image n (omega arith))))
 
 -- and the table opens
-pub zeros_open : (pairs : List Pair) → pairs ≡ [] → (n : ℕ) (words : List ℕ) → words ≡ replicate n 0 → 4 ≤ n
+pub zeros_open : (pairs : List Pair) → pairs ≡ [] → (n : ℕ) (words : List ℕ) → words ≡ replicate n 0
+    → 4 ≤ n
     → n ≤ place_limit → CanOpen pairs (length (slice_set words 0 4))
 zeros_open pairs none zero words same enough within = absurd (omega arith)
 zeros_open pairs none (suc n) words same enough within =
     subst (λ ps. CanOpen ps (length (slice_set words 0 4))) (sym none)
     (subst (λ ws. CanOpen [] (length (slice_set ws 0 4))) (sym same)
-    (subst (λ m. CanOpen [] (suc m)) (sym (length-replicate n 0)) (empty_opens (suc n) enough within)))
+    (subst (λ m. CanOpen [] (suc m)) (sym (length-replicate n 0))
+        (empty_opens (suc n) enough within)))

@@ -30,51 +30,66 @@ use Rattle.ist_rows.specs.Rows.{held_by, spares_of, row_of, is_spare, IsCaller}
 
 -- ---- what is shown at the fixed places
 
-module _ (pairs : List PairOf) (words : ℕ) (log : Log) (enabled : EachEnabled (start pairs words) log) where
+module _ (pairs : List PairOf) (words : ℕ) (log : Log)
+    (enabled : EachEnabled (start pairs words) log) where
   -- no row lies at a fixed place
-  row_above : (base : ℕ) (p : Piece) → (state_of pairs words log).pieces base ≡ Some p → first_row ≤ base
-  row_above base p e = (claimed_within pairs words log base (size_of p) enabled ((placed pairs words log enabled).published base p e)).behind_fixed
+  row_above : (base : ℕ) (p : Piece) → (state_of pairs words log).pieces base ≡ Some p
+      → first_row ≤ base
+  row_above base p e = (claimed_within pairs words log base (size_of p) enabled
+      ((placed pairs words log enabled).published base p e)).behind_fixed
 
   -- the word at the first place is the first free word
-  pub shown_next_is : (place word : ℕ) → IsShown (state_of pairs words log) place word → place ≡ next_place → word ≡ (state_of pairs words log).next
+  pub shown_next_is : (place word : ℕ) → IsShown (state_of pairs words log) place word
+      → place ≡ next_place → word ≡ (state_of pairs words log).next
   shown_next_is _ _ shown_next e = refl
   shown_next_is _ _ shown_callers e = absurd (omega arith)
   shown_next_is _ _ shown_status e = absurd (omega arith)
   shown_next_is _ _ shown_slot e = absurd (omega arith)
-  shown_next_is _ _ (shown_row base p k there at) e = let low = row_above base p there in absurd (omega arith)
-  shown_next_is _ _ (shown_free far in_it) e = let low = next_behind_fixed pairs words log enabled in absurd (omega arith)
+  shown_next_is _ _ (shown_row base p k there at) e = let low =
+      row_above base p there in absurd (omega arith)
+  shown_next_is _ _ (shown_free far in_it) e = let low =
+      next_behind_fixed pairs words log enabled in absurd (omega arith)
 
   -- the word behind it is the number of callers
-  pub shown_callers_is : (place word : ℕ) → IsShown (state_of pairs words log) place word → place ≡ callers_place → word ≡ (state_of pairs words log).callers
+  pub shown_callers_is : (place word : ℕ) → IsShown (state_of pairs words log) place word
+      → place ≡ callers_place → word ≡ (state_of pairs words log).callers
   shown_callers_is _ _ shown_next e = absurd (omega arith)
   shown_callers_is _ _ shown_callers e = refl
   shown_callers_is _ _ shown_status e = absurd (omega arith)
   shown_callers_is _ _ shown_slot e = absurd (omega arith)
-  shown_callers_is _ _ (shown_row base p k there at) e = let low = row_above base p there in absurd (omega arith)
-  shown_callers_is _ _ (shown_free far in_it) e = let low = next_behind_fixed pairs words log enabled in absurd (omega arith)
+  shown_callers_is _ _ (shown_row base p k there at) e = let low =
+      row_above base p there in absurd (omega arith)
+  shown_callers_is _ _ (shown_free far in_it) e = let low =
+      next_behind_fixed pairs words log enabled in absurd (omega arith)
 
 -- ---- entering
 
 -- behind each log that may come a maker's callers are as many as it made
-made_there : (v : View) → IsSound v → v.who ≡ Maker → (log : Log) → MayCome v log → (state_of v.start v.words log).callers ≡ v.made
+made_there : (v : View) → IsSound v → v.who ≡ Maker → (log : Log) → MayCome v log
+    → (state_of v.start v.words log).callers ≡ v.made
 made_there v s who log m =
-    callers_by_others v.start v.words v.log log (subst (λ w. Later w v.log log) who m.later) ∙ sym (s.is_true.made who).0
+    callers_by_others v.start v.words v.log log (subst (λ w. Later w v.log log) who m.later) ∙ sym
+        (s.is_true.made who).0
 
 -- the maker may enter a caller, whatever others do meanwhile
-pub can_enter : (v : View) → IsSound v → v.who ≡ Maker → v.given ≡ v.made → v.made < caller_limit → CanAdd v callers_place (λ found. Enter found)
+pub can_enter : (v : View) → IsSound v → v.who ≡ Maker → v.given ≡ v.made → v.made < caller_limit
+    → CanAdd v callers_place (λ found. Enter found)
 can_enter v s who given few =
     record {
       make = λ found. record { mine = sym who; stored = tt; allowed = given };
       known = λ log m. ((state_of v.start v.words log).callers, shown_callers);
       comes = λ log m found shown.
-          let is = shown_callers_is v.start v.words log m.lawful.enabled callers_place found shown refl in
+          let is = shown_callers_is v.start v.words log m.lawful.enabled callers_place found shown
+                  refl in
           let made = made_there v s who log m in
           record {
             enabled = record { number = is; below_limit = omega arith };
-            touches = ap (λ n. Some record { place = callers_place; found = n; left = n + 1 }) (sym is);
+            touches = ap (λ n. Some record { place = callers_place; found = n; left = n + 1 })
+                (sym is);
           };
       fits = λ log m found shown.
-          let is = shown_callers_is v.start v.words log m.lawful.enabled callers_place found shown refl in
+          let is = shown_callers_is v.start v.words log m.lawful.enabled callers_place found shown
+                  refl in
           let made = made_there v s who log m in
           omega arith;
     }
@@ -87,11 +102,13 @@ pub record Entered (v w : View) (found : ℕ) : Type 0 where
   pub given : w.given ≡ v.given
   pub who : w.who ≡ Maker
 
-pub entered : (v w : View) (found : ℕ) → IsSound v → v.who ≡ Maker → Logged v (Enter found) w → Entered v w found
+pub entered : (v w : View) (found : ℕ) → IsSound v → v.who ≡ Maker → Logged v (Enter found) w
+    → Entered v w found
 entered v w found s who l =
     let sound : IsSound (logging v l.before (Enter found)) = subst IsSound l.view l.sound in
     let can : CanEnter (state_of v.start v.words l.before) found = sound.lawful.enabled.1 in
-    let made = made_there v s who l.before record { later = l.later; lawful = record { opens = sound.lawful.opens; enabled = sound.lawful.enabled.0 } } in
+    let made = made_there v s who l.before record { later = l.later; lawful =
+            record { opens = sound.lawful.opens; enabled = sound.lawful.enabled.0 } } in
     record {
       number = can.number ∙ made;
       low = can.below_limit;
@@ -102,47 +119,67 @@ entered v w found s who l =
 
 -- a maker that has a seat to give gives it to the caller that it entered last
 pub gives_seat : (w : View) → w.who ≡ Maker → w.given < w.made
-    → (split_left w ≡ record w { given = w.given + 1 }) × ((split_right w).who ≡ CallerOf w.given) × ((split_right w).log ≡ w.log)
+    → (split_left w ≡ record w { given = w.given + 1 }) × ((split_right w).who ≡ CallerOf w.given)
+        × ((split_right w).log ≡ w.log)
     × ((split_right w).start ≡ w.start) × ((split_right w).words ≡ w.words)
 gives_seat w who less =
     let t : nat_lt w.given w.made ≡ true = grind (arith, nat_tests) in
     let is : awaits_seat w ≡ true = ap (λ x. is_maker x && nat_lt w.given w.made) who ∙ t in (
       ap (λ b. if b then record w { given = w.given + 1 } else w) is,
-      ap (λ b. (if b then plain w (CallerOf w.given) [] else plain w (Note (noted_by w.who)) w.calls).who) is,
-      ap (λ b. (if b then plain w (CallerOf w.given) [] else plain w (Note (noted_by w.who)) w.calls).log) is,
-      ap (λ b. (if b then plain w (CallerOf w.given) [] else plain w (Note (noted_by w.who)) w.calls).start) is,
-      ap (λ b. (if b then plain w (CallerOf w.given) [] else plain w (Note (noted_by w.who)) w.calls).words) is,
+      ap (λ b. (if b then plain w (CallerOf w.given) [] else plain w (Note (noted_by w.who))
+          w.calls).who) is,
+      ap (λ b. (if b then plain w (CallerOf w.given) [] else plain w (Note (noted_by w.who))
+          w.calls).log) is,
+      ap (λ b. (if b then plain w (CallerOf w.given) [] else plain w (Note (noted_by w.who))
+          w.calls).start) is,
+      ap (λ b. (if b then plain w (CallerOf w.given) [] else plain w (Note (noted_by w.who))
+          w.calls).words) is,
     )
 
-none_held : (held : List HeldRow) (number : ℕ) → ((h : HeldRow) → Among h held → h.caller ≢ number) → filter (λ h. h.caller == number) held ≡ []
+none_held : (held : List HeldRow) (number : ℕ) → ((h : HeldRow) → Among h held → h.caller ≢ number)
+    → filter (λ h. h.caller == number) held ≡ []
 none_held [] number out = refl
-none_held (h ∷ held) number out = at (none_held held number (λ g i. out g (inr i))) (eqb_tells h.caller number)
+none_held (h ∷ held) number out =
+    at (none_held held number (λ g i. out g (inr i))) (eqb_tells h.caller number)
   where
-    at : filter (λ h. h.caller == number) held ≡ [] → (((h.caller == number) ≡ true) × (h.caller ≡ number)) ⊎ (((h.caller == number) ≡ false) × (h.caller ≢ number))
+    at : filter (λ h. h.caller == number) held ≡ []
+        → (((h.caller == number) ≡ true) × (h.caller ≡ number))
+        ⊎ (((h.caller == number) ≡ false) × (h.caller ≢ number))
         → filter (λ h. h.caller == number) (h ∷ held) ≡ []
     at rest (inl k) = absurd (out h (inl refl) k.1)
-    at rest (inr k) = ap (λ b. if b then h ∷ filter (λ g. g.caller == number) held else filter (λ g. g.caller == number) held) k.0 ∙ rest
+    at rest (inr k) = ap (λ b. if b then h ∷ filter (λ g. g.caller == number) held else filter
+        (λ g. g.caller == number) held) k.0 ∙ rest
 
 -- a caller that was not given a seat before holds no row
-pub new_holds_none : (w : View) (number : ℕ) → IsSound w → w.who ≡ Maker → w.given ≤ number → held_by (now w) number ≡ []
+pub new_holds_none : (w : View) (number : ℕ) → IsSound w → w.who ≡ Maker → w.given ≤ number
+    → held_by (now w) number ≡ []
 new_holds_none w number s who above =
-    none_held (now w).held number (idle_holds w.start w.words w.log number s.lawful.enabled (s.is_true.idle who number above))
+    none_held (now w).held number (idle_holds w.start w.words w.log number s.lawful.enabled
+        (s.is_true.idle who number above))
 
-no_rows : (kind : Kind) (base : ℕ) → row_of kind record { leaf = None; pair = None; change = None; rebuild = None } ≡ Some base → ⊥
+no_rows : (kind : Kind) (base : ℕ)
+    → row_of kind record { leaf = None; pair = None; change = None; rebuild = None } ≡ Some base → ⊥
 no_rows Leaf base e = cc
 no_rows Pair base e = cc
 no_rows Change base e = cc
 no_rows Rebuild base e = cc
 
 -- the caller that is given its seat holds no row
-pub new_caller : (w : View) (who : Caller) → IsSound w → w.who ≡ Maker → w.given < w.made → who.seat.view ≡ split_right w → who.number ≡ w.given
-    → spares_of who ≡ record { leaf = None; pair = None; change = None; rebuild = None } → IsCaller who
+pub new_caller : (w : View) (who : Caller) → IsSound w → w.who ≡ Maker → w.given < w.made
+    → who.seat.view ≡ split_right w → who.number ≡ w.given
+    → spares_of who ≡ record { leaf = None; pair = None; change = None; rebuild = None }
+        → IsCaller who
 new_caller w who s maker less view number none =
     let g = gives_seat w maker less in
-    let now_is : now who.seat.view ≡ now w = ap now view ∙ ap₂ (λ p n. state_of p n (split_right w).log) g.3 g.4 ∙ ap (state_of w.start w.words) g.2 in
-    let held : held_by (now who.seat.view) who.number ≡ [] = ap₂ held_by now_is number ∙ new_holds_none w w.given s maker (le_refl w.given) in
+    let now_is : now who.seat.view ≡ now w =
+            ap now view ∙ ap₂ (λ p n. state_of p n (split_right w).log) g.3 g.4 ∙ ap
+            (state_of w.start w.words) g.2 in
+    let held : held_by (now who.seat.view) who.number ≡ [] =
+            ap₂ held_by now_is number ∙ new_holds_none w w.given s maker (le_refl w.given) in
     record {
       mine = ap (λ x. x.who) view ∙ g.1 ∙ ap CallerOf (sym number);
       rows = λ kind base e. absurd (no_rows kind base (sym (ap (row_of kind) none) ∙ e));
-      builds = subst (λ xs. AreBuilds (now who.seat.view) (map (λ h. h.size) (filter (λ h. not (is_spare (spares_of who) h.base)) xs))) (sym held) no_build;
+      builds = subst (λ xs. AreBuilds (now who.seat.view)
+          (map (λ h. h.size) (filter (λ h. not (is_spare (spares_of who) h.base)) xs))) (sym held)
+          no_build;
     }

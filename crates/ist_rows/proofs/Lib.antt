@@ -3,4 +3,5 @@ pub mod BuildLemmas
 pub mod EnterLemmas
 pub mod ReserveLemmas
 pub mod CallerLemmas
+pub mod CallerGoingLemmas
 pub mod EmptyLemmas

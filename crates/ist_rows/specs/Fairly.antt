@@ -15,7 +15,8 @@ use Rattle.ist_rule.specs.Conditions.{MayCome}
 abbrev pub MayTake : View → ℕ → ℕ → Type 0
 MayTake v number size =
     (log : Log) → MayCome v log
-    → IsFair (state_of v.start v.words log) (sizes_held (state_of v.start v.words log) number ++ size ∷ [])
+    → IsFair (state_of v.start v.words log)
+        (sizes_held (state_of v.start v.words log) number ++ size ∷ [])
 
 -- ---- naming the event of an exchange
 

@@ -23,7 +23,12 @@ pub record Spares : Type 0 where
 
 -- those of a caller
 abbrev pub spares_of : Caller → Spares
-spares_of who = record { leaf = who.leaf; pair = who.pair; change = who.change; rebuild = who.rebuild }
+spares_of who =
+    record { leaf = who.leaf; pair = who.pair; change = who.change; rebuild = who.rebuild }
+
+-- no row of any kind
+abbrev pub no_spares : Spares
+no_spares = record { leaf = None; pair = None; change = None; rebuild = None }
 
 -- the base of the row of this kind
 abbrev pub row_of : Kind → Spares → Option ℕ
@@ -49,7 +54,8 @@ is_base None other = false
 -- is the row at the base one of these
 abbrev pub is_spare : Spares → ℕ → Bool
 is_spare spares base =
-    is_base spares.leaf base || (is_base spares.pair base || (is_base spares.change base || is_base spares.rebuild base))
+    is_base spares.leaf base || (is_base spares.pair base
+        || (is_base spares.change base || is_base spares.rebuild base))
 
 -- the rows that a caller holds, in the order of reserving
 abbrev pub held_by : Snapshot → ℕ → List HeldRow
@@ -57,19 +63,23 @@ held_by t number = filter (λ h. h.caller == number) t.held
 
 -- the sizes of the other rows that the caller holds, which are those of its builds
 abbrev pub build_sizes : Snapshot → ℕ → Spares → List ℕ
-build_sizes t number spares = map (λ h. h.size) (filter (λ h. not (is_spare spares h.base)) (held_by t number))
+build_sizes t number spares =
+    map (λ h. h.size) (filter (λ h. not (is_spare spares h.base)) (held_by t number))
 
--- the seat is that of the caller with this number, each of its rows is held and of its kind, and the sizes of all other rows
--- that it holds are prefixes of building lists, each but the last being stuck
+-- the seat is that of the caller with this number, each of its rows is held and of its kind, and
+-- the sizes of all other rows that it holds are prefixes of building lists, each but the last being
+-- stuck
 pub record IsCaller (who : Caller) : Type 0 where
   pub mine : who.seat.view.who ≡ CallerOf who.number
   pub rows : (kind : Kind) (base : ℕ) → row_of kind (spares_of who) ≡ Some base
       → HoldsRow (now who.seat.view) who.number base (kind_words kind)
-  pub builds : AreBuilds (now who.seat.view) (build_sizes (now who.seat.view) who.number (spares_of who))
+  pub builds : AreBuilds (now who.seat.view)
+      (build_sizes (now who.seat.view) who.number (spares_of who))
 
 -- ---- reserving
 
--- a row of the size was reserved at the last step of the call, before which the seat made loads alone
+-- a row of the size was reserved at the last step of the call, before which the seat made loads
+-- alone
 pub record Reserved (v : View) (number base size : ℕ) (w : View) : Type 0 where
   pub before : View
   pub seen : GoesOnTo v before
@@ -84,12 +94,13 @@ pub record IsFull (v : View) (words size : ℕ) (full : Full) (w : View) : Type 
   pub words_is : full.words ≡ words
   pub small : words < full.next + size
 
--- where the caller had no row of this kind, an answered row was reserved in this call, and is the caller's
+-- where the caller had no row of this kind, an answered row was reserved in this call, and is the
+-- caller's
 abbrev pub IsFresh : Kind → Caller → Caller → Result ℕ Full → Type 0
 IsFresh kind old new answer =
     row_of kind (spares_of old) ≡ None → IfOk answer (λ base.
-    Reserved old.seat.view old.number base (kind_words kind) new.seat.view
-    × (spares_of new ≡ with_row kind base (spares_of old)))
+        Reserved old.seat.view old.number base (kind_words kind) new.seat.view
+        × (spares_of new ≡ with_row kind base (spares_of old)))
 
 -- nothing was reserved, for want of words
 pub record IsRefused (words : ℕ) (kind : Kind) (old new : Caller) (full : Full) : Type 0 where

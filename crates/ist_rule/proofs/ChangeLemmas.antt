@@ -1,4 +1,5 @@
--- Where the changes of a caller come from, and what an event does to its entries. Serves what the rule says of calls.
+-- Where the changes of a caller come from, and what an event does to its entries. Serves what the
+-- rule says of calls.
 use Rattle.std.proofs.Common.{◌≡◌, ℕ, true, false, if◌then◌else◌, List, [], ◌∷◌, nat_lt, Some, sym, ap, ◌∙◌, subst, inl, inr, ⊎_elim}
 use Rattle.std.proofs.lemmas.Bool.Decides.{eqb_tells}
 use Rattle.ist_core.specs.declared.states.ChangeRow.{ChangeRow}
@@ -32,37 +33,47 @@ NoChange _ = Unit {0}
 
 pair_no_change : (key base other_key other : ℕ) → NoChange (pair_row key base other_key other)
 pair_no_change key base other_key other =
-    elim (nat_lt other_key key) as (λ v. NoChange (if v then pair_over key other base else pair_over other_key base other)) [ true ↦ tt | false ↦ tt ]
+    elim (nat_lt other_key key) as (λ v. NoChange
+        (if v then pair_over key other base else pair_over other_key base other))
+        [ true ↦ tt | false ↦ tt ]
 
 -- a row that an Install publishes beside the change's is no change
-fresh_no_change : (first : Snapshot) (log : Log) (change : ChangeRow) (fresh : List Row) (fits : FitsKind first log change fresh) (base : ℕ) (p : Piece)
+fresh_no_change : (first : Snapshot) (log : Log) (change : ChangeRow) (fresh : List Row)
+    (fits : FitsKind first log change fresh) (base : ℕ) (p : Piece)
     → IsFresh first log change fresh fits base p → NoChange p
 fresh_no_change first log change fresh (a_put h) base p f = subst NoChange (sym f.1) tt
-fresh_no_change first log change fresh (a_pair h) base p (inl f) = subst NoChange (sym f.1) (pair_no_change change.key h.leaf h.other_key h.other)
+fresh_no_change first log change fresh (a_pair h) base p (inl f) =
+    subst NoChange (sym f.1) (pair_no_change change.key h.leaf h.other_key h.other)
 fresh_no_change first log change fresh (a_pair h) base p (inr f) = subst NoChange (sym f.1) tt
 fresh_no_change first log change fresh (a_remove h) base p f = absurd f
 fresh_no_change first log change fresh (a_start h) base p f = subst NoChange (sym f.1) tt
 fresh_no_change first log change fresh (a_finish h) base p f = absurd f
 
 -- a change behind an event stood there before, or is the one that the event installs
-pub data ChangeComes (first : Snapshot) (log : Log) (base : ℕ) (r : ChangeRow) : Event → Type 0 where
-  stood : {event : Event} (old : ChangeRow) → (state first log).pieces base ≡ Some (Change old) → ChangeGrows old r
+pub data ChangeComes (first : Snapshot) (log : Log) (base : ℕ) (r : ChangeRow) : Event
+    → Type 0 where
+  stood : {event : Event} (old : ChangeRow) → (state first log).pieces base ≡ Some (Change old)
+      → ChangeGrows old r
       → ChangeComes first log base r event
-  is_installed : {caller : ℕ} {rows : List Row} (h : CanInstall first log caller base rows) → ChangeGrows h.change r
+  is_installed : {caller : ℕ} {rows : List Row} (h : CanInstall first log caller base rows)
+      → ChangeGrows h.change r
       → ChangeComes first log base r (Install caller base rows)
 
 -- what grows into a change is one
 grew : (first : Snapshot) (log : Log) (base : ℕ) (r : ChangeRow) (event : Event) (p : Piece)
-    → (state first log).pieces base ≡ Some p → Grows p (Change r) → ChangeComes first log base r event
+    → (state first log).pieces base ≡ Some p → Grows p (Change r)
+        → ChangeComes first log base r event
 grew first log base r event _ e (change_grows {old = old} g) = stood old e g
 
 born_change : (first : Snapshot) (log : Log) (base : ℕ) (r : ChangeRow) (event : Event) (p : Piece)
     → Born first log base p event → Grows p (Change r) → ChangeComes first log base r event
-born_change first log base r _ p (by_install {caller = caller} {change = change} {rows = rows} h (inl is)) g =
+born_change first log base r _ p
+    (by_install {caller = caller} {change = change} {rows = rows} h (inl is)) g =
     subst (λ b. ChangeComes first log b r (Install caller change rows)) (sym is.0)
     (at (subst (λ q. Grows q (Change r)) is.1 g))
   where
-    at : Grows (Change h.change) (Change r) → ChangeComes first log change r (Install caller change rows)
+    at : Grows (Change h.change) (Change r)
+        → ChangeComes first log change r (Install caller change rows)
     at (change_grows k) = is_installed h k
 born_change first log base r _ _ (by_install h (inr fresh)) (change_grows {old = old} k) =
     absurd (fresh_no_change first log h.change h.fresh h.fits base (Change old) fresh)
@@ -74,7 +85,8 @@ born_change first log base r _ _ (by_place {rows = rows} i e) (change_grows {old
     (with_inners-some (state first log).pieces rows base (Change old) e)
 
 -- where a change behind an event comes from
-pub change_comes : (first : Snapshot) (log : Log) (event : Event) → Enabled first log event → IsSound (state first log)
+pub change_comes : (first : Snapshot) (log : Log) (event : Event) → Enabled first log event
+    → IsSound (state first log)
     → (base : ℕ) (r : ChangeRow) → (state first (event ∷ log)).pieces base ≡ Some (Change r)
     → ChangeComes first log base r event
 change_comes first log event h s base r e = at (comes first log event h s base (Change r) e)
@@ -87,11 +99,14 @@ change_comes first log event h s base r e = at (comes first log event h s base (
 
 -- a change that grows keeps its kind, its owner, its key and its value
 pub grows_same_change : {old new : ChangeRow} → ChangeGrows old new
-    → (new.kind ≡ old.kind) × (new.owner ≡ old.owner) × (new.key ≡ old.key) × (new.value ≡ old.value)
+    → (new.kind ≡ old.kind) × (new.owner ≡ old.owner) × (new.key ≡ old.key)
+        × (new.value ≡ old.value)
 grows_same_change g =
-    (ap (λ r. r.kind) g.others, ap (λ r. r.owner) g.others, ap (λ r. r.key) g.others, ap (λ r. r.value) g.others)
+    (ap (λ r. r.kind) g.others, ap (λ r. r.owner) g.others, ap (λ r. r.key) g.others, ap
+        (λ r. r.value) g.others)
 
 -- one that is undecided was undecided
-pub grows_undecided : {old new : ChangeRow} → ChangeGrows old new → new.decision ≡ undecided → old.decision ≡ undecided
+pub grows_undecided : {old new : ChangeRow} → ChangeGrows old new → new.decision ≡ undecided
+    → old.decision ≡ undecided
 grows_undecided {old} {new} g e =
     ⊎_elim (λ k. k.1) (λ k. sym (g.decided k.1) ∙ e) (eqb_tells old.decision undecided)

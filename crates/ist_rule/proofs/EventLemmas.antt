@@ -1,4 +1,5 @@
--- What one event does to the number of callers and to what callers hold. Serves what the rule says of other seats.
+-- What one event does to the number of callers and to what callers hold. Serves what the rule says
+-- of other seats.
 use Rattle.std.proofs.Common.{◌≡◌, ◌≢◌, ℕ, ◌≤◌, List, [], ◌∷◌, Option, Some, None, refl, sym, subst, arith}
 use Rattle.ist_core.specs.declared.events.Event.{Event}
 use Rattle.ist_core.specs.declared.events.Event.TheVariants.{Enter, Reserve, Install, Okay, Decide, Resolve, Count, Mark, Pass, Finish, Root, Draw, Place, Lose}
@@ -20,11 +21,13 @@ callers-with_change : (t : Snapshot) (base : ℕ) (fresh : List Row) (change : O
 callers-with_change t base fresh None = refl
 callers-with_change t base fresh (Some change) = refl
 
-callers-installed : (t : Snapshot) (base : ℕ) (rows : List Row) → (installed t base rows).callers ≡ t.callers
+callers-installed : (t : Snapshot) (base : ℕ) (rows : List Row)
+    → (installed t base rows).callers ≡ t.callers
 callers-installed t base [] = refl
 callers-installed t base (row ∷ fresh) = callers-with_change t base fresh (change_of row.words)
 
-callers-resolved : (t : Snapshot) (change : Option ChangeRow) → (resolved t change).callers ≡ t.callers
+callers-resolved : (t : Snapshot) (change : Option ChangeRow)
+    → (resolved t change).callers ≡ t.callers
 callers-resolved t None = refl
 callers-resolved t (Some change) = refl
 
@@ -33,10 +36,12 @@ pub callers-state : (first : Snapshot) (log : Log) (event : Event)
     → (state first (event ∷ log)).callers ≡ made_behind event (state first log).callers
 callers-state first log (Enter caller) = refl
 callers-state first log (Reserve caller base size) = refl
-callers-state first log (Install caller change rows) = callers-installed (state first log) change rows
+callers-state first log (Install caller change rows) =
+    callers-installed (state first log) change rows
 callers-state first log (Okay caller change) = refl
 callers-state first log (Decide caller change said) = refl
-callers-state first log (Resolve caller change) = callers-resolved (state first log) (as_change ((state first log).pieces change))
+callers-state first log (Resolve caller change) =
+    callers-resolved (state first log) (as_change ((state first log).pieces change))
 callers-state first log (Count caller node) = refl
 callers-state first log (Mark caller node) = refl
 callers-state first log (Pass caller node i word) = refl
@@ -66,7 +71,8 @@ made_behind-grows (Lose caller bases) made = omega arith
 -- an event is an Enter, which is the maker's, or is a caller's and adds no caller
 pub data Authored (event : Event) : Type 0 where
   by_maker : (caller : ℕ) → event ≡ Enter caller → author event ≡ Maker → Authored event
-  by_caller : (caller : ℕ) → author event ≡ Caller caller → ((made : ℕ) → made_behind event made ≡ made) → Authored event
+  by_caller : (caller : ℕ) → author event ≡ Caller caller
+      → ((made : ℕ) → made_behind event made ≡ made) → Authored event
 
 pub authored : (event : Event) → Authored event
 authored (Enter caller) = by_maker caller refl refl
@@ -97,7 +103,8 @@ pub author_no_note : (event : Event) (of : Option ℕ) → author event ≢ Note
 author_no_note event of e = subst IsNamed e (author_named event)
 
 -- only the maker's event adds a caller
-pub made_by_others : (event : Event) (made : ℕ) → author event ≢ Maker → made_behind event made ≡ made
+pub made_by_others : (event : Event) (made : ℕ) → author event ≢ Maker
+    → made_behind event made ≡ made
 made_by_others event made ne = at (authored event)
   where
     at : Authored event → made_behind event made ≡ made
@@ -117,9 +124,12 @@ pub data Publishes (t : Snapshot) (event : Event) : Type 0 where
 
 pub publishes : (first : Snapshot) (log : Log) (event : Event) → Enabled first log event
     → Publishes (state first log) event
-publishes first log (Install caller change rows) h = publishes_held record { caller = caller; author_is = refl; held = h.held }
-publishes first log (Root caller rebuild word rows) h = publishes_held record { caller = caller; author_is = refl; held = h.held }
-publishes first log (Place caller rebuild i word rows) h = publishes_held record { caller = caller; author_is = refl; held = h.held }
+publishes first log (Install caller change rows) h =
+    publishes_held record { caller = caller; author_is = refl; held = h.held }
+publishes first log (Root caller rebuild word rows) h =
+    publishes_held record { caller = caller; author_is = refl; held = h.held }
+publishes first log (Place caller rebuild i word rows) h =
+    publishes_held record { caller = caller; author_is = refl; held = h.held }
 publishes first log (Enter caller) h = publishes_none refl
 publishes first log (Reserve caller base size) h = publishes_none refl
 publishes first log (Okay caller change) h = publishes_none refl

@@ -1,5 +1,5 @@
--- What one event does to the words: those of the image, and those that a caller stored into its rows. Serves the conjuncts
--- `image` and `owns`.
+-- What one event does to the words: those of the image, and those that a caller stored into its
+-- rows. Serves the conjuncts `image` and `owns`.
 use Rattle.std.proofs.Common.{◌≡◌, ◌≢◌, ℕ, ◌+◌, ◌≤◌, ◌⊎◌, List, [], ◌∷◌, ◌++◌, length, slice_get, Option, Some, None, refl, sym, ap, ◌∙◌, subst, inl, inr, ⊎_elim, arith}
 use Rattle.ist_core.specs.declared.pairs.Pair.{Pair}
 use Rattle.ist_core.specs.declared.lists.Row.{Row}
@@ -30,15 +30,19 @@ use Rattle.ist_rule.proofs.ShownLemmas.{IsLoose, held_loose, touch_tight}
 use Rattle.ist_rule.proofs.EventLemmas.{Publishes, publishes_none, publishes_held, publishes}
 
 -- a table has as many words as it was told
-pub words_are : (pairs : List Pair) (words : ℕ) (log : Log) → (state_of pairs words log).words ≡ words
+pub words_are : (pairs : List Pair) (words : ℕ) (log : Log)
+    → (state_of pairs words log).words ≡ words
 words_are pairs words [] = refl
-words_are pairs words (event ∷ log) = words-state (start pairs words) log event ∙ words_are pairs words log
+words_are pairs words (event ∷ log) =
+    words-state (start pairs words) log event ∙ words_are pairs words log
 
 -- a word that no touch is at stays
-touched_other : (words : List ℕ) (o : Option Touch) (place : ℕ) → ((touch : Touch) → o ≡ Some touch → place ≢ touch.place)
+touched_other : (words : List ℕ) (o : Option Touch) (place : ℕ)
+    → ((touch : Touch) → o ≡ Some touch → place ≢ touch.place)
     → slice_get (touched words o) place ≡ slice_get words place
 touched_other words None place out = refl
-touched_other words (Some touch) place out = get-set_other words touch.place place touch.left (out touch refl)
+touched_other words (Some touch) place out =
+    get-set_other words touch.place place touch.left (out touch refl)
 
 -- an event is a Lose, which touches no word, or is none
 no_lose : (t : Snapshot) (event : Event) → (touch_of t event ≡ None) ⊎ IsNoLose event
@@ -57,7 +61,8 @@ no_lose t (Root caller rebuild word rows) = inr tt
 no_lose t (Draw caller rebuild part) = inr tt
 no_lose t (Place caller rebuild i word rows) = inr tt
 
-module _ (pairs : List Pair) (words : ℕ) (opens : CanOpen pairs words) (log : Log) (event : Event) (enabled : EachEnabled (start pairs words) (event ∷ log))
+module _ (pairs : List Pair) (words : ℕ) (opens : CanOpen pairs words) (log : Log) (event : Event)
+    (enabled : EachEnabled (start pairs words) (event ∷ log))
     (image : List ℕ) (is : IsImage (state_of pairs words log) image) where
   abbrev before : Snapshot
   before = state_of pairs words log
@@ -66,27 +71,32 @@ module _ (pairs : List Pair) (words : ℕ) (opens : CanOpen pairs words) (log : 
   behind = touched image (touch_of before event)
 
   -- a loose word stays
-  pub loose_stays : (place : ℕ) → IsLoose before place → slice_get behind place ≡ slice_get image place
+  pub loose_stays : (place : ℕ) → IsLoose before place
+      → slice_get behind place ≡ slice_get image place
   loose_stays place loose =
       touched_other image (touch_of before event) place
       (λ touch e same. ⊎_elim (λ l. none_some touch (sym l ∙ e))
-      (λ some. touch_tight pairs words log enabled.0 opens image is event enabled.1 some touch e (subst (IsLoose before) same loose))
+      (λ some. touch_tight pairs words log enabled.0 opens image is event enabled.1 some touch e
+          (subst (IsLoose before) same loose))
       (no_lose before event))
     where
       none_some : (touch : Touch) → None ≡ Some touch → ⊥
       none_some touch f = cc
 
   -- what a caller stored into its rows stays there, and a row that it reserves now has no word yet
-  pub owns_behind : (v : View) → Owns pairs words log image v → ((place : ℕ) → before.next ≤ place → own_at v.own place ≡ 0)
+  pub owns_behind : (v : View) → Owns pairs words log image v
+      → ((place : ℕ) → before.next ≤ place → own_at v.own place ≡ 0)
       → Owns pairs words (event ∷ log) behind v
   owns_behind v owns fresh h i mine k less =
       ⊎_elim
       (λ m. let old = m.kept h i in stays old)
       (λ r. at r (subst (λ e. Among h (state_of pairs words (e ∷ log)).held) r.is i))
-      (moves_or_reserves (start pairs words) log event enabled.1 (sound (start pairs words) log (sound_start pairs words) enabled.0))
+      (moves_or_reserves (start pairs words) log event enabled.1
+          (sound (start pairs words) log (sound_start pairs words) enabled.0))
     where
       stays : Among h before.held → slice_get behind (h.base + k) ≡ Some (own_at v.own (h.base + k))
-      stays old = loose_stays (h.base + k) (held_loose pairs words log enabled.0 h old k less) ∙ owns h old mine k less
+      stays old = loose_stays (h.base + k) (held_loose pairs words log enabled.0 h old k less) ∙
+          owns h old mine k less
 
       -- a word of the new row was free
       new : (r : IsReserve (start pairs words) log event) → h.base ≡ r.base → h.size ≡ r.size
@@ -97,35 +107,45 @@ module _ (pairs : List Pair) (words : ℕ) (opens : CanOpen pairs words) (log : 
           let room = can.room in
           let low = next_behind_fixed pairs words log enabled.0 in
           touched_other image (touch_of before event) (h.base + k)
-          (λ touch e same. let place : touch.place ≡ 0 = ap (λ t. t.place) (one touch (sym e ∙ ap (touch_of before) r.is)) in omega arith)
+          (λ touch e same. let place : touch.place ≡ 0 =
+              ap (λ t. t.place) (one touch (sym e ∙ ap (touch_of before) r.is)) in omega arith)
           ∙ is.free (h.base + k) (omega arith) (omega arith)
           ∙ ap (λ x. Some x) (sym (fresh (h.base + k) (omega arith)))
         where
-          one : (touch : Touch) → Some touch ≡ Some record { place = next_place; found = r.base; left = r.base + r.size }
+          one : (touch : Touch) → Some touch ≡ Some record { place = next_place; found =
+              r.base; left = r.base + r.size }
               → touch ≡ record { place = next_place; found = r.base; left = r.base + r.size }
           one touch e = cc
 
-      at : (r : IsReserve (start pairs words) log event) → Among h (before.held ++ record { caller = r.caller; base = r.base; size = r.size } ∷ [])
+      at : (r : IsReserve (start pairs words) log event)
+          → Among h (before.held ++ record { caller = r.caller; base = r.base; size = r.size } ∷ [])
           → slice_get behind (h.base + k) ≡ Some (own_at v.own (h.base + k))
       at r j =
           ⊎_elim stays
           (λ m. ⊎_elim (λ e. new r (ap (λ x. x.base) e) (ap (λ x. x.size) e)) (λ n. absurd n) m)
-          (among-append h before.held (record { caller = r.caller; base = r.base; size = r.size } ∷ []) j)
+          (among-append h before.held (record { caller = r.caller; base = r.base; size = r.size }
+              ∷ []) j)
 
   -- the rows that the author publishes stand in the words, where it stored them
-  rows_stand : (v : View) (caller : ℕ) → v.who ≡ Caller caller → Owns pairs words log image v → (rows : List Row)
+  rows_stand : (v : View) (caller : ℕ) → v.who ≡ Caller caller → Owns pairs words log image v
+      → (rows : List Row)
       → HoldsRows before caller rows → StoredAll v rows → RowsStand image rows
   rows_stand v caller who owns [] held stored = tt
   rows_stand v caller who owns (row ∷ rows) held stored = (
-    (λ k less. owns record { caller = caller; base = row.base; size = length row.words } held.0 who k less ∙ sym (stored.0 k less)),
+    (λ k less. owns record { caller = caller; base = row.base; size =
+        length row.words } held.0 who k less ∙ sym (stored.0 k less)),
     rows_stand v caller who owns rows held.1 stored.1,
   )
 
   -- the words behind an event of the seat are the image of the state behind it
-  pub image_behind : (v : View) → author event ≡ v.who → Owns pairs words log image v → StoredAll v (published_by event)
+  pub image_behind : (v : View) → author event ≡ v.who → Owns pairs words log image v
+      → StoredAll v (published_by event)
       → IsImage (state_of pairs words (event ∷ log)) behind
-  image_behind v mine owns stored = image_step pairs words opens log event enabled image is (at (publishes (start pairs words) log event enabled.1))
+  image_behind v mine owns stored =
+      image_step pairs words opens log event enabled image is
+      (at (publishes (start pairs words) log event enabled.1))
     where
       at : Publishes before event → RowsStand image (published_by event)
       at (publishes_none e) = subst (RowsStand image) (sym e) tt
-      at (publishes_held p) = rows_stand v p.caller (sym mine ∙ p.author_is) owns (published_by event) p.held stored
+      at (publishes_held p) = rows_stand v p.caller (sym mine ∙ p.author_is) owns
+          (published_by event) p.held stored

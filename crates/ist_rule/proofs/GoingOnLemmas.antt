@@ -18,7 +18,8 @@ use Rattle.ist_rule.proofs.EventLemmas.{callers-state, made_behind-grows, made_b
 -- a sound seat goes on to itself
 pub goes_on_same : (v : View) → IsSound v → GoesOnTo v v
 goes_on_same v s =
-    record { later = no_more; sound = s; same = refl; since = refl; more = []; loads = refl; loaded = le_refl v.loaded }
+    record { later = no_more; sound = s; same = refl; since = refl; more = []; loads =
+        refl; loaded = le_refl v.loaded }
 
 -- a load goes on
 pub looked_goes_on : (v : View) (place word : ℕ) (w : View) → Looked v place word w → GoesOnTo v w
@@ -26,7 +27,8 @@ looked_goes_on v place word w l =
     record {
       later = l.later;
       sound = l.sound;
-      same = l.view ∙ ap₂ (λ loads count. record v { log = w.log; loads = loads; loaded = count }) (sym (ap (λ x. x.loads) l.view)) (sym (ap (λ x. x.loaded) l.view));
+      same = l.view ∙ ap₂ (λ loads count. record v { log = w.log; loads = loads; loaded = count })
+          (sym (ap (λ x. x.loads) l.view)) (sym (ap (λ x. x.loaded) l.view));
       since = ap (λ x. x.loads.since) l.view;
       more = record { place = place; word = word; length = length w.log } ∷ [];
       loads = ap (λ x. x.loads.list) l.view;
@@ -43,10 +45,12 @@ goes_on_more u v w a b =
     record {
       later = later_more a.later (subst (λ x. Later x v.log w.log) (goes_on_who a) b.later);
       sound = b.sound;
-      same = b.same ∙ ap {B = View} (λ (x : View). record x { log = w.log; loads = w.loads; loaded = w.loaded }) a.same;
+      same = b.same ∙ ap {B = View} (λ (x : View). record x { log = w.log; loads = w.loads; loaded =
+          w.loaded }) a.same;
       since = b.since ∙ a.since;
       more = b.more ++ a.more;
-      loads = b.loads ∙ ap (λ xs. b.more ++ xs) a.loads ∙ sym (append_assoc b.more a.more u.loads.list);
+      loads = b.loads ∙ ap (λ xs. b.more ++ xs) a.loads ∙ sym
+          (append_assoc b.more a.more u.loads.list);
       loaded = le_trans a.loaded b.loaded;
     }
 
@@ -55,7 +59,8 @@ pub may_come_before : (v w : View) → GoesOnTo v w → (log : Log) → MayCome 
 may_come_before v w g log m =
     record {
       later = later_more g.later (subst (λ x. Later x w.log log) (goes_on_who g) m.later);
-      lawful = subst (λ p. Lawful p v.words log) (ap (λ x. x.start) g.same) (subst (λ n. Lawful w.start n log) (ap (λ x. x.words) g.same) m.lawful);
+      lawful = subst (λ p. Lawful p v.words log) (ap (λ x. x.start) g.same)
+          (subst (λ n. Lawful w.start n log) (ap (λ x. x.words) g.same) m.lawful);
     }
 
 -- ---- numbers
@@ -66,11 +71,14 @@ pub callers_later : {who : Who} (pairs : List Pair) (words : ℕ) (old log : Log
 callers_later pairs words old _ no_more = le_refl (state_of pairs words old).callers
 callers_later pairs words old _ (one_more {log = log} event l other) =
     le_trans (callers_later pairs words old log l)
-    (subst (λ n. (state_of pairs words log).callers ≤ n) (sym (callers-state (start pairs words) log event)) (made_behind-grows event (state_of pairs words log).callers))
+    (subst (λ n. (state_of pairs words log).callers ≤ n)
+        (sym (callers-state (start pairs words) log event))
+        (made_behind-grows event (state_of pairs words log).callers))
 
 -- others than the maker add none
 pub callers_by_others : (pairs : List Pair) (words : ℕ) (old log : Log) → Later Maker old log
     → (state_of pairs words log).callers ≡ (state_of pairs words old).callers
 callers_by_others pairs words old _ no_more = refl
 callers_by_others pairs words old _ (one_more {log = log} event l other) =
-    callers-state (start pairs words) log event ∙ made_by_others event (state_of pairs words log).callers other ∙ callers_by_others pairs words old log l
+    callers-state (start pairs words) log event ∙ made_by_others event
+        (state_of pairs words log).callers other ∙ callers_by_others pairs words old log l

@@ -23,7 +23,8 @@ use Rattle.ist_rule.proofs.FrameLemmas.{Table, as_it_was, moved, ended, spent_ca
 -- ---- lists
 
 -- what another index has
-other_set : {A : Type 0} (l : List A) (i j : ℕ) (a b : A) → i ≢ j → get_elem? l i ≡ some a → get_elem? (slice_set l j b) i ≡ some a
+other_set : {A : Type 0} (l : List A) (i j : ℕ) (a b : A) → i ≢ j → get_elem? l i ≡ some a
+    → get_elem? (slice_set l j b) i ≡ some a
 other_set [] i j a b ne e = e
 other_set (x ∷ xs) zero zero a b ne e = absurd (ne refl)
 other_set (x ∷ xs) zero (suc j) a b ne e = e
@@ -31,12 +32,14 @@ other_set (x ∷ xs) (suc i) zero a b ne e = e
 other_set (x ∷ xs) (suc i) (suc j) a b ne e = other_set xs i j a b (λ f. ne (ap suc f)) e
 
 -- two indices are set in any order
-set_set : {A : Type 0} (l : List A) (i j : ℕ) (a b : A) → i ≢ j → slice_set (slice_set l i a) j b ≡ slice_set (slice_set l j b) i a
+set_set : {A : Type 0} (l : List A) (i j : ℕ) (a b : A) → i ≢ j
+    → slice_set (slice_set l i a) j b ≡ slice_set (slice_set l j b) i a
 set_set [] i j a b ne = refl
 set_set (x ∷ xs) zero zero a b ne = absurd (ne refl)
 set_set (x ∷ xs) zero (suc j) a b ne = refl
 set_set (x ∷ xs) (suc i) zero a b ne = refl
-set_set (x ∷ xs) (suc i) (suc j) a b ne = ap (λ ys. x ∷ ys) (set_set xs i j a b (λ f. ne (ap suc f)))
+set_set (x ∷ xs) (suc i) (suc j) a b ne =
+    ap (λ ys. x ∷ ys) (set_set xs i j a b (λ f. ne (ap suc f)))
 
 -- a number is below another, or not
 below_or : (m n : ℕ) → (m < n) ⊎ (n ≤ m)
@@ -50,9 +53,12 @@ below_or m n = at (nat_lt m n) refl
 
 module _ (a b log : Log) (p : GoesOn a log) (q : GoesOn b log) where
   longer_is : (t : Bool) → nat_le (length b) (length a) ≡ t
-      → GoesOn a (if t then a else b) × GoesOn b (if t then a else b) × GoesOn (if t then a else b) log
-  longer_is true e = let h : length b ≤ length a = grind (arith, nat_tests, e) in (same_log, between q p h, p)
-  longer_is false e = let h : length a ≤ length b = grind (arith, nat_tests, e) in (between p q (omega arith), same_log, q)
+      → GoesOn a (if t then a else b) × GoesOn b (if t then a else b)
+          × GoesOn (if t then a else b) log
+  longer_is true e = let h : length b ≤ length a =
+      grind (arith, nat_tests, e) in (same_log, between q p h, p)
+  longer_is false e = let h : length a ≤ length b =
+      grind (arith, nat_tests, e) in (between p q (omega arith), same_log, q)
 
   -- both logs are prefixes of the longer, which is one of the whole
   pub longer_goes : GoesOn a (longer a b) × GoesOn b (longer a b) × GoesOn (longer a b) log
@@ -64,7 +70,8 @@ same_number m n e = cc
 le_max : (a b : ℕ) → a ≤ max a b
 le_max a b = omega arith
 
-module _ (k : About) (s : Table) (r : Kept k s) (id other : ℕ) (v w : View) (live : v.who ≢ Spent) (live' : w.who ≢ Spent) (can : CanJoin v w)
+module _ (k : About) (s : Table) (r : Kept k s) (id other : ℕ) (v w : View) (live : v.who ≢ Spent)
+    (live' : w.who ≢ Spent) (can : CanJoin v w)
     (mine : HasView s id v) (apart : other ≢ id) (theirs : HasView s other w) where
   f : Fits k r.log s.words v
   f = r.seats id v mine live
@@ -79,7 +86,8 @@ module _ (k : About) (s : Table) (r : Kept k s) (id other : ℕ) (v w : View) (l
   logs = longer_goes v.log w.log r.log (later-goes_on f.later) (later-goes_on g.later)
 
   -- what is asked of the callers that were taken back, with one that is joined now
-  with_one : (P : Taken → Type 0) → Each P v.taken → ((number : ℕ) → w.who ≡ Caller number → P (record { number = number; calls = w.calls }))
+  with_one : (P : Taken → Type 0) → Each P v.taken
+      → ((number : ℕ) → w.who ≡ Caller number → P (record { number = number; calls = w.calls }))
       → Each P both.taken
   with_one P all one = at w.who refl
     where
@@ -90,7 +98,8 @@ module _ (k : About) (s : Table) (r : Kept k s) (id other : ℕ) (v w : View) (l
       at Spent e = all
 
   -- a caller whose seat is there was not taken back
-  not_taken : (number : ℕ) → w.who ≡ Caller number → (taken : List Taken) → Each (IsRetired s r.log v) taken → ¬ (Among number (map (λ t. t.number) taken))
+  not_taken : (number : ℕ) → w.who ≡ Caller number → (taken : List Taken)
+      → Each (IsRetired s r.log v) taken → ¬ (Among number (map (λ t. t.number) taken))
   not_taken number is [] all i = absurd i
   not_taken number is (t ∷ more) all (inl e) = all.0.seatless other w theirs (is ∙ ap Caller e)
   not_taken number is (t ∷ more) all (inr i) = not_taken number is more all.1 i
@@ -100,7 +109,8 @@ module _ (k : About) (s : Table) (r : Kept k s) (id other : ℕ) (v w : View) (l
     where
       at : (x : Who) → w.who ≡ x → Distinct (map (λ t. t.number) (with_taken x w.calls v.taken))
       at Maker e = f.well_made.taken_once
-      at (Caller number) e = (not_taken number e v.taken (r.retired id v mine live), f.well_made.taken_once)
+      at (Caller number) e = (not_taken number e v.taken (r.retired id v mine live),
+          f.well_made.taken_once)
       at (Note of) e = f.well_made.taken_once
       at Spent e = f.well_made.taken_once
 
@@ -116,7 +126,9 @@ module _ (k : About) (s : Table) (r : Kept k s) (id other : ℕ) (v w : View) (l
   -- a caller that has a seat was given it
   given_low : (number : ℕ) → w.who ≡ Caller number → number < v.given
   given_low number is =
-      ⊎_elim (λ low. low) (λ high. absurd (r.unborn id v mine (can.to_maker number is) number high other w theirs is)) (below_or number v.given)
+      ⊎_elim (λ low. low) (λ high. absurd
+          (r.unborn id v mine (can.to_maker number is) number high other w theirs is))
+          (below_or number v.given)
 
   well_made_both : IsWellMade k.start.value.items k.words both
   well_made_both =
@@ -124,13 +136,16 @@ module _ (k : About) (s : Table) (r : Kept k s) (id other : ℕ) (v w : View) (l
       let h = g.well_made in
       record {
         stands = m.stands;
-        stamps = each_map (λ c. c.stamp ≤ v.stamp) (λ c. c.stamp ≤ max v.stamp w.stamp) v.calls (λ c _ le. let up = le_max v.stamp w.stamp in omega arith) m.stamps;
+        stamps = each_map (λ c. c.stamp ≤ v.stamp) (λ c. c.stamp ≤ max v.stamp w.stamp) v.calls
+            (λ c _ le. let up = le_max v.stamp w.stamp in omega arith) m.stamps;
         recalls = m.recalls;
         in_order = m.in_order;
         since = m.since;
         olds = (logs.0, (logs.1, tt));
-        taken_stand = with_one (λ t. StandsInPrefix k.start.value.items k.words both.log t.number t.calls) m.taken_stand
-            (λ number is. stands_on k.start.value.items k.words w.log both.log number w.calls logs.1 (h.stands number (subst (Keeps number) (sym is) its_own)));
+        taken_stand = with_one (λ t. StandsInPrefix k.start.value.items k.words both.log t.number
+            t.calls) m.taken_stand
+            (λ number is. stands_on k.start.value.items k.words w.log both.log number w.calls logs.1
+                (h.stands number (subst (Keeps number) (sym is) its_own)));
         taken_once = taken_once;
         taken_given = with_one (λ t. t.number < v.given) m.taken_given given_low;
         maker_takes = maker_takes;
@@ -156,7 +171,8 @@ module _ (k : About) (s : Table) (r : Kept k s) (id other : ℕ) (v w : View) (l
           taken = with_one (IsTakenBack k.start.value.items k.words r.log) t.taken
               (λ number is. record {
                 low = u.low number is;
-                between = subst (CallStands k.start.value.items k.words r.log number w.calls) can.in_none (u.call number is);
+                between = subst (CallStands k.start.value.items k.words r.log number w.calls)
+                    can.in_none (u.call number is);
               });
         };
       }
@@ -169,9 +185,11 @@ module _ (k : About) (s : Table) (r : Kept k s) (id other : ℕ) (v w : View) (l
   retired_both all =
       with_one (IsRetired s1 r.log both)
       (each_map (IsRetired s r.log v) (IsRetired s1 r.log both) v.taken
-      (λ t _ q. record { seen = later_longer q.seen logs.2 (goes_on_length logs.0); seatless = seatless t.number q.seatless }) all)
+      (λ t _ q. record { seen = later_longer q.seen logs.2 (goes_on_length logs.0); seatless =
+          seatless t.number q.seatless }) all)
       (λ number is. record {
-        seen = later_longer (subst (λ x. Later x w.log r.log) is g.later) logs.2 (goes_on_length logs.1);
+        seen = later_longer (subst (λ x. Later x w.log r.log) is g.later) logs.2
+            (goes_on_length logs.1);
         seatless = λ j x at same.
             ⊎_elim
             (λ b. spent_caller number (ap (λ y. y.who) b.1 ∙ same))
@@ -181,19 +199,28 @@ module _ (k : About) (s : Table) (r : Kept k s) (id other : ℕ) (v w : View) (l
     where
       seatless : (number : ℕ) → ((i : ℕ) (x : View) → HasView s i x → x.who ≢ Caller number)
           → (i : ℕ) (x : View) → HasView s1 i x → x.who ≢ Caller number
-      seatless number none i x at is = ⊎_elim (λ b. spent_caller number (ap (λ y. y.who) b.1 ∙ is)) (λ b. none i x b.1 is) (at_set s.views other i gone x at)
+      seatless number none i x at is =
+          ⊎_elim (λ b. spent_caller number (ap (λ y. y.who) b.1 ∙ is)) (λ b. none i x b.1 is)
+          (at_set s.views other i gone x at)
 
-  kept_both : Kept k (record { words = s.words; homes = s.homes; views = slice_set (slice_set s.views id both) other gone })
+  kept_both : Kept k (record { words = s.words; homes = s.homes; views =
+      slice_set (slice_set s.views id both) other gone })
   unfolding ended
   kept_both =
-      subst (λ vs. Kept k (record { words = s.words; homes = s.homes; views = vs })) (sym (set_set s.views id other both gone (λ e. apart (sym e))))
-      (moved k s1 (ended k s r other gone refl) id v both s.homes (other_set s.views id other v gone (λ e. apart (sym e)) mine) live refl (le_refl v.given) r.log s.words as_it_was r.lawful r.image
+      subst (λ vs. Kept k (record { words = s.words; homes = s.homes; views = vs }))
+          (sym (set_set s.views id other both gone (λ e. apart (sym e))))
+      (moved k s1 (ended k s r other gone refl) id v both s.homes
+          (other_set s.views id other v gone (λ e. apart (sym e)) mine) live refl (le_refl v.given)
+          r.log s.words as_it_was r.lawful r.image
       (λ i u at alive _ h. h) fits_both (retired_both (r.retired id v mine live)))
 
 -- a join keeps the rule
-pub joins : (k : About) (id other : ℕ) (v w : View) → v.who ≢ Spent → w.who ≢ Spent → CanJoin v w → Joins (Kept k) id v other w (joined v w) gone
+pub joins : (k : About) (id other : ℕ) (v w : View) → v.who ≢ Spent → w.who ≢ Spent → CanJoin v w
+    → Joins (Kept k) id v other w (joined v w) gone
 joins k id other v w live live' can s r mine apart there =
-    let theirs : HasView s other w = ⊎_elim (λ t. absurd (apart t.0)) (λ t. t.1) (at_set s.views id other (joined v w) w there) in
+    let theirs : HasView s other w =
+            ⊎_elim (λ t. absurd (apart t.0)) (λ t. t.1)
+            (at_set s.views id other (joined v w) w there) in
     kept_both k s r id other v w live live' can mine apart theirs
 
 -- the seat is live still

@@ -1,4 +1,5 @@
--- Logs that have gone on, by any events or by those of others. Serves what the rule says of the logs that seats have seen.
+-- Logs that have gone on, by any events or by those of others. Serves what the rule says of the
+-- logs that seats have seen.
 use Rattle.std.proofs.Common.{◌≢◌, ◌≤◌, length, arith}
 use Rattle.ist_core.specs.declared.events.Event.{Event}
 use Rattle.ist_core.specs.Logs.{Log, GoesOn, same_log, one_event}
@@ -32,7 +33,8 @@ between same_log (one_event event q) le = let short = goes_on_length q in absurd
 between (one_event event p) (one_event _ q) le = between p q le
 
 -- a longer prefix has the events of this one too
-pub later_longer : {who : Who} {a b log : Log} → Later who a log → GoesOn b log → length a ≤ length b
+pub later_longer : {who : Who} {a b log : Log} → Later who a log → GoesOn b log
+    → length a ≤ length b
     → Later who b log
 later_longer p same_log le = no_more
 later_longer no_more (one_event event q) le = let short = goes_on_length q in absurd (omega arith)
@@ -44,6 +46,7 @@ later_idle same_log idle = no_more
 later_idle (one_event event p) idle = one_more event (later_idle p idle.1) idle.0
 
 -- the same by those of events that went on
-pub later_any : {who : Who} → ((event : Event) → author event ≢ who) → {a b : Log} → GoesOn a b → Later who a b
+pub later_any : {who : Who} → ((event : Event) → author event ≢ who) → {a b : Log} → GoesOn a b
+    → Later who a b
 later_any none same_log = no_more
 later_any none (one_event event p) = one_more event (later_any none p) (none event)

@@ -10,11 +10,14 @@ pub mod FrameLemmas
 pub mod SoundViewLemmas
 pub mod LookLemmas
 pub mod LogLemmas
+pub mod LeavingLemmas
 pub mod HeldLemmas
 pub mod StoreLemmas
 pub mod TurnLemmas
 pub mod SplitLemmas
+pub mod SplitSeatLemmas
 pub mod JoinLemmas
 pub mod OpenLemmas
 pub mod GoingOnLemmas
 pub mod WatchLemmas
+pub mod WatchedLoadLemmas

@@ -36,11 +36,14 @@ use Rattle.ist_rule.proofs.FrameLemmas.{Table, by_event, moved}
 use Rattle.ist_rule.proofs.SoundViewLemmas.{as_view, as_table, sound_of}
 use Rattle.ist_rule.proofs.LookLemmas.{Goes, sees}
 
--- an event of the seat, enabled behind the longest log, and the words that its step leaves. The view counts so many loads
-module _ (k : About) (s : Table) (r : Kept k s) (id : ℕ) (me : Seated) (live : me.0.who ≢ Spent) (mine : HasView s id me.0) (event : Event) (make : CanMake me.0 event)
+-- an event of the seat, enabled behind the longest log, and the words that its step leaves. The
+-- view counts so many loads
+module _ (k : About) (s : Table) (r : Kept k s) (id : ℕ) (me : Seated) (live : me.0.who ≢ Spent)
+    (mine : HasView s id me.0) (event : Event) (make : CanMake me.0 event)
     (able : Enabled (start k.start.value.items k.words) r.log event) (words' : List ℕ) (count : ℕ)
-    (words_behind : touched s.words (touch_of (state_of k.start.value.items k.words r.log) event) ≡ words') where
-  abbrev v : View
+    (words_behind : touched s.words (touch_of (state_of k.start.value.items k.words r.log) event)
+        ≡ words') where
+  abbrev pub v : View
   v = me.0
 
   abbrev log' : Log
@@ -58,17 +61,22 @@ module _ (k : About) (s : Table) (r : Kept k s) (id : ℕ) (me : Seated) (live :
   owns_now : (u : View) → Fits k r.log s.words u → Owns k.start.value.items k.words log' words' u
   owns_now u g =
       subst (λ ws. Owns k.start.value.items k.words log' ws u) words_behind
-      (owns_behind k.start.value.items k.words r.lawful.opens r.log event enabled' s.words r.image u g.owns g.is_true.fresh)
+      (owns_behind k.start.value.items k.words r.lawful.opens r.log event enabled' s.words r.image u
+          g.owns g.is_true.fresh)
 
   -- the callers that were taken back are others
-  taken_by_others : (u : View) (taken : List Taken) → Each (IsRetired s r.log u) taken → Each (λ t. author event ≢ Caller t.number) taken
+  taken_by_others : (u : View) (taken : List Taken) → Each (IsRetired s r.log u) taken
+      → Each (λ t. author event ≢ Caller t.number) taken
   taken_by_others u [] all = tt
-  taken_by_others u (t ∷ more) all = ((λ e. all.0.seatless id v mine (sym make.mine ∙ e)), taken_by_others u more all.1)
+  taken_by_others u (t ∷ more) all =
+      ((λ e. all.0.seatless id v mine (sym make.mine ∙ e)), taken_by_others u more all.1)
 
   -- another seat
-  others : (i : ℕ) (u : View) → HasView s i u → u.who ≢ Spent → (IsNamed v.who → u.who ≢ v.who) → Fits k r.log s.words u → Fits k log' words' u
+  others : (i : ℕ) (u : View) → HasView s i u → u.who ≢ Spent → (IsNamed v.who → u.who ≢ v.who)
+      → Fits k r.log s.words u → Fits k log' words' u
   others i u at alive apart g =
-      let other : author event ≢ u.who = λ e. apart (subst IsNamed make.mine (author_named event)) (sym e ∙ make.mine) in
+      let other : author event ≢ u.who =
+              λ e. apart (subst IsNamed make.mine (author_named event)) (sym e ∙ make.mine) in
       record {
         start_is = g.start_is;
         words_is = g.words_is;
@@ -76,16 +84,20 @@ module _ (k : About) (s : Table) (r : Kept k s) (id : ℕ) (me : Seated) (live :
         owns = owns_now u g;
         well_made = g.well_made;
         is_true = true_of_others k.start.value.items k.words r.log event enabled' u other
-            (λ is number above e. r.unborn i u at is number above id v mine (sym make.mine ∙ e)) (taken_by_others u u.taken (r.retired i u at alive)) g.is_true;
+            (λ is number above e. r.unborn i u at is number above id v mine (sym make.mine ∙ e))
+                (taken_by_others u u.taken (r.retired i u at alive)) g.is_true;
       }
 
-  abbrev w : View
+  abbrev pub w : View
   w = record (logging v r.log event) { loaded = count }
 
   fits_own : Fits k log' words' w
   fits_own =
-      let m = well_made_on k.start.value.items k.words v log' (one_event event (later-goes_on f.later)) f.well_made in
-      let t = true_of_own k.start.value.items k.words r.log event enabled' v make.mine f.later f.start_is f.words_is make.allowed (taken_by_others v v.taken (r.retired id v mine live)) f.is_true in
+      let m = well_made_on k.start.value.items k.words v log'
+              (one_event event (later-goes_on f.later)) f.well_made in
+      let t = true_of_own k.start.value.items k.words r.log event enabled' v make.mine f.later
+              f.start_is f.words_is make.allowed
+              (taken_by_others v v.taken (r.retired id v mine live)) f.is_true in
       record {
         start_is = f.start_is;
         words_is = f.words_is;
@@ -104,62 +116,85 @@ module _ (k : About) (s : Table) (r : Kept k s) (id : ℕ) (me : Seated) (live :
           maker_takes = m.maker_takes;
           in_none = m.in_none;
         };
-        is_true = record { low = t.low; made = t.made; idle = t.idle; fresh = t.fresh; call = t.call; taken = t.taken };
+        is_true = record { low = t.low; made = t.made; idle = t.idle; fresh = t.fresh; call =
+            t.call; taken = t.taken };
       }
 
-  sound_now : IsSound w
+  pub sound_now : IsSound w
   sound_now = sound_of k words' w lawful' live fits_own
 
   pub kept : Kept k (record { words = words'; homes = s.homes; views = slice_set s.views id w })
   kept =
-      moved k s r id v w s.homes mine live refl (le_refl v.given) log' words' (by_event event make.mine) lawful'
+      moved k s r id v w s.homes mine live refl (le_refl v.given) log' words'
+          (by_event event make.mine) lawful'
       (subst (IsImage (state_of k.start.value.items k.words log')) words_behind
-      (image_behind k.start.value.items k.words r.lawful.opens r.log event enabled' s.words r.image v make.mine f.owns make.stored))
+      (image_behind k.start.value.items k.words r.lawful.opens r.log event enabled' s.words r.image
+          v make.mine f.owns make.stored))
       others fits_own
-      (each_map (IsRetired s r.log v) (IsRetired s log' w) v.taken (λ t _ q. record { seen = no_more; seatless = q.seatless }) (r.retired id v mine live))
+      (each_map (IsRetired s r.log v) (IsRetired s log' w) v.taken
+          (λ t _ q. record { seen = no_more; seatless = q.seatless }) (r.retired id v mine live))
 
 -- a step that writes the word of the event
-module _ (k : About) (s : Table) (r : Kept k s) (id : ℕ) (me : Seated) (live : me.0.who ≢ Spent) (mine : HasView s id me.0) (event : Event) (make : CanMake me.0 event)
+module _ (k : About) (s : Table) (r : Kept k s) (id : ℕ) (me : Seated) (live : me.0.who ≢ Spent)
+    (mine : HasView s id me.0) (event : Event) (make : CanMake me.0 event)
     (able : Enabled (start k.start.value.items k.words) r.log event) (place found left : ℕ)
-    (touches : touch_of (state_of k.start.value.items k.words r.log) event ≡ Some record { place = place; found = found; left = left }) where
+    (touches : touch_of (state_of k.start.value.items k.words r.log) event ≡ Some record { place =
+        place; found = found; left = left }) where
   pub logged : Logged me.0 event (logging me.0 r.log event)
   logged =
       record {
         before = r.log;
         later = (r.seats id me.0 mine live).later;
         view = refl;
-        sound = sound_now k s r id me live mine event make able (slice_set s.words place left) me.0.loaded (ap (touched s.words) touches);
+        sound = sound_now k s r id me live mine event make able (slice_set s.words place left)
+            me.0.loaded (ap (touched s.words) touches);
       }
 
-  pub logs : (tells : ℕ → Seated → Type 0) → (Logged me.0 event (logging me.0 r.log event) → tells (slice_index s.words place) (logging me.0 r.log event, me.1))
+  pub logs : (tells : ℕ → Seated → Type 0)
+      → (Logged me.0 event (logging me.0 r.log event)
+      → tells (slice_index s.words place) (logging me.0 r.log event, me.1))
       → Goes k s place id me tells left
   logs tells told =
-      (logging me.0 r.log event, keeps, tt, kept k s r id me live mine event make able (slice_set s.words place left) me.0.loaded (ap (touched s.words) touches), told logged)
+      (logging me.0 r.log event, keeps, tt, kept k s r id me live mine event make able
+          (slice_set s.words place left) me.0.loaded (ap (touched s.words) touches), told logged)
 
 -- ---- exchanges
 
 -- the word at a known place is what the image shows there
-shown_there : (k : About) (s : Table) (r : Kept k s) (v : View) (place : ℕ) → Fits k r.log s.words v → IsKnown v place
+pub shown_there : (k : About) (s : Table) (r : Kept k s) (v : View) (place : ℕ) → Fits k r.log s.words v
+    → IsKnown v place
     → IsShown (state_of v.start v.words r.log) place (slice_index s.words place)
 shown_there k s r v place f known =
-    let it = known r.log record { later = f.later; lawful = as_view k r.log s.words v f (λ p n. Lawful p n r.log) r.lawful } in
-    let shows = as_table k r.log s.words v f (λ p n. IsShown (state_of p n r.log) place it.0) it.1 in
-    let same : slice_index s.words place ≡ it.0 = get_or_from_slice_get s.words place it.0 0 (image_shows (state_of k.start.value.items k.words r.log) s.words r.image shows) in
+    let it = known r.log record { later = f.later; lawful =
+            as_view k r.log s.words v f (λ p n. Lawful p n r.log) r.lawful } in
+    let shows = as_table k r.log s.words v f (λ p n. IsShown (state_of p n r.log) place it.0)
+            it.1 in
+    let same : slice_index s.words place ≡ it.0 =
+            get_or_from_slice_get s.words place it.0 0
+            (image_shows (state_of k.start.value.items k.words r.log) s.words r.image shows) in
     subst (IsShown (state_of v.start v.words r.log) place) (sym same) it.1
 
 -- what comes behind the longest log
-comes_here : (k : About) (s : Table) (r : Kept k s) (v : View) (f : Fits k r.log s.words v) (event : Event) (place found left : ℕ)
+pub comes_here : (k : About) (s : Table) (r : Kept k s) (v : View) (f : Fits k r.log s.words v)
+    (event : Event) (place found left : ℕ)
     → ComesAt v r.log event place found left
-    → Enabled (start k.start.value.items k.words) r.log event × (touch_of (state_of k.start.value.items k.words r.log) event ≡ Some record { place = place; found = found; left = left })
+    → Enabled (start k.start.value.items k.words) r.log event
+        × (touch_of (state_of k.start.value.items k.words r.log) event ≡ Some record { place =
+        place; found = found; left = left })
 comes_here k s r v f event place found left c =
-    as_table k r.log s.words v f (λ p n. Enabled (start p n) r.log event × (touch_of (state_of p n r.log) event ≡ Some record { place = place; found = found; left = left }))
+    as_table k r.log s.words v f (λ p n. Enabled (start p n) r.log event
+        × (touch_of (state_of p n r.log) event ≡ Some record { place = place; found = found; left =
+        left }))
     (c.enabled, c.touches)
 
-may_come : (k : About) (s : Table) (r : Kept k s) (v : View) → Fits k r.log s.words v → MayCome v r.log
-may_come k s r v f = record { later = f.later; lawful = as_view k r.log s.words v f (λ p n. Lawful p n r.log) r.lawful }
+pub may_come : (k : About) (s : Table) (r : Kept k s) (v : View) → Fits k r.log s.words v
+    → MayCome v r.log
+may_come k s r v f = record { later = f.later; lawful =
+    as_view k r.log s.words v f (λ p n. Lawful p n r.log) r.lawful }
 
 -- an exchange is its event where it finds the word, and a load where it doesn't
-pub exchange_moves : (k : About) (slots id : ℕ) (me : Seated) (place old new : ℕ) (event : Event) (then : ℕ → Seated → Type 0)
+pub exchange_moves : (k : About) (slots id : ℕ) (me : Seated) (place old new : ℕ) (event : Event)
+    (then : ℕ → Seated → Type 0)
     → me.0.who ≢ Spent → CanExchange me.0 place old new event
     → ((found : ℕ) (w : View) → Exchanged me.0 event place old found w → then found (w, me.1))
     → Allows (Kept k) slots id me place (λ n. either (eqb n old) new n) then
@@ -169,13 +204,18 @@ exchange_moves k slots id me place old new event then live can told s r _ mine f
     let f = r.seats id v mine live in
     exchanged x old new (λ y. Goes k s place id me then y)
     (λ hit.
-    let it = comes_here k s r v f event place old new (can.comes r.log (may_come k s r v f) (subst (IsShown (state_of v.start v.words r.log) place) hit (shown_there k s r v place f can.known))) in
+    let it = comes_here k s r v f event place old new
+            (can.comes r.log (may_come k s r v f)
+            (subst (IsShown (state_of v.start v.words r.log) place) hit
+            (shown_there k s r v place f can.known))) in
     logs k s r id me live mine event can.make it.0 place old new it.1 then
     (λ l. told x (logging v r.log event) ((λ _. l), (λ miss. absurd (miss hit)))))
-    (λ miss. sees k s r id me place then live mine fits (λ l. told x (seeing v r.log place x) ((λ hit. absurd (miss hit)), (λ _. l))))
+    (λ miss. sees k s r id me place then live mine fits
+        (λ l. told x (seeing v r.log place x) ((λ hit. absurd (miss hit)), (λ _. l))))
 
 -- an add is the event that is named for the word that it finds
-pub add_moves : (k : About) (slots id : ℕ) (me : Seated) (place : ℕ) (named : ℕ → Event) (then : ℕ → Seated → Type 0)
+pub add_moves : (k : About) (slots id : ℕ) (me : Seated) (place : ℕ) (named : ℕ → Event) (then : ℕ
+    → Seated → Type 0)
     → me.0.who ≢ Spent → CanAdd me.0 place named
     → ((found : ℕ) (w : View) → Logged me.0 (named found) w → then found (w, me.1))
     → Allows (Kept k) slots id me place (λ n. (n + 1) % 2 ^ 64) then
@@ -184,122 +224,36 @@ add_moves k slots id me place named then live can told s r _ mine fits =
     let v = me.0 in
     let f = r.seats id v mine live in
     let shows = shown_there k s r v place f can.known in
-    let it = comes_here k s r v f (named x) place x (x + 1) (can.comes r.log (may_come k s r v f) x shows) in
-    subst (λ y. Goes k s place id me then y) (sym (mod-eq_of_lt (can.fits r.log (may_come k s r v f) x shows)))
-    (logs k s r id me live mine (named x) (can.make x) it.0 place x (x + 1) it.1 then (λ l. told x (logging v r.log (named x)) l))
+    let it = comes_here k s r v f (named x) place x (x + 1)
+            (can.comes r.log (may_come k s r v f) x shows) in
+    subst (λ y. Goes k s place id me then y)
+        (sym (mod-eq_of_lt (can.fits r.log (may_come k s r v f) x shows)))
+    (logs k s r id me live mine (named x) (can.make x) it.0 place x (x + 1) it.1 then
+        (λ l. told x (logging v r.log (named x)) l))
 
 -- an add that may be made keeps the rule
-pub adds_moves : (k : About) (slots id : ℕ) (me : Seated) (place : ℕ) (named : ℕ → Event) → me.0.who ≢ Spent → CanAdd me.0 place named
-    → Allows (Kept k) slots id me place (λ n. (n + 1) % 2 ^ 64) (adds named (step slots place 1 0 maybe.none) me)
+pub adds_moves : (k : About) (slots id : ℕ) (me : Seated) (place : ℕ) (named : ℕ → Event)
+    → me.0.who ≢ Spent → CanAdd me.0 place named
+    → Allows (Kept k) slots id me place (λ n. (n + 1) % 2 ^ 64)
+        (adds named (step slots place 1 0 maybe.none) me)
 adds_moves k slots id me place named live can =
-    add_moves k slots id me place named (adds named (step slots place 1 0 maybe.none) me) live can (λ found w l. (l, refl))
+    add_moves k slots id me place named (adds named (step slots place 1 0 maybe.none) me) live can
+        (λ found w l. (l, refl))
 
 -- an exchange that may be made keeps the rule
-pub exchanges_moves : (k : About) (slots id : ℕ) (me : Seated) (place old new : ℕ) (event : Event) → me.0.who ≢ Spent → CanExchange me.0 place old new event
-    → Allows (Kept k) slots id me place (λ n. either (eqb n old) new n) (exchanges event (step slots place old new maybe.none) me)
+pub exchanges_moves : (k : About) (slots id : ℕ) (me : Seated) (place old new : ℕ) (event : Event)
+    → me.0.who ≢ Spent → CanExchange me.0 place old new event
+    → Allows (Kept k) slots id me place (λ n. either (eqb n old) new n)
+        (exchanges event (step slots place old new maybe.none) me)
 exchanges_moves k slots id me place old new event live can =
-    exchange_moves k slots id me place old new event (exchanges event (step slots place old new maybe.none) me) live can (λ found w l. (l, refl))
+    exchange_moves k slots id me place old new event
+        (exchanges event (step slots place old new maybe.none) me) live can (λ found w l. (l, refl))
 
 -- a seat that made an exchange is sound, of the same table
-pub exchanged_sound : (v : View) (event : Event) (place old found : ℕ) (w : View) → Exchanged v event place old found w → IsSound w × (w.words ≡ v.words)
+pub exchanged_sound : (v : View) (event : Event) (place old found : ℕ) (w : View)
+    → Exchanged v event place old found w → IsSound w × (w.words ≡ v.words)
 exchanged_sound v event place old found w e =
     ⊎_elim
     (λ hit. let l = e.0 hit.1 in (l.sound, ap (λ y. y.words) l.view))
     (λ miss. let l = e.1 miss.1 in (l.sound, ap (λ y. y.words) l.view))
     (eqb_tells found old)
-
--- ---- steps that leave the word, and are events
-
--- what the event leaves of the words is all of them
-words_stay : (s : Table) (place : ℕ) (o : Option Touch)
-    → (o ≡ Some record { place = place; found = slice_index s.words place; left = slice_index s.words place }) ⊎ (o ≡ None)
-    → touched s.words o ≡ s.words
-words_stay s place o (inl e) = ap (touched s.words) e ∙ set-get_or s.words place 0
-words_stay s place o (inr e) = ap (touched s.words) e
-
--- an event at a step that leaves the word
-module _ (k : About) (s : Table) (r : Kept k s) (id : ℕ) (me : Seated) (live : me.0.who ≢ Spent) (mine : HasView s id me.0) (place : ℕ) (event : Event) (make : CanMake me.0 event)
-    (l : LeavesAt me.0 r.log event place (slice_index s.words place)) where
-  abbrev u : View
-  u = logging_load me.0 r.log event
-
-  there : Enabled (start k.start.value.items k.words) r.log event
-      × ((touch_of (state_of k.start.value.items k.words r.log) event ≡ Some record { place = place; found = slice_index s.words place; left = slice_index s.words place })
-      ⊎ (touch_of (state_of k.start.value.items k.words r.log) event ≡ None))
-  there =
-      as_table k r.log s.words me.0 (r.seats id me.0 mine live)
-      (λ p n. Enabled (start p n) r.log event
-      × ((touch_of (state_of p n r.log) event ≡ Some record { place = place; found = slice_index s.words place; left = slice_index s.words place })
-      ⊎ (touch_of (state_of p n r.log) event ≡ None)))
-      (l.enabled, l.leaves)
-
-  abbrev logged_load : LoggedLoad me.0 event place (slice_index s.words place) u
-  logged_load =
-      let f = r.seats id me.0 mine live in
-      record {
-        before = r.log;
-        later = f.later;
-        view = refl;
-        sound = sound_now k s r id me live mine event make there.0 s.words (me.0.loaded + 1) (words_stay s place _ there.1);
-        stood = as_view k r.log s.words me.0 f (λ p n. (shown : ℕ) → IsShown (state_of p n r.log) place shown → slice_index s.words place ≡ shown)
-            (λ shown is. get_or_from_slice_get s.words place shown 0 (image_shows (state_of k.start.value.items k.words r.log) s.words r.image is));
-      }
-
-  pub stays : (tells : ℕ → Seated → Type 0) → ((l : LoggedLoad me.0 event place (slice_index s.words place) u) → l.before ≡ r.log → tells (slice_index s.words place) (u, me.1))
-      → Goes k s place id me tells (slice_index s.words place)
-  stays tells told = (
-    u,
-    keeps,
-    tt,
-    subst (λ ws. Kept k (record { words = ws; homes = s.homes; views = slice_set s.views id u })) (sym (set-get_or s.words place 0))
-        (kept k s r id me live mine event make there.0 s.words (me.0.loaded + 1) (words_stay s place _ there.1)),
-    told logged_load refl,
-  )
-
--- a load that is an event where it is named so keeps the rule
-pub loads_as_moves : (k : About) (slots id : ℕ) (me : Seated) (place : ℕ) (named : Naming) → me.0.who ≢ Spent → CanLoadAs me.0 place named
-    → Allows (Kept k) slots id me place (λ n. n) (loads_as named (step slots place 0 0 maybe.none) me)
-loads_as_moves k slots id me place named live can s r _ mine fits = at (named r.log (slice_index s.words place)) refl
-  where
-    tells : ℕ → Seated → Type 0
-    tells = loads_as named (step slots place 0 0 maybe.none) me
-
-    at : (o : Option Event) → named r.log (slice_index s.words place) ≡ o → Goes k s place id me tells (slice_index s.words place)
-    at (Some event) e =
-        let f = r.seats id me.0 mine live in
-        let it = can.comes r.log (may_come k s r me.0 f) (slice_index s.words place) (shown_there k s r me.0 place f can.known) event e in
-        stays k s r id me live mine place event it.0 it.1 tells (λ l at_log. (as_event event l (ap (λ log. named log (slice_index s.words place)) at_log ∙ e), refl))
-    at None e = sees k s r id me place tells live mine fits (λ l. (as_load l e, refl))
-
--- an exchange that is an event either way keeps the rule
-pub exchanges_or_loses_moves : (k : About) (slots id : ℕ) (me : Seated) (place old new : ℕ) (events : Event × Event) → me.0.who ≢ Spent
-    → CanExchangeOrLose me.0 place old new events.0 events.1
-    → Allows (Kept k) slots id me place (λ n. either (eqb n old) new n) (exchanges_or_loses events (step slots place old new maybe.none) me)
-exchanges_or_loses_moves k slots id me place old new events live can s r _ mine fits =
-    let x : ℕ = slice_index s.words place in
-    let v = me.0 in
-    let f = r.seats id v mine live in
-    let shown = shown_there k s r v place f can.hit.known in
-    let tells : ℕ → Seated → Type 0 = exchanges_or_loses events (step slots place old new maybe.none) me in
-    exchanged x old new (λ y. Goes k s place id me tells y)
-    (λ hit.
-    let it = comes_here k s r v f events.0 place old new (can.hit.comes r.log (may_come k s r v f) (subst (IsShown (state_of v.start v.words r.log) place) hit shown)) in
-    logs k s r id me live mine events.0 can.hit.make it.0 place old new it.1 tells
-    (λ l. (((λ _. l), (λ miss. absurd (miss hit))), refl)))
-    (λ miss.
-    stays k s r id me live mine place events.1 can.make (can.miss r.log (may_come k s r v f) x shown miss) tells
-    (λ l at_log. (((λ hit. absurd (miss hit)), (λ _. l)), refl)))
-
--- a seat that made an exchange that is an event either way is sound, of the same table
-pub exchanged_or_lost_sound : (v : View) (event lost : Event) (place old found : ℕ) (w : View) → ExchangedOrLost v event lost place old found w
-    → IsSound w × (w.words ≡ v.words)
-exchanged_or_lost_sound v event lost place old found w e =
-    ⊎_elim
-    (λ hit. let l = e.0 hit.1 in (l.sound, ap (λ y. y.words) l.view))
-    (λ miss. let l = e.1 miss.1 in (l.sound, ap (λ y. y.words) l.view))
-    (eqb_tells found old)
-
--- so is one that made a load that may be an event
-pub loaded_as_sound : (v : View) (named : Naming) (place word : ℕ) (w : View) → LoadedAs v named place word w → IsSound w × (w.words ≡ v.words)
-loaded_as_sound v named place word w (as_event event l e) = (l.sound, ap (λ y. y.words) l.view)
-loaded_as_sound v named place word w (as_load l e) = (l.sound, ap (λ y. y.words) l.view)

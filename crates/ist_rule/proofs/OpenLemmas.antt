@@ -54,7 +54,8 @@ first_true pairs words =
     }
 
 -- the seat of a new table is sound
-pub first_sound : (pairs : List Pair) (words : ℕ) → CanOpen pairs words → IsSound (opened_view pairs words)
+pub first_sound : (pairs : List Pair) (words : ℕ) → CanOpen pairs words
+    → IsSound (opened_view pairs words)
 first_sound pairs words opens =
     record {
       lawful = record { opens = opens; enabled = tt };
@@ -68,7 +69,8 @@ only v zero u e = (some-injective v u e, refl)
 only v (suc i) u e = absurd (some-ne-none u (sym e))
 
 -- a new table is under the rule
-pub opens : (k : About) (words : List ℕ) → CanOpen k.start.value.items k.words → IsImage (start k.start.value.items k.words) words → Kept k (opening words [] (first_view k))
+pub opens : (k : About) (words : List ℕ) → CanOpen k.start.value.items k.words
+    → IsImage (start k.start.value.items k.words) words → Kept k (opening words [] (first_view k))
 opens k words can image =
     let v = first_view k in
     record {
@@ -85,17 +87,22 @@ opens k words can image =
             is_true = first_true k.start.value.items k.words;
           };
       apart = λ i j u x at bt named same. (only v j x bt).1 ∙ sym (only v i u at).1;
-      unborn = λ i u at maker number above j x bt is. maker_caller number (sym (ap (λ y. y.who) (sym (only v j x bt).0)) ∙ is);
-      retired = λ i u at live. subst (λ y. Each (IsRetired (opening words [] v) [] y) y.taken) (only v i u at).0 tt;
+      unborn = λ i u at maker number above j x bt is. maker_caller number
+          (sym (ap (λ y. y.who) (sym (only v j x bt).0)) ∙ is);
+      retired = λ i u at live. subst (λ y. Each (IsRetired (opening words [] v) [] y) y.taken)
+          (only v i u at).0 tt;
     }
 
 -- what the words are behind the last step
-pub closes : (k : About) (id : ℕ) (v : View) (words : List ℕ) (slots : List (Unit {0})) → v.who ≢ Spent → Final (Seen (Kept k) id v) words slots → IsLast v words
+pub closes : (k : About) (id : ℕ) (v : View) (words : List ℕ) (slots : List (Unit {0}))
+    → v.who ≢ Spent → Final (Seen (Kept k) id v) words slots → IsLast v words
 closes k id v words slots live fin =
     let s = fin.0 in
     let r : Kept k s = fin.1.0 in
     let f = r.seats id v fin.1.1 live in
-    let it = as_view k r.log s.words v f (λ p n. Lawful p n r.log × IsImage (state_of p n r.log) s.words × IsWellMade p n v × IsTrueIn p n r.log v) (r.lawful, r.image, f.well_made, f.is_true) in
+    let it = as_view k r.log s.words v f (λ p n. Lawful p n r.log
+            × IsImage (state_of p n r.log) s.words × IsWellMade p n v × IsTrueIn p n r.log v)
+            (r.lawful, r.image, f.well_made, f.is_true) in
     record {
       log = r.log;
       later = f.later;

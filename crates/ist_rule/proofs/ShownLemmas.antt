@@ -1,4 +1,5 @@
--- Which words the image of a state fixes, and which it leaves to callers. Serves what the rule says of words.
+-- Which words the image of a state fixes, and which it leaves to callers. Serves what the rule says
+-- of words.
 use Rattle.std.proofs.Common.{◌≡◌, ◌≢◌, ℕ, ◌+◌, ◌<◌, ◌≤◌, List, slice_get, slice_set, Some, None, Option, sym, ◌∙◌, subst, ⊎_elim, arith}
 use Rattle.std.proofs.Math.ListN.{length-set}
 use Rattle.ist_core.specs.declared.pairs.Pair.{Pair}
@@ -24,13 +25,15 @@ use Rattle.ist_core.proofs.TouchLemmas.{touches}
 use Rattle.ist_rule.specs.Shown.{IsShown, shown_next, shown_callers, shown_status, shown_slot, shown_row, shown_free}
 
 -- the image has each word that is shown
-pub image_shows : (t : Snapshot) (image : List ℕ) → IsImage t image → {place word : ℕ} → IsShown t place word
+pub image_shows : (t : Snapshot) (image : List ℕ) → IsImage t image → {place word : ℕ}
+    → IsShown t place word
     → slice_get image place ≡ Some word
 image_shows t image is shown_next = is.next
 image_shows t image is shown_callers = is.callers
 image_shows t image is shown_status = is.anchor_status
 image_shows t image is shown_slot = is.anchor_slot
-image_shows t image is (shown_row base p k e at) = is.rows base p e k (get_below (words_of p) k _ at) ∙ at
+image_shows t image is (shown_row base p k e at) =
+    is.rows base p e k (get_below (words_of p) k _ at) ∙ at
 image_shows t image is (shown_free low high) = is.free _ low high
 
 -- ---- words that the image leaves to callers
@@ -39,7 +42,8 @@ image_shows t image is (shown_free low high) = is.free _ low high
 pub record IsLoose (t : Snapshot) (place : ℕ) : Type 0 where
   pub low : first_row ≤ place
   pub below : place < t.next
-  pub out : (base : ℕ) (p : Piece) → t.pieces base ≡ Some p → (k : ℕ) → k < size_of p → place ≢ base + k
+  pub out : (base : ℕ) (p : Piece) → t.pieces base ≡ Some p → (k : ℕ) → k < size_of p
+      → place ≢ base + k
 
 -- a loose place may hold any word
 pub loose_set : (t : Snapshot) (image : List ℕ) (place word : ℕ) → IsLoose t place → IsImage t image
@@ -51,10 +55,14 @@ loose_set t image place word loose is =
       size = length-set image place word ∙ is.size;
       next = get-set_other image place next_place word (λ e. omega arith) ∙ is.next;
       callers = get-set_other image place callers_place word (λ e. omega arith) ∙ is.callers;
-      anchor_status = get-set_other image place anchor_status_place word (λ e. omega arith) ∙ is.anchor_status;
-      anchor_slot = get-set_other image place anchor_slot_place word (λ e. omega arith) ∙ is.anchor_slot;
-      rows = λ base p e k less. get-set_other image place (base + k) word (λ f. loose.out base p e k less (sym f)) ∙ is.rows base p e k less;
-      free = λ q far in_it. get-set_other image place q word (λ e. omega arith) ∙ is.free q far in_it;
+      anchor_status = get-set_other image place anchor_status_place word (λ e. omega arith) ∙
+          is.anchor_status;
+      anchor_slot = get-set_other image place anchor_slot_place word (λ e. omega arith) ∙
+          is.anchor_slot;
+      rows = λ base p e k less. get-set_other image place (base + k) word
+          (λ f. loose.out base p e k less (sym f)) ∙ is.rows base p e k less;
+      free = λ q far in_it. get-set_other image place q word (λ e. omega arith) ∙ is.free q far
+          in_it;
     }
 
 get_there : (xs : List ℕ) (place word : ℕ) → slice_get xs place ≡ Some word → (w : ℕ)
@@ -67,7 +75,8 @@ some_one e = cc
 one_touch : (o : Option Touch) (a b : Touch) → o ≡ Some a → o ≡ Some b → a ≡ b
 one_touch o a b e f = cc
 
-module _ (pairs : List Pair) (words : ℕ) (log : Log) (enabled : EachEnabled (start pairs words) log) where
+module _ (pairs : List Pair) (words : ℕ) (log : Log) (enabled : EachEnabled (start pairs words) log)
+    where
   -- the words of held rows are loose
   pub held_loose : (h : HeldRow) → Among h (state_of pairs words log).held → (k : ℕ) → k < h.size
       → IsLoose (state_of pairs words log) (h.base + k)
@@ -82,25 +91,31 @@ module _ (pairs : List Pair) (words : ℕ) (log : Log) (enabled : EachEnabled (s
         below = omega arith;
         out = λ base p e j small same.
             ⊎_elim
-            (λ one. no_piece ((state_of pairs words log).pieces base) p (subst (λ b. (state_of pairs words log).pieces b ≡ None) one.0 (s.unpublished h i)) e)
+            (λ one. no_piece ((state_of pairs words log).pieces base) p
+                (subst (λ b. (state_of pairs words log).pieces b ≡ None) one.0 (s.unpublished h i))
+                e)
             (λ two. ⊎_elim (λ le. omega arith) (λ le. omega arith) two.1)
-            (claimed_apart pairs words log h.base h.size base (size_of p) enabled claimed ((placed pairs words log enabled).published base p e));
+            (claimed_apart pairs words log h.base h.size base (size_of p) enabled claimed
+                ((placed pairs words log enabled).published base p e));
       }
 
   -- no event touches a loose word: any word may stand there, and the event finds one
-  pub touch_tight : CanOpen pairs words → (image : List ℕ) → IsImage (state_of pairs words log) image
+  pub touch_tight : CanOpen pairs words → (image : List ℕ)
+      → IsImage (state_of pairs words log) image
       → (event : Event) → Enabled (start pairs words) log event → IsNoLose event → (touch : Touch)
       → touch_of (state_of pairs words log) event ≡ Some touch
       → ¬ (IsLoose (state_of pairs words log) touch.place)
   touch_tight opens image is event able some touch e loose =
       let one = touches pairs words opens log enabled image is event able some in
       let here = one_touch (touch_of (state_of pairs words log) event) one.touch touch one.is e in
-      let found : slice_get image touch.place ≡ Some touch.found = subst (λ t. slice_get image t.place ≡ Some t.found) here one.found in
+      let found : slice_get image touch.place ≡ Some touch.found =
+              subst (λ t. slice_get image t.place ≡ Some t.found) here one.found in
       let other : List ℕ = slice_set image touch.place (touch.found + 1) in
       let is' = loose_set (state_of pairs words log) image touch.place (touch.found + 1) loose is in
       let two = touches pairs words opens log enabled other is' event able some in
       let there = one_touch (touch_of (state_of pairs words log) event) two.touch touch two.is e in
-      let found' : slice_get other touch.place ≡ Some touch.found = subst (λ t. slice_get other t.place ≡ Some t.found) there two.found in
+      let found' : slice_get other touch.place ≡ Some touch.found =
+              subst (λ t. slice_get other t.place ≡ Some t.found) there two.found in
       let now = get_there image touch.place touch.found found (touch.found + 1) in
       let same : touch.found + 1 ≡ touch.found = some_one (sym now ∙ found') in
       omega arith

@@ -1,4 +1,5 @@
--- Splitting a seat: a note, or the seat of the caller that was entered last. Serves the step `split`.
+-- Splitting a seat: a note, or the seat of the caller that was entered last. Serves the step
+-- `split`.
 use Rattle.std.proofs.Common.{◌≡◌, ◌≢◌, ℕ, zero, suc, ◌+◌, ◌<◌, ◌≤◌, ◌⊎◌, ◌&&◌, nat_lt, Bool, true, false, if◌then◌else◌, List, [], ◌∷◌, ◌++◌, slice_set, Option, Some, None, refl, sym, ap, ◌∙◌, subst, le_refl, inl, inr, ⊎_elim, arith}
 use Rattle.std.proofs.lemmas.Bool.Decides.{nat_tests}
 use mathlib.Core.Option.{some, some-injective, some-ne-none}
@@ -22,22 +23,22 @@ use Rattle.ist_rule.proofs.HeldLemmas.{idle_holds, idle_between}
 use Rattle.ist_rule.proofs.FitLemmas.{each_map}
 use Rattle.ist_rule.proofs.FrameLemmas.{Table, as_it_was, moved, grown}
 
-note_caller : (of : Option ℕ) (number : ℕ) → Note of ≡ Caller number → ⊥
+pub note_caller : (of : Option ℕ) (number : ℕ) → Note of ≡ Caller number → ⊥
 note_caller of number e = cc
 
-note_maker : (of : Option ℕ) → Note of ≡ Maker → ⊥
+pub note_maker : (of : Option ℕ) → Note of ≡ Maker → ⊥
 note_maker of e = cc
 
-note_spent : (of : Option ℕ) → Note of ≡ Spent → ⊥
+pub note_spent : (of : Option ℕ) → Note of ≡ Spent → ⊥
 note_spent of e = cc
 
-caller_maker : (number : ℕ) → Caller number ≡ Maker → ⊥
+pub caller_maker : (number : ℕ) → Caller number ≡ Maker → ⊥
 caller_maker number e = cc
 
 maker_caller : (number : ℕ) → Maker ≡ Caller number → ⊥
 maker_caller number e = cc
 
-caller_spent : (number : ℕ) → Caller number ≡ Spent → ⊥
+pub caller_spent : (number : ℕ) → Caller number ≡ Spent → ⊥
 caller_spent number e = cc
 
 maker_or : (w : Who) → (w ≡ Maker) ⊎ (w ≢ Maker)
@@ -46,11 +47,11 @@ maker_or (Caller number) = inr (caller_maker number)
 maker_or (Note of) = inr (note_maker of)
 maker_or Spent = inr (λ e. absurd (cc))
 
-same_number : (m n : ℕ) → Caller m ≡ Caller n → m ≡ n
+pub same_number : (m n : ℕ) → Caller m ≡ Caller n → m ≡ n
 same_number m n e = cc
 
 -- what a note keeps its seat kept
-keeps_note : (number : ℕ) (w : Who) → Keeps number (Note (noted_by w)) → Keeps number w
+pub keeps_note : (number : ℕ) (w : Who) → Keeps number (Note (noted_by w)) → Keeps number w
 keeps_note number w k = at k refl
   where
     some_one : (a b : ℕ) → Some a ≡ Some b → a ≡ b
@@ -58,7 +59,8 @@ keeps_note number w k = at k refl
 
     from : (x : Who) → noted_by x ≡ Some number → Keeps number x
     from Maker e = absurd (cc)
-    from (Caller other) e = subst (λ n. Keeps number (Caller n)) (sym (some_one other number e)) its_own
+    from (Caller other) e = subst (λ n. Keeps number (Caller n)) (sym (some_one other number e))
+        its_own
     from (Note of) e = subst (λ o. Keeps number (Note o)) (sym e) noted
     from Spent e = absurd (cc)
 
@@ -75,15 +77,18 @@ empty_prefix [] = same_log
 empty_prefix (event ∷ log) = one_event event (empty_prefix log)
 
 -- no call stands in any log
-none_stands : (pairs : List Pair) (words : ℕ) (log : Log) (number : ℕ) → StandsInPrefix pairs words log number []
+pub none_stands : (pairs : List Pair) (words : ℕ) (log : Log) (number : ℕ)
+    → StandsInPrefix pairs words log number []
 none_stands pairs words log number =
     record {
       prefix = [];
       goes_on = empty_prefix log;
-      stands = record { made = λ call i. absurd i; exactly = refl; read = λ call i. absurd i; in_order = tt };
+      stands = record { made = λ call i. absurd i; exactly = refl; read =
+          λ call i. absurd i; in_order = tt };
     }
 
-module _ (k : About) (s : Table) (r : Kept k s) (id : ℕ) (v : View) (live : v.who ≢ Spent) (mine : HasView s id v) where
+module _ (k : About) (s : Table) (r : Kept k s) (id : ℕ) (v : View) (live : v.who ≢ Spent)
+    (mine : HasView s id v) where
   f : Fits k r.log s.words v
   f = r.seats id v mine live
 
@@ -122,12 +127,15 @@ module _ (k : About) (s : Table) (r : Kept k s) (id : ℕ) (v : View) (live : v.
       }
 
   -- a note's seat is split from the seat
-  splits_note : Kept k (record { words = s.words; homes = s.homes; views = slice_set s.views id v ++ (plain v (Note (noted_by v.who)) v.calls) ∷ [] })
+  pub splits_note : Kept k (record { words = s.words; homes = s.homes; views =
+      slice_set s.views id v ++ (plain v (Note (noted_by v.who)) v.calls) ∷ [] })
   splits_note =
       let u = plain v (Note (noted_by v.who)) v.calls in
       let of = noted_by v.who in
-      subst (λ vs. Kept k (record { words = s.words; homes = s.homes; views = vs ++ u ∷ [] })) (sym (set_again s.views id v mine))
-      (grown k s r u fits_note refl (λ named. absurd named) (note_maker of) (λ i x at maker number above is. note_caller of number is)
+      subst (λ vs. Kept k (record { words = s.words; homes = s.homes; views = vs ++ u ∷ [] }))
+          (sym (set_again s.views id v mine))
+      (grown k s r u fits_note refl (λ named. absurd named) (note_maker of)
+          (λ i x at maker number above is. note_caller of number is)
       (λ i x at alive. all_apart x.taken))
     where
       all_apart : (taken : List Taken) → Each (λ t. Note (noted_by v.who) ≢ Caller t.number) taken
@@ -145,7 +153,8 @@ module _ (k : About) (s : Table) (r : Kept k s) (id : ℕ) (v : View) (live : v.
         start_is = f.start_is;
         words_is = f.words_is;
         later = later_idle (later-goes_on f.later) idle;
-        owns = λ h i who. absurd (idle_holds k.start.value.items k.words r.log v.given r.lawful.enabled idle h i (same_number h.caller v.given (sym who)));
+        owns = λ h i who. absurd (idle_holds k.start.value.items k.words r.log v.given
+            r.lawful.enabled idle h i (same_number h.caller v.given (sym who)));
         well_made = record {
           stands = λ number keeps. none_stands k.start.value.items k.words v.log number;
           stamps = tt;
@@ -164,13 +173,16 @@ module _ (k : About) (s : Table) (r : Kept k s) (id : ℕ) (v : View) (live : v.
           made = λ is. absurd (caller_maker v.given is);
           idle = λ is. absurd (caller_maker v.given is);
           fresh = λ place far. refl;
-          call = λ number is. subst (λ n. CallStands k.start.value.items k.words r.log n [] None) (same_number v.given number is) (idle_between k.start.value.items k.words r.log v.given r.lawful.enabled idle);
+          call = λ number is. subst (λ n. CallStands k.start.value.items k.words r.log n [] None)
+              (same_number v.given number is)
+              (idle_between k.start.value.items k.words r.log v.given r.lawful.enabled idle);
           taken = tt;
         };
       }
 
   -- the maker that gave a seat
-  fits_giving : v.who ≡ Maker → v.given < v.made → Fits k r.log s.words (record v { given = v.given + 1 })
+  fits_giving : v.who ≡ Maker → v.given < v.made
+      → Fits k r.log s.words (record v { given = v.given + 1 })
   fits_giving maker less =
       let m = f.well_made in
       let t = f.is_true in
@@ -191,7 +203,8 @@ module _ (k : About) (s : Table) (r : Kept k s) (id : ℕ) (v : View) (live : v.
           olds = m.olds;
           taken_stand = m.taken_stand;
           taken_once = m.taken_once;
-          taken_given = each_map (λ t. t.number < v.given) (λ t. t.number < v.given + 1) v.taken (λ t _ le. omega arith) m.taken_given;
+          taken_given = each_map (λ t. t.number < v.given) (λ t. t.number < v.given + 1) v.taken
+              (λ t _ le. omega arith) m.taken_given;
           maker_takes = m.maker_takes;
           in_none = m.in_none;
         };
@@ -205,27 +218,37 @@ module _ (k : About) (s : Table) (r : Kept k s) (id : ℕ) (v : View) (live : v.
         };
       }
 
-here_set : {A : Type 0} (l : List A) (i : ℕ) (a b : A) → get_elem? l i ≡ some a → get_elem? (slice_set l i b) i ≡ some b
+here_set : {A : Type 0} (l : List A) (i : ℕ) (a b : A) → get_elem? l i ≡ some a
+    → get_elem? (slice_set l i b) i ≡ some b
 here_set [] i a b e = absurd (some-ne-none a (sym e))
 here_set (x ∷ xs) zero a b e = refl
 here_set (x ∷ xs) (suc i) a b e = here_set xs i a b e
 
 -- the seat of the caller that was entered last is split from the maker's
-splits_caller : (k : About) (s : Table) (r : Kept k s) (id : ℕ) (v : View) → v.who ≢ Spent → HasView s id v → v.who ≡ Maker → v.given < v.made
-    → Kept k (record { words = s.words; homes = s.homes; views = slice_set s.views id (record v { given = v.given + 1 }) ++ (plain v (Caller v.given) []) ∷ [] })
+pub splits_caller : (k : About) (s : Table) (r : Kept k s) (id : ℕ) (v : View) → v.who ≢ Spent
+    → HasView s id v → v.who ≡ Maker → v.given < v.made
+    → Kept k (record { words = s.words; homes = s.homes; views =
+        slice_set s.views id (record v { given = v.given + 1 }) ++ (plain v (Caller v.given) [])
+        ∷ [] })
 unfolding moved
 splits_caller k s r id v live mine maker less =
     let u = plain v (Caller v.given) [] in
     let w : View = record v { given = v.given + 1 } in
     let born = r.unborn id v mine maker v.given (le_refl v.given) in
     let s' : Table = record { words = s.words; homes = s.homes; views = slice_set s.views id w } in
-    let r' : Kept k s' = moved k s r id v w s.homes mine live refl (omega arith) r.log s.words as_it_was r.lawful r.image (λ i x at alive _ g. g) (fits_giving k s r id v live mine maker less)
-    (each_map (IsRetired s r.log v) (IsRetired s r.log w) v.taken (λ t _ q. record { seen = q.seen; seatless = q.seatless }) (r.retired id v mine live)) in
+    let r' : Kept k s' = moved k s r id v w s.homes mine live refl (omega arith) r.log s.words
+            as_it_was r.lawful r.image (λ i x at alive _ g. g)
+            (fits_giving k s r id v live mine maker less)
+    (each_map (IsRetired s r.log v) (IsRetired s r.log w) v.taken
+        (λ t _ q. record { seen = q.seen; seatless = q.seatless }) (r.retired id v mine live)) in
     let here : HasView s' id w = here_set s.views id v w mine in
     let only = λ (i : ℕ) (x : View) (at : HasView s' i x) (is : x.who ≡ Maker).
-    some-injective w x (sym here ∙ ap (get_elem? s'.views) (sym (r'.apart id i w x here at (subst IsNamed (sym maker) tt) (is ∙ sym maker))) ∙ at) in
+    some-injective w x (sym here ∙ ap (get_elem? s'.views)
+        (sym (r'.apart id i w x here at (subst IsNamed (sym maker) tt) (is ∙ sym maker))) ∙ at) in
     grown k s' r' u (fits_born k s r id v live mine maker less) refl
-    (λ _ j x at. ⊎_elim (λ t is. absurd (caller_maker v.given (sym is ∙ ap (λ y. y.who) (sym t.1) ∙ maker))) (λ t. born j x t.1) (at_set s.views id j w x at))
+    (λ _ j x at. ⊎_elim (λ t is. absurd
+        (caller_maker v.given (sym is ∙ ap (λ y. y.who) (sym t.1) ∙ maker))) (λ t. born j x t.1)
+        (at_set s.views id j w x at))
     (caller_maker v.given)
     (λ i x at is number above eq.
     let e = same_number v.given number eq in
@@ -234,166 +257,18 @@ splits_caller k s r id v live mine maker less =
     (λ i x at alive. untaken x ((r'.seats i x at alive).well_made) (only i x at))
   where
     -- a caller that was taken back had its seat before
-    below : (taken : List Taken) → Each (λ t. t.number < v.given) taken → Each (λ t. Caller v.given ≢ Caller t.number) taken
+    below : (taken : List Taken) → Each (λ t. t.number < v.given) taken
+        → Each (λ t. Caller v.given ≢ Caller t.number) taken
     below [] all = tt
-    below (t ∷ more) all = ((λ e. let low = all.0 in let same = same_number v.given t.number e in absurd (omega arith)), below more all.1)
+    below (t ∷ more) all = ((λ e. let low = all.0 in let same =
+        same_number v.given t.number e in absurd (omega arith)), below more all.1)
 
-    untaken : (x : View) → IsWellMade k.start.value.items k.words x → (x.who ≡ Maker → (record v { given = v.given + 1 }) ≡ x) → Each (λ t. Caller v.given ≢ Caller t.number) x.taken
+    untaken : (x : View) → IsWellMade k.start.value.items k.words x
+        → (x.who ≡ Maker → (record v { given = v.given + 1 }) ≡ x)
+        → Each (λ t. Caller v.given ≢ Caller t.number) x.taken
     untaken x m is =
         ⊎_elim
-        (λ e. subst (λ y. Each (λ t. Caller v.given ≢ Caller t.number) y.taken) (is e) (below v.taken (r.seats id v mine live).well_made.taken_given))
+        (λ e. subst (λ y. Each (λ t. Caller v.given ≢ Caller t.number) y.taken) (is e)
+            (below v.taken (r.seats id v mine live).well_made.taken_given))
         (λ e. subst (Each (λ t. Caller v.given ≢ Caller t.number)) (sym (m.maker_takes e)) tt)
         (maker_or x.who)
-
--- ---- both cases
-
-maker_is : (w : Who) → is_maker w ≡ true → w ≡ Maker
-maker_is Maker e = refl
-maker_is (Caller number) e = absurd (cc)
-maker_is (Note of) e = absurd (cc)
-maker_is Spent e = absurd (cc)
-
-both_true : (a b : Bool) → (a && b) ≡ true → (a ≡ true) × (b ≡ true)
-both_true true true e = (refl, refl)
-both_true true false e = absurd (cc)
-both_true false b e = absurd (cc)
-
--- a seat that awaits another's is the maker's, and entered a caller that has none
-pub awaits_is : (v : View) → awaits_seat v ≡ true → (v.who ≡ Maker) × (v.given < v.made)
-awaits_is v e = let t = both_true (is_maker v.who) (nat_lt v.given v.made) e in let h : v.given < v.made = grind (arith, nat_tests, t.1) in (maker_is v.who t.0, h)
-
-split_cases : (k : About) (s : Table) (r : Kept k s) (id : ℕ) (v : View) → v.who ≢ Spent → HasView s id v → (b : Bool) → awaits_seat v ≡ b
-    → Kept k (record {
-      words = s.words;
-      homes = s.homes;
-      views = slice_set s.views id (if b then record v { given = v.given + 1 } else v) ++ (if b then plain v (Caller v.given) [] else plain v (Note (noted_by v.who)) v.calls) ∷ [];
-    })
-split_cases k s r id v live mine true is = let t = awaits_is v is in splits_caller k s r id v live mine t.0 t.1
-split_cases k s r id v live mine false is = splits_note k s r id v live mine
-
--- a split keeps the rule
-pub splits : (k : About) (id : ℕ) (v : View) → v.who ≢ Spent → Splits (Kept k) id v (split_left v) (split_right v)
-splits k id v live s r mine = split_cases k s r id v live mine (awaits_seat v) refl
-
--- ---- what both seats know of themselves
-
-left_cases : (v : View) → IsSound v → (b : Bool) → awaits_seat v ≡ b → IsSound (if b then record v { given = v.given + 1 } else v)
-left_cases v s false is = s
-left_cases v s true is =
-    let t = awaits_is v is in
-    let less = t.1 in
-    let m = s.well_made in
-    let h = s.is_true in
-    let made = h.made t.0 in
-    let count = made.0 in
-    let near = made.2 in
-    record {
-      lawful = s.lawful;
-      live = s.live;
-      well_made = record {
-        stands = m.stands;
-        stamps = m.stamps;
-        recalls = m.recalls;
-        in_order = m.in_order;
-        since = m.since;
-        olds = m.olds;
-        taken_stand = m.taken_stand;
-        taken_once = m.taken_once;
-        taken_given = each_map (λ t. t.number < v.given) (λ t. t.number < v.given + 1) v.taken (λ t _ le. omega arith) m.taken_given;
-        maker_takes = m.maker_takes;
-        in_none = m.in_none;
-      };
-      is_true = record {
-        low = h.low;
-        made = λ _. (count, omega arith, omega arith);
-        idle = λ who number above. h.idle who number (omega arith);
-        fresh = h.fresh;
-        call = h.call;
-        taken = h.taken;
-      };
-    }
-
--- the seat that another was split from is sound
-pub left_sound : (v : View) → IsSound v → IsSound (split_left v)
-left_sound v s = left_cases v s (awaits_seat v) refl
-
-right_cases : (v : View) → IsSound v → (b : Bool) → awaits_seat v ≡ b
-    → IsSound (if b then plain v (Caller v.given) [] else plain v (Note (noted_by v.who)) v.calls)
-right_cases v s false is =
-    let of = noted_by v.who in
-    record {
-      lawful = s.lawful;
-      live = note_spent of;
-      well_made = record {
-        stands = λ number keeps. s.well_made.stands number (keeps_note number v.who keeps);
-        stamps = s.well_made.stamps;
-        recalls = tt;
-        in_order = tt;
-        since = omega arith;
-        olds = tt;
-        taken_stand = tt;
-        taken_once = tt;
-        taken_given = tt;
-        maker_takes = λ _. refl;
-        in_none = λ _. refl;
-      };
-      is_true = record {
-        low = λ number e. absurd (note_caller of number e);
-        made = λ e. absurd (note_maker of e);
-        idle = λ e. absurd (note_maker of e);
-        fresh = λ place far. refl;
-        call = λ number e. absurd (note_caller of number e);
-        taken = tt;
-      };
-    }
-right_cases v s true is =
-    let t = awaits_is v is in
-    let less = t.1 in
-    let h = s.is_true in
-    let made = (h.made t.0).0 in
-    let idle = h.idle t.0 v.given (le_refl v.given) in
-    record {
-      lawful = s.lawful;
-      live = caller_spent v.given;
-      well_made = record {
-        stands = λ number keeps. none_stands v.start v.words v.log number;
-        stamps = tt;
-        recalls = tt;
-        in_order = tt;
-        since = omega arith;
-        olds = tt;
-        taken_stand = tt;
-        taken_once = tt;
-        taken_given = tt;
-        maker_takes = λ _. refl;
-        in_none = λ _. refl;
-      };
-      is_true = record {
-        low = λ number e. let same = same_number v.given number e in omega arith;
-        made = λ e. absurd (caller_maker v.given e);
-        idle = λ e. absurd (caller_maker v.given e);
-        fresh = λ place far. refl;
-        call = λ number e. subst (λ n. CallStands v.start v.words v.log n [] None) (same_number v.given number e) (idle_between v.start v.words v.log v.given s.lawful.enabled idle);
-        taken = tt;
-      };
-    }
-
--- and so is the seat that was split from it
-pub right_sound : (v : View) → IsSound v → IsSound (split_right v)
-right_sound v s = right_cases v s (awaits_seat v) refl
-
-left_words_cases : (v : View) (b : Bool) → (if b then record v { given = v.given + 1 } else v).words ≡ v.words
-left_words_cases v true = refl
-left_words_cases v false = refl
-
--- a split keeps the number of words
-pub left_words : (v : View) → (split_left v).words ≡ v.words
-left_words v = left_words_cases v (awaits_seat v)
-
-right_words_cases : (v : View) (b : Bool) → (if b then plain v (Caller v.given) [] else plain v (Note (noted_by v.who)) v.calls).words ≡ v.words
-right_words_cases v true = refl
-right_words_cases v false = refl
-
--- and so does the new seat
-pub right_words : (v : View) → (split_right v).words ≡ v.words
-right_words v = right_words_cases v (awaits_seat v)

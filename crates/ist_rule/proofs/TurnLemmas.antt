@@ -1,5 +1,5 @@
--- The four loads that turn a call or a search: the view that each takes fits. Serves `begin_call`, `begin_search`, `end_call`
--- and `give_up`.
+-- The four loads that turn a call or a search: the view that each takes fits. Serves `begin_call`,
+-- `begin_search`, `end_call` and `give_up`.
 use Rattle.std.proofs.Common.{◌≡◌, ◌≢◌, ℕ, ◌≤◌, List, [], ◌∷◌, ◌++◌, length, Option, Some, None, refl, sym, ◌∙◌, subst, inl, arith}
 use mathlib.Core.Option as maybe
 use Rattle.atomic_table.specs.Table.{step, Allows}
@@ -44,23 +44,31 @@ same_number : (m n : ℕ) → Caller m ≡ Caller n → m ≡ n
 same_number m n e = cc
 
 -- what the changes of a caller have come to, where it is between calls and begins one
-begun : (pairs : List Pair) (words : ℕ) (log : Log) → Lawful pairs words log → (number : ℕ) (calls : List Call) (pending : Pending)
-    → IsBetween pairs words log number calls → CallStands pairs words log number calls (Some pending)
+begun : (pairs : List Pair) (words : ℕ) (log : Log) → Lawful pairs words log
+    → (number : ℕ) (calls : List Call) (pending : Pending)
+    → IsBetween pairs words log number calls
+        → CallStands pairs words log number calls (Some pending)
 begun pairs words log lawful number calls pending b =
     inl record {
       made = b.made;
-      its_command = λ base u. absurd (none_undecided pairs words log lawful.enabled number b.resolved base u);
-      one = λ base other u _. absurd (none_undecided pairs words log lawful.enabled number b.resolved base u);
+      its_command = λ base u. absurd (none_undecided pairs words log lawful.enabled number
+          b.resolved base u);
+      one = λ base other u _. absurd (none_undecided pairs words log lawful.enabled number
+          b.resolved base u);
     }
 
 -- a caller between calls may begin one
-can_begin : (v : View) (number : ℕ) (command : Option Command) → v.who ≡ Caller number → v.pending ≡ None → CanTurn v (beginning v command)
+can_begin : (v : View) (number : ℕ) (command : Option Command) → v.who ≡ Caller number
+    → v.pending ≡ None → CanTurn v (beginning v command)
 can_begin v number command who none =
-    record { who = λ log. refl; given = λ log. refl; taken = λ log. refl; log_is = λ log. refl; fits = fits }
+    record { who = λ log. refl; given = λ log. refl; taken = λ log. refl; log_is =
+        λ log. refl; fits = fits }
   where
-    fits : (k : About) (log : Log) (image : List ℕ) → Lawful k.start.value.items k.words log → Fits k log image v → Fits k log image (beginning v command log)
+    fits : (k : About) (log : Log) (image : List ℕ) → Lawful k.start.value.items k.words log
+        → Fits k log image v → Fits k log image (beginning v command log)
     fits k log image lawful f =
-        let m = well_made_on k.start.value.items k.words v log (later-goes_on f.later) f.well_made in
+        let m = well_made_on k.start.value.items k.words v log (later-goes_on f.later)
+                f.well_made in
         let t = f.is_true in
         record {
           start_is = f.start_is;
@@ -86,7 +94,8 @@ can_begin v number command who none =
             idle = t.idle;
             fresh = t.fresh;
             call = λ n is.
-                begun k.start.value.items k.words log lawful n v.calls record { command = command; length = length log }
+                begun k.start.value.items k.words log lawful n v.calls record { command =
+                    command; length = length log }
                 (subst (CallStands k.start.value.items k.words log n v.calls) none (t.call n is));
             taken = t.taken;
           };
@@ -95,11 +104,14 @@ can_begin v number command who none =
 -- any seat may begin a search
 can_search : (v : View) → CanTurn v (searching v)
 can_search v =
-    record { who = λ log. refl; given = λ log. refl; taken = λ log. refl; log_is = λ log. refl; fits = fits }
+    record { who = λ log. refl; given = λ log. refl; taken = λ log. refl; log_is =
+        λ log. refl; fits = fits }
   where
-    fits : (k : About) (log : Log) (image : List ℕ) → Lawful k.start.value.items k.words log → Fits k log image v → Fits k log image (searching v log)
+    fits : (k : About) (log : Log) (image : List ℕ) → Lawful k.start.value.items k.words log
+        → Fits k log image v → Fits k log image (searching v log)
     fits k log image lawful f =
-        let m = well_made_on k.start.value.items k.words v log (later-goes_on f.later) f.well_made in
+        let m = well_made_on k.start.value.items k.words v log (later-goes_on f.later)
+                f.well_made in
         let t = f.is_true in
         record {
           start_is = f.start_is;
@@ -119,21 +131,28 @@ can_search v =
             maker_takes = m.maker_takes;
             in_none = m.in_none;
           };
-          is_true = record { low = t.low; made = t.made; idle = t.idle; fresh = t.fresh; call = t.call; taken = t.taken };
+          is_true = record { low = t.low; made = t.made; idle = t.idle; fresh = t.fresh; call =
+              t.call; taken = t.taken };
         }
 
 -- a call that may end turns the view that has ended it
 can_end : (v : View) (call : Call) → CanEnd v call → CanTurn v (ending v call)
 can_end v call can =
-    record { who = λ log. refl; given = λ log. refl; taken = λ log. refl; log_is = λ log. refl; fits = fits }
+    record { who = λ log. refl; given = λ log. refl; taken = λ log. refl; log_is =
+        λ log. refl; fits = fits }
   where
-    fits : (k : About) (log : Log) (image : List ℕ) → Lawful k.start.value.items k.words log → Fits k log image v → Fits k log image (ending v call log)
+    fits : (k : About) (log : Log) (image : List ℕ) → Lawful k.start.value.items k.words log
+        → Fits k log image v → Fits k log image (ending v call log)
     fits k log image lawful f =
-        let m = well_made_on k.start.value.items k.words v log (later-goes_on f.later) f.well_made in
+        let m = well_made_on k.start.value.items k.words v log (later-goes_on f.later)
+                f.well_made in
         let t = f.is_true in
-        let stand = as_table k log image v f (λ p n. StandsIn p n v.log can.number (v.calls ++ call ∷ [])) can.stand in
-        let resolved = as_table k log image v f (λ p n. AllResolvedOf (state_of p n v.log) v.log can.number) can.resolved in
-        let later : Later (Caller can.number) v.log log = subst (λ w. Later w v.log log) can.mine f.later in
+        let stand = as_table k log image v f
+                (λ p n. StandsIn p n v.log can.number (v.calls ++ call ∷ [])) can.stand in
+        let resolved = as_table k log image v f
+                (λ p n. AllResolvedOf (state_of p n v.log) v.log can.number) can.resolved in
+        let later : Later (Caller can.number) v.log log =
+                subst (λ w. Later w v.log log) can.mine f.later in
         let next = can.stamp_is in
         record {
           start_is = f.start_is;
@@ -142,9 +161,12 @@ can_end v call can =
           owns = f.owns;
           well_made = record {
             stands = λ n keeps.
-                subst (λ i. StandsInPrefix k.start.value.items k.words log i (v.calls ++ call ∷ [])) (sym (keeps_own n can.number v.who keeps can.mine))
+                subst (λ i. StandsInPrefix k.start.value.items k.words log i (v.calls ++ call ∷ []))
+                    (sym (keeps_own n can.number v.who keeps can.mine))
                 record { prefix = v.log; goes_on = later-goes_on f.later; stands = stand };
-            stamps = each_append (λ c. c.stamp ≤ call.stamp) v.calls (call ∷ []) (each_map (λ c. c.stamp ≤ v.stamp) (λ c. c.stamp ≤ call.stamp) v.calls (λ c _ le. omega arith) m.stamps) (omega arith, tt);
+            stamps = each_append (λ c. c.stamp ≤ call.stamp) v.calls (call ∷ [])
+                (each_map (λ c. c.stamp ≤ v.stamp) (λ c. c.stamp ≤ call.stamp) v.calls
+                (λ c _ le. omega arith) m.stamps) (omega arith, tt);
             recalls = m.recalls;
             in_order = m.in_order;
             since = m.since;
@@ -161,8 +183,10 @@ can_end v call can =
             idle = t.idle;
             fresh = t.fresh;
             call = λ n is.
-                subst (λ i. IsBetween k.start.value.items k.words log i (v.calls ++ call ∷ [])) (same_number can.number n (sym can.mine ∙ is))
-                (between_later k.start.value.items k.words can.number (v.calls ++ call ∷ []) v.log log lawful.enabled later record { made = stand.exactly; resolved = resolved });
+                subst (λ i. IsBetween k.start.value.items k.words log i (v.calls ++ call ∷ []))
+                    (same_number can.number n (sym can.mine ∙ is))
+                (between_later k.start.value.items k.words can.number (v.calls ++ call ∷ []) v.log
+                    log lawful.enabled later record { made = stand.exactly; resolved = resolved });
             taken = t.taken;
           };
         }
@@ -170,15 +194,21 @@ can_end v call can =
 -- a call that may be given up turns the view that has given it up
 can_give_up : (v : View) → CanGiveUp v → CanTurn v (giving_up v)
 can_give_up v can =
-    record { who = λ log. refl; given = λ log. refl; taken = λ log. refl; log_is = λ log. refl; fits = fits }
+    record { who = λ log. refl; given = λ log. refl; taken = λ log. refl; log_is =
+        λ log. refl; fits = fits }
   where
-    fits : (k : About) (log : Log) (image : List ℕ) → Lawful k.start.value.items k.words log → Fits k log image v → Fits k log image (giving_up v log)
+    fits : (k : About) (log : Log) (image : List ℕ) → Lawful k.start.value.items k.words log
+        → Fits k log image v → Fits k log image (giving_up v log)
     fits k log image lawful f =
-        let m = well_made_on k.start.value.items k.words v log (later-goes_on f.later) f.well_made in
+        let m = well_made_on k.start.value.items k.words v log (later-goes_on f.later)
+                f.well_made in
         let t = f.is_true in
-        let made = as_table k log image v f (λ p n. HasMade p n v.log can.number v.calls) can.none in
-        let resolved = as_table k log image v f (λ p n. AllResolvedOf (state_of p n v.log) v.log can.number) can.resolved in
-        let later : Later (Caller can.number) v.log log = subst (λ w. Later w v.log log) can.mine f.later in
+        let made = as_table k log image v f (λ p n. HasMade p n v.log can.number v.calls)
+                can.none in
+        let resolved = as_table k log image v f
+                (λ p n. AllResolvedOf (state_of p n v.log) v.log can.number) can.resolved in
+        let later : Later (Caller can.number) v.log log =
+                subst (λ w. Later w v.log log) can.mine f.later in
         record {
           start_is = f.start_is;
           words_is = f.words_is;
@@ -203,8 +233,10 @@ can_give_up v can =
             idle = t.idle;
             fresh = t.fresh;
             call = λ n is.
-                subst (λ i. IsBetween k.start.value.items k.words log i v.calls) (same_number can.number n (sym can.mine ∙ is))
-                (between_later k.start.value.items k.words can.number v.calls v.log log lawful.enabled later record { made = made; resolved = resolved });
+                subst (λ i. IsBetween k.start.value.items k.words log i v.calls)
+                    (same_number can.number n (sym can.mine ∙ is))
+                (between_later k.start.value.items k.words can.number v.calls v.log log
+                    lawful.enabled later record { made = made; resolved = resolved });
             taken = t.taken;
           };
         }
@@ -212,25 +244,32 @@ can_give_up v can =
 -- ---- the loads
 
 -- a load that begins a call keeps the rule
-pub begins_moves : (k : About) (slots id : ℕ) (me : Seated) (command : Option Command) → me.0.who ≢ Spent → CanBegin me.0
+pub begins_moves : (k : About) (slots id : ℕ) (me : Seated) (command : Option Command)
+    → me.0.who ≢ Spent → CanBegin me.0
     → Allows (Kept k) slots id me 0 (λ n. n) (begins command (step slots 0 0 0 maybe.none) me)
 begins_moves k slots id me command live can =
-    turns_moves k slots id me (beginning me.0 command) (begins command (step slots 0 0 0 maybe.none) me) live (can_begin me.0 can.number command can.mine can.in_none) (λ found w t. (t, refl))
+    turns_moves k slots id me (beginning me.0 command)
+        (begins command (step slots 0 0 0 maybe.none) me) live
+        (can_begin me.0 can.number command can.mine can.in_none) (λ found w t. (t, refl))
 
 -- a load that begins a search keeps the rule
 pub searches_moves : (k : About) (slots id : ℕ) (me : Seated) → me.0.who ≢ Spent
     → Allows (Kept k) slots id me 0 (λ n. n) (searches (step slots 0 0 0 maybe.none) me)
 searches_moves k slots id me live =
-    turns_moves k slots id me (searching me.0) (searches (step slots 0 0 0 maybe.none) me) live (can_search me.0) (λ found w t. (t, refl))
+    turns_moves k slots id me (searching me.0) (searches (step slots 0 0 0 maybe.none) me) live
+        (can_search me.0) (λ found w t. (t, refl))
 
 -- a load that ends a call keeps the rule
-pub ends_moves : (k : About) (slots id : ℕ) (me : Seated) (call : Call) → me.0.who ≢ Spent → CanEnd me.0 call
+pub ends_moves : (k : About) (slots id : ℕ) (me : Seated) (call : Call) → me.0.who ≢ Spent
+    → CanEnd me.0 call
     → Allows (Kept k) slots id me 0 (λ n. n) (ends call (step slots 0 0 0 maybe.none) me)
 ends_moves k slots id me call live can =
-    turns_moves k slots id me (ending me.0 call) (ends call (step slots 0 0 0 maybe.none) me) live (can_end me.0 call can) (λ found w t. (t, refl))
+    turns_moves k slots id me (ending me.0 call) (ends call (step slots 0 0 0 maybe.none) me) live
+        (can_end me.0 call can) (λ found w t. (t, refl))
 
 -- a load that gives up a call keeps the rule
 pub gives_up_moves : (k : About) (slots id : ℕ) (me : Seated) → me.0.who ≢ Spent → CanGiveUp me.0
     → Allows (Kept k) slots id me 0 (λ n. n) (gives_up (step slots 0 0 0 maybe.none) me)
 gives_up_moves k slots id me live can =
-    turns_moves k slots id me (giving_up me.0) (gives_up (step slots 0 0 0 maybe.none) me) live (can_give_up me.0 can) (λ found w t. (t, refl))
+    turns_moves k slots id me (giving_up me.0) (gives_up (step slots 0 0 0 maybe.none) me) live
+        (can_give_up me.0 can) (λ found w t. (t, refl))

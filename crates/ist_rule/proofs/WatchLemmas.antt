@@ -1,4 +1,5 @@
--- Loads that are events may be made as their conditions say. Serves `load_okay`, `load_pass` and `load_past`.
+-- Loads that are events may be made as their conditions say. Serves `load_okay`, `load_pass` and
+-- `load_past`.
 use Rattle.std.proofs.Common.{◌≡◌, ◌≢◌, ℕ, ◌+◌, ◌<◌, ◌&&◌, ◌==◌, not, Bool, true, false, if◌then◌else◌, List, [], ◌∷◌, length, slice_get, Option, Some, None, refl, sym, ap, ap₂, ◌∙◌, subst, inl, inr, ⊎_elim, arith}
 use Rattle.std.proofs.lemmas.Bool.Decides.{eqb_tells}
 use Rattle.std.proofs.lemmas.Option.{slice_get-get_or}
@@ -41,24 +42,35 @@ use Rattle.ist_rule.proofs.GoingOnLemmas.{callers_later}
 use Rattle.ist_rule.proofs.HeldLemmas.{held_later, start_no_change}
 use Rattle.ist_rule.proofs.ChangeLemmas.{ChangeComes, stood, is_installed, change_comes}
 
-some_one : {A : Type 0} (a b : A) → Some a ≡ Some b → a ≡ b
+pub some_one : {A : Type 0} (a b : A) → Some a ≡ Some b → a ≡ b
 some_one a b e = cc
 
 -- ---- the word of a published row
 
-module _ (pairs : List Pair) (words : ℕ) (log : Log) (enabled : EachEnabled (start pairs words) log) where
-  abbrev t : Snapshot
+module _ (pairs : List Pair) (words : ℕ) (log : Log) (enabled : EachEnabled (start pairs words) log)
+    where
+  abbrev pub t : Snapshot
   t = state_of pairs words log
 
   -- what is shown at a place of a published row is the row's word
-  pub shown_in_row : (base : ℕ) (p : Piece) (k word : ℕ) → t.pieces base ≡ Some p → slice_get (words_of p) k ≡ Some word
+  pub shown_in_row : (base : ℕ) (p : Piece) (k word : ℕ) → t.pieces base ≡ Some p
+      → slice_get (words_of p) k ≡ Some word
       → (place shown : ℕ) → IsShown t place shown → place ≡ base + k → shown ≡ word
-  shown_in_row base p k word e at _ _ shown_next is = let low = (claimed_within pairs words log base (size_of p) enabled ((placed pairs words log enabled).published base p e)).behind_fixed in absurd (omega arith)
-  shown_in_row base p k word e at _ _ shown_callers is = let low = (claimed_within pairs words log base (size_of p) enabled ((placed pairs words log enabled).published base p e)).behind_fixed in absurd (omega arith)
-  shown_in_row base p k word e at _ _ shown_status is = let low = (claimed_within pairs words log base (size_of p) enabled ((placed pairs words log enabled).published base p e)).behind_fixed in absurd (omega arith)
-  shown_in_row base p k word e at _ _ shown_slot is = let low = (claimed_within pairs words log base (size_of p) enabled ((placed pairs words log enabled).published base p e)).behind_fixed in absurd (omega arith)
+  shown_in_row base p k word e at _ _ shown_next is = let low =
+      (claimed_within pairs words log base (size_of p) enabled
+      ((placed pairs words log enabled).published base p e)).behind_fixed in absurd (omega arith)
+  shown_in_row base p k word e at _ _ shown_callers is = let low =
+      (claimed_within pairs words log base (size_of p) enabled
+      ((placed pairs words log enabled).published base p e)).behind_fixed in absurd (omega arith)
+  shown_in_row base p k word e at _ _ shown_status is = let low =
+      (claimed_within pairs words log base (size_of p) enabled
+      ((placed pairs words log enabled).published base p e)).behind_fixed in absurd (omega arith)
+  shown_in_row base p k word e at _ _ shown_slot is = let low =
+      (claimed_within pairs words log base (size_of p) enabled
+      ((placed pairs words log enabled).published base p e)).behind_fixed in absurd (omega arith)
   shown_in_row base p k word e at _ _ (shown_free far in_it) is =
-      let high = (claimed_within pairs words log base (size_of p) enabled ((placed pairs words log enabled).published base p e)).below_next in
+      let high = (claimed_within pairs words log base (size_of p) enabled
+              ((placed pairs words log enabled).published base p e)).below_next in
       let less = get_below (words_of p) k word at in
       absurd (omega arith)
   shown_in_row base p k word e at _ shown (shown_row other q j there got) is =
@@ -67,10 +79,14 @@ module _ (pairs : List Pair) (words : ℕ) (log : Log) (enabled : EachEnabled (s
       ⊎_elim
       (λ one.
       let same : j ≡ k = omega (arith, one.0) in
-      let piece : q ≡ p = one_piece (t.pieces other) q p there (subst (λ b. t.pieces b ≡ Some p) (sym one.0) e) in
-      some_one shown word (sym got ∙ ap (λ x. slice_get (words_of x) j) piece ∙ ap (slice_get (words_of p)) same ∙ at))
+      let piece : q ≡ p = one_piece (t.pieces other) q p there
+              (subst (λ b. t.pieces b ≡ Some p) (sym one.0) e) in
+      some_one shown word (sym got ∙ ap (λ x. slice_get (words_of x) j) piece ∙ ap
+          (slice_get (words_of p)) same ∙ at))
       (λ two. ⊎_elim (λ le. absurd (omega arith)) (λ le. absurd (omega arith)) two.1)
-      (claimed_apart pairs words log other (size_of q) base (size_of p) enabled ((placed pairs words log enabled).published other q there) ((placed pairs words log enabled).published base p e))
+      (claimed_apart pairs words log other (size_of q) base (size_of p) enabled
+          ((placed pairs words log enabled).published other q there)
+          ((placed pairs words log enabled).published base p e))
 
 -- ---- the node of a change
 
@@ -84,8 +100,10 @@ module _ (pairs : List Pair) (words : ℕ) where
       → IsNode (state_of pairs words log) node → IsNode (state_of pairs words (event ∷ log)) node
   node_on log event enabled node (is_anchor e) = is_anchor e
   node_on log event enabled node (is_inner r e) =
-      let it = inner_there (state_of pairs words log).pieces (state_of pairs words (event ∷ log)).pieces
-      (grow_step (start pairs words) log event enabled.1 (sound (start pairs words) log (sound_start pairs words) enabled.0)) node r e in
+      let it = inner_there (state_of pairs words log).pieces
+              (state_of pairs words (event ∷ log)).pieces
+      (grow_step (start pairs words) log event enabled.1
+          (sound (start pairs words) log (sound_start pairs words) enabled.0)) node r e in
       is_inner it.0 it.1
 
   holds_node : (t : Snapshot) (node i word : ℕ) → SlotHolds t node i word → IsNode t node
@@ -93,247 +111,73 @@ module _ (pairs : List Pair) (words : ℕ) where
   holds_node t node i word (in_row r e f) = is_inner r e
 
   -- the node of each published change is one
-  pub change_node : (log : Log) → EachEnabled (start pairs words) log → (base : ℕ) (r : ChangeRow) → (state_of pairs words log).pieces base ≡ Some (Change r)
+  pub change_node : (log : Log) → EachEnabled (start pairs words) log → (base : ℕ) (r : ChangeRow)
+      → (state_of pairs words log).pieces base ≡ Some (Change r)
       → IsNode (state_of pairs words log) r.node
   change_node [] enabled base r e = absurd (start_no_change pairs words base r e)
   change_node (event ∷ log) enabled base r e =
       node_on log event enabled r.node
-      (at (λ old there. change_node log enabled.0 base old there) (change_comes (start pairs words) log event enabled.1 (sound (start pairs words) log (sound_start pairs words) enabled.0) base r e))
+      (at (λ old there. change_node log enabled.0 base old there)
+          (change_comes (start pairs words) log event enabled.1
+          (sound (start pairs words) log (sound_start pairs words) enabled.0) base r e))
     where
-      at : ((old : ChangeRow) → (state_of pairs words log).pieces base ≡ Some (Change old) → IsNode (state_of pairs words log) old.node)
-          → {ev : Event} → ChangeComes (start pairs words) log base r ev → IsNode (state_of pairs words log) r.node
-      at before (stood old there g) = subst (IsNode (state_of pairs words log)) (sym (ap (λ x. x.node) g.others)) (before old there)
+      at : ((old : ChangeRow) → (state_of pairs words log).pieces base ≡ Some (Change old)
+          → IsNode (state_of pairs words log) old.node)
+          → {ev : Event} → ChangeComes (start pairs words) log base r ev
+              → IsNode (state_of pairs words log) r.node
+      at before (stood old there g) =
+          subst (IsNode (state_of pairs words log)) (sym (ap (λ x. x.node) g.others))
+          (before old there)
       at before (is_installed h g) =
-          subst (IsNode (state_of pairs words log)) (sym (ap (λ x. x.node) g.others)) (holds_node (state_of pairs words log) h.change.node h.change.index h.change.from h.in_slot)
+          subst (IsNode (state_of pairs words log)) (sym (ap (λ x. x.node) g.others))
+              (holds_node (state_of pairs words log) h.change.node h.change.index h.change.from
+              h.in_slot)
 
 -- ---- tests
 
-both_true : (a b : Bool) → (a && b) ≡ true → (a ≡ true) × (b ≡ true)
+pub both_true : (a b : Bool) → (a && b) ≡ true → (a ≡ true) × (b ≡ true)
 both_true true true e = (refl, refl)
 both_true true false e = absurd (cc)
 both_true false b e = absurd (cc)
 
 -- what a test names
-if_some : {A : Type 0} (b : Bool) (x y : A) → (if b then Some x else None) ≡ Some y → (b ≡ true) × (x ≡ y)
+pub if_some : {A : Type 0} (b : Bool) (x y : A) → (if b then Some x else None) ≡ Some y → (b ≡ true)
+    × (x ≡ y)
 if_some true x y e = (refl, some_one x y e)
 if_some false x y e = absurd (cc)
 
-eq_true : (m n : ℕ) → (m == n) ≡ true → m ≡ n
+pub eq_true : (m n : ℕ) → (m == n) ≡ true → m ≡ n
 eq_true m n e = ⊎_elim (λ k. k.1) (λ k. absurd (clash (sym e ∙ k.0))) (eqb_tells m n)
   where
     clash : true ≡ false → ⊥
     clash f = cc
 
-not_true : (m n : ℕ) → not (m == n) ≡ true → m ≢ n
+pub not_true : (m n : ℕ) → not (m == n) ≡ true → m ≢ n
 not_true m n e = ⊎_elim (λ k. absurd (clash (sym e ∙ ap not k.0))) (λ k. k.1) (eqb_tells m n)
   where
     clash : true ≡ not true → ⊥
     clash f = cc
 
-no_change : (o : Option Ref) → not (is_change o) ≡ true → (base : ℕ) → o ≢ Some (ChangeAt base)
+pub no_change : (o : Option Ref) → not (is_change o) ≡ true → (base : ℕ) → o ≢ Some (ChangeAt base)
 no_change o e base is = clash (sym e ∙ ap (λ x. not (is_change x)) is)
   where
     clash : true ≡ not true → ⊥
     clash f = cc
 
 -- the place of the status of an inner row
-status_place_inner : (node : ℕ) → node ≢ anchor → place_of_status node ≡ node + inner_status_offset
-status_place_inner node ne = ⊎_elim (λ k. absurd (ne k.1)) (λ k. ap (λ b. if b then anchor_status_place else node + inner_status_offset) k.0) (eqb_tells node anchor)
+pub status_place_inner : (node : ℕ) → node ≢ anchor → place_of_status node ≡ node + inner_status_offset
+status_place_inner node ne = ⊎_elim (λ k. absurd (ne k.1))
+    (λ k. ap (λ b. if b then anchor_status_place else node + inner_status_offset) k.0)
+    (eqb_tells node anchor)
 
-status_place_anchor : (node : ℕ) → node ≡ anchor → place_of_status node ≡ anchor_status_place
+pub status_place_anchor : (node : ℕ) → node ≡ anchor → place_of_status node ≡ anchor_status_place
 status_place_anchor node e = ap place_of_status e
 
 -- the place of a slot of an inner row
-place_inner : (t : Snapshot) (node i : ℕ) (r : InnerRow) → t.pieces node ≡ Some (Inner r) → node ≢ anchor → place_of_slot t node i ≡ slot_place node r.degree i
+pub place_inner : (t : Snapshot) (node i : ℕ) (r : InnerRow) → t.pieces node ≡ Some (Inner r)
+    → node ≢ anchor → place_of_slot t node i ≡ slot_place node r.degree i
 place_inner t node i r e ne =
-    ⊎_elim (λ k. absurd (ne k.1)) (λ k. ap (λ b. if b then anchor_slot_place else place_in node i (as_inner (t.pieces node))) k.0) (eqb_tells node anchor)
+    ⊎_elim (λ k. absurd (ne k.1)) (λ k. ap
+        (λ b. if b then anchor_slot_place else place_in node i (as_inner (t.pieces node))) k.0)
+        (eqb_tells node anchor)
     ∙ ap (λ o. place_in node i (as_inner o)) e
-
--- ---- the three loads
-
-module _ (v : View) (s : IsSound v) (log : Log) (m : MayCome v log) where
-  abbrev u : Snapshot
-  u = state_of v.start v.words log
-
-  low : (number : ℕ) → v.who ≡ Caller number → number < u.callers
-  low number who = let before = s.is_true.low number who in let more = callers_later v.start v.words v.log log m.later in omega arith
-
-  -- an inner row stands there still
-  inner_later : (node : ℕ) (row : InnerRow) → (now v).pieces node ≡ Some (Inner row) → (r : InnerRow) × (u.pieces node ≡ Some (Inner r)) × (r.degree ≡ row.degree)
-  inner_later node row e =
-      let it = inner_there (now v).pieces u.pieces (grow_between v.start v.words v.log log m.lawful.enabled (later-goes_on m.later)) node row e in
-      (it.0, it.1, it.2.degree)
-
-  -- and so does a change
-  change_later : (base : ℕ) (row : ChangeRow) → (now v).pieces base ≡ Some (Change row) → (r : ChangeRow) × (u.pieces base ≡ Some (Change r)) × (r.node ≡ row.node)
-  change_later base row e =
-      let it = change_there (now v).pieces u.pieces (grow_between v.start v.words v.log log m.lawful.enabled (later-goes_on m.later)) base row e in
-      (it.0, it.1, ap (λ x. x.node) it.2.others)
-
-  -- no row lies at the anchor
-  not_anchor : (node : ℕ) (r : InnerRow) → u.pieces node ≡ Some (Inner r) → node ≢ anchor
-  not_anchor node r e is = clash (sym (anchor_free v.start v.words log m.lawful.enabled) ∙ subst (λ n. u.pieces n ≡ Some (Inner r)) is e)
-    where
-      clash : None ≡ Some (Inner r) → ⊥
-      clash f = cc
-
-  -- the status of a node is shown at its place
-  status_shown : (node : ℕ) → IsNode u node → (word : ℕ) × IsShown u (place_of_status node) word × (word ≡ open_word → IsOpen u node)
-  status_shown node (is_anchor e) = (open_word, subst (λ p. IsShown u p open_word) (sym (status_place_anchor node e)) shown_status, (λ _. anchor_is e))
-  status_shown node (is_inner r e) =
-      (r.status, subst (λ p. IsShown u p r.status) (sym (status_place_inner node (not_anchor node r e))) (shown_row node (Inner r) 0 e refl), (λ is. row_is r e is))
-
-  -- a load of the status that gives an open one shows the node open
-  open_seen : (node : ℕ) → IsNode u node → (word : ℕ) → IsShown u (place_of_status node) word → word ≡ open_word → IsOpen u node
-  open_seen node (is_anchor e) word shown is = anchor_is e
-  open_seen node (is_inner r e) word shown is =
-      row_is r e (sym (shown_in_row v.start v.words log m.lawful.enabled node (Inner r) 0 r.status e refl (place_of_status node) word shown (status_place_inner node (not_anchor node r e))) ∙ is)
-
--- a caller may load the status of a change's node, and so see the node open
-pub can_load_okay : (v : View) (change place : ℕ) → IsSound v → CanLoadOkay v change place → CanLoadAs v place (okay_of v change)
-can_load_okay v change place s can =
-    record {
-      known = λ log m.
-          let r = change_later v s log m change can.row can.installed in
-          let node = subst (λ n. IsNode (state_of v.start v.words log) n) r.2 (change_node v.start v.words log m.lawful.enabled change r.0 r.1) in
-          let it = status_shown v s log m can.row.node node in
-          (it.0, subst (λ p. IsShown (state_of v.start v.words log) p it.0) (sym can.at) it.1);
-      comes = λ log m word shown event named. okay_comes log m word shown event named;
-    }
-  where
-    okay_comes : (log : Log) (m : MayCome v log) (word : ℕ) → IsShown (state_of v.start v.words log) place word → (event : Event)
-        → okay_of v change log word ≡ Some event → CanMake v event × LeavesAt v log event place word
-    okay_comes log m word shown event named =
-        let t = state_of v.start v.words log in
-        let r = change_later v s log m change can.row can.installed in
-        let node = subst (λ n. IsNode t n) r.2 (change_node v.start v.words log m.lawful.enabled change r.0 r.1) in
-        let it = if_some ((word == open_word) && waits (as_change (t.pieces change))) (Okay (number_of v.who) change) event named in
-        let both = both_true (word == open_word) (waits (as_change (t.pieces change))) it.0 in
-        let zero_is = eq_true word open_word both.0 in
-        let unset = eq_true r.0.decision undecided (sym (ap (λ o. waits (as_change o)) r.1) ∙ both.1) in
-        let number = ap number_of can.mine in
-        let opened = open_seen v s log m can.row.node node word (subst (λ p. IsShown t p word) can.at shown) zero_is in
-        let mine : author (Okay (number_of v.who) change) ≡ v.who = ap Caller number ∙ sym can.mine in
-        let enabled : Enabled (start v.start v.words) log (Okay (number_of v.who) change) =
-        record {
-          known = subst (λ n. n < t.callers) (sym number) (low v s log m can.number can.mine);
-          change = r.0;
-          pending = record { published = r.1; unset = unset };
-          node_open = subst (IsOpen t) (sym r.2) opened;
-        } in
-        let touches : touch_of t (Okay (number_of v.who) change) ≡ Some record { place = place; found = word; left = word } =
-        ap (λ o. touch_of_okay (as_change o)) r.1
-        ∙ ap₂ (λ p n. Some record { place = p; found = n; left = n }) (ap place_of_status r.2 ∙ sym can.at) (sym zero_is) in (
-          subst (CanMake v) it.1 record { mine = mine; stored = tt; allowed = tt },
-          subst (λ e. LeavesAt v log e place word) it.1 record { enabled = enabled; leaves = inl touches },
-        )
-
--- a slot of an inner row is shown at its place
-module _ (v : View) (s : IsSound v) (log : Log) (m : MayCome v log) (node i place : ℕ) (row : InnerRow) (there : (now v).pieces node ≡ Some (Inner row)) (within : i < row.degree) (at : place ≡ slot_place node row.degree i) where
-  abbrev st : Snapshot
-  st = state_of v.start v.words log
-
-  -- the slot behind the log: its row, its word, and where the word lies
-  pub slot_later : (r : InnerRow) × (st.pieces node ≡ Some (Inner r)) × (r.degree ≡ row.degree) × ((word : ℕ) × (slice_get r.slots i ≡ Some word)
-      × (slice_get (words_of (Inner r)) (4 + length r.keys + i) ≡ Some word) × (place ≡ node + (4 + length r.keys + i)))
-  slot_later =
-      let it = inner_later v s log m node row there in
-      let r = it.0 in
-      let shape : HasDegree r = shaped v.start v.words log m.lawful.enabled node (Inner r) it.1 in
-      let slots = shape.slots in
-      let keys = shape.keys in
-      let degree = it.2 in
-      let word = slice_get-get_or r.slots i 0 (omega arith) in
-      (r, it.1, it.2, (_, word, get-words_of_slot r i ∙ word, at ∙ omega arith))
-
--- a caller may load a slot of an inner row, and so pass it where the row is marked
-pub can_load_pass : (v : View) (node i place : ℕ) → IsSound v → CanLoadPass v node i place → CanLoadAs v place (pass_of v node i)
-can_load_pass v node i place s can =
-    record {
-      known = λ log m.
-          let it = slot_later v s log m node i place can.row can.published can.within can.at in
-          (it.3.0, subst (λ p. IsShown (state_of v.start v.words log) p it.3.0) (sym it.3.3) (shown_row node (Inner it.0) (4 + length it.0.keys + i) it.1 it.3.2));
-      comes = pass_comes;
-    }
-  where
-    pass_comes : (log : Log) (m : MayCome v log) (word : ℕ) → IsShown (state_of v.start v.words log) place word → (event : Event)
-        → pass_of v node i log word ≡ Some event → CanMake v event × LeavesAt v log event place word
-    pass_comes log m word shown event named =
-        let t = state_of v.start v.words log in
-        let it = slot_later v s log m node i place can.row can.published can.within can.at in
-        let r = it.0 in
-        let same = shown_in_row v.start v.words log m.lawful.enabled node (Inner r) (4 + length r.keys + i) it.3.0 it.1 it.3.2 place word shown it.3.3 in
-        let tests = if_some (is_marked (as_inner (t.pieces node)) && (not (is_change (ref_of word)) && not (word == unset_word))) (Pass (number_of v.who) node i word) event named in
-        let both = both_true (is_marked (as_inner (t.pieces node))) (not (is_change (ref_of word)) && not (word == unset_word)) tests.0 in
-        let rest = both_true (not (is_change (ref_of word))) (not (word == unset_word)) both.1 in
-        let marked = eq_true r.status marked_word (sym (ap (λ o. is_marked (as_inner o)) it.1) ∙ both.0) in
-        let number = ap number_of can.mine in
-        let enabled : Enabled (start v.start v.words) log (Pass (number_of v.who) node i word) =
-        record {
-          known = subst (λ n. n < t.callers) (sym number) (low v s log m can.number can.mine);
-          row = r;
-          published = it.1;
-          marked = marked;
-          in_slot = it.3.1 ∙ ap (λ x. Some x) (sym same);
-          no_change = no_change (ref_of word) rest.0;
-          set = not_true word unset_word rest.1;
-        } in
-        let mine : author (Pass (number_of v.who) node i word) ≡ v.who = ap Caller number ∙ sym can.mine in
-        let at_place : place_of_slot t node i ≡ place =
-        place_inner t node i r it.1 (not_anchor v s log m node r it.1) ∙ ap (λ d. slot_place node d i) it.2 ∙ sym can.at in (
-          subst (CanMake v) tests.1 record { mine = mine; stored = tt; allowed = tt },
-          subst (λ e. LeavesAt v log e place word) tests.1 record { enabled = enabled; leaves = inl (ap (λ p. Some record { place = p; found = word; left = word }) at_place) },
-        )
-
--- a caller may give up a pair row by a load beside
-pub can_load_past : (v : View) (pair node : ℕ) → IsSound v → CanLoadPast v pair node → CanLoadAs v (node + inner_status_offset) (past_of v pair)
-can_load_past v pair node s can =
-    record {
-      known = λ log m. let it = inner_later v s log m node can.row can.published in (it.0.status, shown_row node (Inner it.0) 0 it.1 refl);
-      comes = past_comes;
-    }
-  where
-    past_comes : (log : Log) (m : MayCome v log) (word : ℕ) → IsShown (state_of v.start v.words log) (node + inner_status_offset) word → (event : Event)
-        → past_of v pair log word ≡ Some event → CanMake v event × LeavesAt v log event (node + inner_status_offset) word
-    past_comes log m word shown event named =
-        let t = state_of v.start v.words log in
-        let it = inner_later v s log m node can.row can.published in
-        let number = ap number_of can.mine in
-        let is = some_one (Lose (number_of v.who) (pair ∷ [])) event named in
-        let held = held_later v.start v.words record { caller = can.number; base = pair; size = pair_words } v.log log m.lawful.enabled (subst (λ w. Later w v.log log) can.mine m.later) can.held in
-        let enabled : Enabled (start v.start v.words) log (Lose (number_of v.who) (pair ∷ [])) =
-        record {
-          known = subst (λ n. n < t.callers) (sym number) (low v s log m can.number can.mine);
-          cause = inl record {
-            pair = pair;
-            bases_are = refl;
-            held = subst (λ n. HoldsRow t n pair pair_words) (sym number) held;
-            node = node;
-            row = it.0;
-            published = it.1;
-            above = can.above;
-          };
-        } in
-        let mine : author (Lose (number_of v.who) (pair ∷ [])) ≡ v.who = ap Caller number ∙ sym can.mine in (
-          subst (CanMake v) is record { mine = mine; stored = tt; allowed = tt },
-          subst (λ e. LeavesAt v log e (node + inner_status_offset) word) is record { enabled = enabled; leaves = inr refl },
-        )
-
--- a place that is known lies within the table
-pub known_low : (v : View) (place : ℕ) → IsSound v → IsKnown v place → place < v.words
-known_low v place s known =
-    let it = known v.log record { later = no_more; lawful = s.lawful } in
-    at place it.0 it.1
-  where
-    at : (q word : ℕ) → IsShown (now v) q word → q < v.words
-    at _ _ shown_next = let room = s.lawful.opens.room in omega arith
-    at _ _ shown_callers = let room = s.lawful.opens.room in omega arith
-    at _ _ shown_status = let room = s.lawful.opens.room in omega arith
-    at _ _ shown_slot = let room = s.lawful.opens.room in omega arith
-    at _ word (shown_row base p k there got) =
-        let high = (claimed_within v.start v.words v.log base (size_of p) s.lawful.enabled ((placed v.start v.words v.log s.lawful.enabled).published base p there)).below_next in
-        let less = get_below (words_of p) k word got in
-        let low = next_within v.start v.words s.lawful.opens v.log s.lawful.enabled in
-        let all = words_same v.start v.words s.lawful.opens v.log in
-        omega arith
-    at _ _ (shown_free far in_it) = let all = words_same v.start v.words s.lawful.opens v.log in omega arith

@@ -1,4 +1,5 @@
--- What a seat owes for a step: that its event is enabled whatever others do meanwhile, and that its call allows it.
+-- What a seat owes for a step: that its event is enabled whatever others do meanwhile, and that its
+-- call allows it.
 use Rattle.std.specs.Prelude.{◌≡◌, ◌≢◌, ◌⊎◌, ℕ, ◌+◌, ◌^◌, ◌<◌, List, [], ◌∷◌, ◌++◌, length, slice_get, Some, None}
 use Rattle.ist_core.specs.declared.calls.Call.{Call}
 use Rattle.ist_core.specs.declared.events.Event.{Event}
@@ -33,7 +34,8 @@ pub record MayCome (v : View) (log : Log) : Type 0 where
 -- the words of the rows are those that the seat stored there
 abbrev pub StoredAll : View → List Row → Type 0
 StoredAll v rows =
-    Each (λ row. (k : ℕ) → k < length row.words → slice_get row.words k ≡ Some (own_at v.own (row.base + k))) rows
+    Each (λ row. (k : ℕ) → k < length row.words
+        → slice_get row.words k ≡ Some (own_at v.own (row.base + k))) rows
 
 -- ---- an Install in a call
 
@@ -41,8 +43,8 @@ StoredAll v rows =
 abbrev pub IsResolved : View → ℕ → Type 0
 IsResolved v number = AllResolvedOf (now v) v.log number
 
--- the seat is in a call, in which all its earlier changes are resolved; a put or remove is the call's command, and none of
--- this call was decided yes
+-- the seat is in a call, in which all its earlier changes are resolved; a put or remove is the
+-- call's command, and none of this call was decided yes
 pub record MayInstall (v : View) (caller : ℕ) (change : ChangeRow) : Type 0 where
   pub pending : Pending
   pub in_call : v.pending ≡ Some pending
@@ -50,9 +52,11 @@ pub record MayInstall (v : View) (caller : ℕ) (change : ChangeRow) : Type 0 wh
   pub command : IsUpdate change.kind → command_of change ≡ pending.command
   pub none_yet : IsUpdate change.kind → HasMade v.start v.words v.log caller v.calls
 
--- the seat may make the event: an Install as its call allows it, and an Enter where all callers entered before have their seats
+-- the seat may make the event: an Install as its call allows it, and an Enter where all callers
+-- entered before have their seats
 abbrev pub SeatAllows : View → Event → Type 0
-SeatAllows v (Install caller base rows) = (change : ChangeRow) → first_change rows ≡ Some change → MayInstall v caller change
+SeatAllows v (Install caller base rows) = (change : ChangeRow) → first_change rows ≡ Some change
+    → MayInstall v caller change
 SeatAllows v (Enter caller) = v.given ≡ v.made
 SeatAllows v _ = Unit {0}
 
@@ -67,51 +71,70 @@ pub record CanMake (v : View) (event : Event) : Type 0 where
 -- the event is enabled behind the log, and its step finds one word at the place and leaves another
 pub record ComesAt (v : View) (log : Log) (event : Event) (place found left : ℕ) : Type 0 where
   pub enabled : Enabled (start v.start v.words) log event
-  pub touches : touch_of (state_of v.start v.words log) event ≡ Some record { place = place; found = found; left = left }
+  pub touches : touch_of (state_of v.start v.words log) event
+      ≡ Some record { place = place; found = found; left = left }
 
 -- the word at the place is one that all know, behind each log that may come
 abbrev pub IsKnown : View → ℕ → Type 0
-IsKnown v place = (log : Log) → MayCome v log → (word : ℕ) × IsShown (state_of v.start v.words log) place word
+IsKnown v place = (log : Log) → MayCome v log → (word : ℕ)
+    × IsShown (state_of v.start v.words log) place word
 
--- an exchange of `old` for `new` is the event: behind each log that may come and has `old` there, the event is enabled
+-- an exchange of `old` for `new` is the event: behind each log that may come and has `old` there,
+-- the event is enabled
+-- Who meets it: of a Reserve `ist_rows`, by the rows that its caller holds; of an Install and what
+-- follows it the crate of changes, by the filled row and by the Okay, or the mark, in its log; of a
+-- Mark and a Finish the crate that marks, by the passes in its log; each by laws over lawful logs
 pub record CanExchange (v : View) (place old new : ℕ) (event : Event) : Type 0 where
   pub make : CanMake v event
   pub known : IsKnown v place
   pub comes : (log : Log) → MayCome v log → IsShown (state_of v.start v.words log) place old
       → ComesAt v log event place old new
 
--- an add is the event that is named for the word found: behind each log that may come it is enabled, and leaves one more
+-- an add is the event that is named for the word found: behind each log that may come it is
+-- enabled, and leaves one more
+-- Who meets it: of an Enter `ist_rows`, as the maker has entered all callers; of a Count the owner
+-- of a change behind its yes; of a Draw who fills the parts of a root, by the finished target
 pub record CanAdd (v : View) (place : ℕ) (named : ℕ → Event) : Type 0 where
   pub make : (found : ℕ) → CanMake v (named found)
   pub known : IsKnown v place
-  pub comes : (log : Log) → MayCome v log → (found : ℕ) → IsShown (state_of v.start v.words log) place found
+  pub comes : (log : Log) → MayCome v log → (found : ℕ)
+      → IsShown (state_of v.start v.words log) place found
       → ComesAt v log (named found) place found (found + 1)
-  pub fits : (log : Log) → MayCome v log → (found : ℕ) → IsShown (state_of v.start v.words log) place found
+  pub fits : (log : Log) → MayCome v log → (found : ℕ)
+      → IsShown (state_of v.start v.words log) place found
       → found + 1 < 2 ^ 64
 
--- the event is enabled behind the log, and a step that leaves the word at the place as it is may be it
+-- the event is enabled behind the log, and a step that leaves the word at the place as it is may be
+-- it
 pub record LeavesAt (v : View) (log : Log) (event : Event) (place word : ℕ) : Type 0 where
   pub enabled : Enabled (start v.start v.words) log event
-  pub leaves : (touch_of (state_of v.start v.words log) event ≡ Some record { place = place; found = word; left = word })
+  pub leaves : (touch_of (state_of v.start v.words log) event
+          ≡ Some record { place = place; found = word; left = word })
       ⊎ (touch_of (state_of v.start v.words log) event ≡ None)
 
 -- a load of the place is the event that is named for the log before it and the word, where one is
+-- Who meets it: `load_okay`, `load_pass` and `load_past`, each by its own condition (`Watching`)
 pub record CanLoadAs (v : View) (place : ℕ) (named : Naming) : Type 0 where
   pub known : IsKnown v place
-  pub comes : (log : Log) → MayCome v log → (word : ℕ) → IsShown (state_of v.start v.words log) place word
+  pub comes : (log : Log) → MayCome v log → (word : ℕ)
+      → IsShown (state_of v.start v.words log) place word
       → (event : Event) → named log word ≡ Some event
       → CanMake v event × LeavesAt v log event place word
 
 -- an exchange is the event where it finds `old`, and otherwise the other one
+-- Who meets it: who publishes a root or a part, by the held rows that it built over the finished
+-- target; the other event is the Lose of just these rows
 pub record CanExchangeOrLose (v : View) (place old new : ℕ) (event lost : Event) : Type 0 where
   pub hit : CanExchange v place old new event
   pub make : CanMake v lost
-  pub miss : (log : Log) → MayCome v log → (found : ℕ) → IsShown (state_of v.start v.words log) place found
+  pub miss : (log : Log) → MayCome v log → (found : ℕ)
+      → IsShown (state_of v.start v.words log) place found
       → found ≢ old → LeavesAt v log lost place found
 
 -- ---- own rows
 
 -- the place lies in a row that the seat's caller holds
+-- Who meets it: `fill` of `ist_rows`, by the rows that its caller holds
 pub record IsOwn (v : View) (place : ℕ) : Type 0 where
   pub row : HeldRow
   pub held : Among row (now v).held
@@ -123,13 +146,17 @@ pub record IsOwn (v : View) (place : ℕ) : Type 0 where
 -- ---- calls
 
 -- a call may begin: the seat is a caller's, and in no call
+-- Who meets it: each call of a pass on the tree, at its beginning
 pub record CanBegin (v : View) : Type 0 where
   pub number : ℕ
   pub mine : v.who ≡ Caller number
   pub in_none : v.pending ≡ None
 
--- the seat's call may end as this call: its command is the one in progress and its stamp the next, all that was installed is
--- resolved, the calls of the seat stand in its log with it, and it is fresh for what was seen when it began
+-- the seat's call may end as this call: its command is the one in progress and its stamp the next,
+-- all that was installed is resolved, the calls of the seat stand in its log with it, and it is
+-- fresh for what was seen when it began
+-- Who meets it: each call of a pass that answers, by the laws on standing: a get by its search, an
+-- update by its yes
 pub record CanEnd (v : View) (call : Call) : Type 0 where
   pub number : ℕ
   pub mine : v.who ≡ Caller number
@@ -144,7 +171,9 @@ pub record CanEnd (v : View) (call : Call) : Type 0 where
   pub length_is : pending.length ≡ length seen
   pub fresh : IsFresh v.start v.words seen v.stamp call
 
--- the call may be given up: all that it installed is resolved, and no put or remove of it was decided yes
+-- the call may be given up: all that it installed is resolved, and no put or remove of it was
+-- decided yes
+-- Who meets it: each call of a pass that is refused for want of words
 pub record CanGiveUp (v : View) : Type 0 where
   pub number : ℕ
   pub mine : v.who ≡ Caller number

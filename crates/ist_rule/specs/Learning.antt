@@ -21,7 +21,8 @@ use Rattle.ist_rule.specs.Rule.{own_at, IsSound}
 abbrev pub now : View → Snapshot
 now v = state_of v.start v.words v.log
 
--- the seat has made loads and nothing else: it has seen more events of others, and knows of itself what it knew
+-- the seat has made loads and nothing else: it has seen more events of others, and knows of itself
+-- what it knew
 pub record GoesOnTo (v w : View) : Type 0 where
   pub later : Later v.who v.log w.log
   pub sound : IsSound w
@@ -46,7 +47,8 @@ seeing v log place word =
       loaded = v.loaded + 1;
     }
 
--- the word that stood at the place when the seat had seen its log: that of the image, or what the seat stored there itself
+-- the word that stood at the place when the seat had seen its log: that of the image, or what the
+-- seat stored there itself
 pub record Looked (v : View) (place word : ℕ) (w : View) : Type 0 where
   pub later : Later v.who v.log w.log
   pub sound : IsSound w
@@ -78,7 +80,8 @@ pub record Logged (v : View) (event : Event) (w : View) : Type 0 where
 abbrev pub logging_load : View → Log → Event → View
 logging_load v before event = record (logging v before event) { loaded = v.loaded + 1 }
 
--- the event came at a load that gave this word at the place: it is the last of the log, and all before it is seen
+-- the event came at a load that gave this word at the place: it is the last of the log, and all
+-- before it is seen
 pub record LoggedLoad (v : View) (event : Event) (place word : ℕ) (w : View) : Type 0 where
   pub before : Log
   pub later : Later v.who v.log before
@@ -92,7 +95,8 @@ Naming = Log → ℕ → Option Event
 
 -- a load that is an event where it is named so, and nothing but a load otherwise
 pub data LoadedAs (v : View) (named : Naming) (place word : ℕ) (w : View) : Type 0 where
-  as_event : (event : Event) (l : LoggedLoad v event place word w) → named l.before word ≡ Some event
+  as_event : (event : Event) (l : LoggedLoad v event place word w)
+      → named l.before word ≡ Some event
       → LoadedAs v named place word w
   as_load : Looked v place word w → named w.log word ≡ None → LoadedAs v named place word w
 
@@ -103,7 +107,8 @@ ExchangedOrLost v event lost place old found w =
 
 -- an exchange that found `old` is the event, and one that found another word is a load
 abbrev pub Exchanged : View → Event → ℕ → ℕ → ℕ → View → Type 0
-Exchanged v event place old found w = (found ≡ old → Logged v event w) × (found ≢ old → Looked v place found w)
+Exchanged v event place old found w = (found ≡ old → Logged v event w)
+    × (found ≢ old → Looked v place found w)
 
 -- ---- calls
 
@@ -116,16 +121,19 @@ pub record Turned (v : View) (turn : Log → View) (w : View) : Type 0 where
 -- the view that has begun a call with this command
 abbrev pub beginning : View → Option Command → Log → View
 beginning v command log =
-    record v { log = log; pending = Some record { command = command; length = length log }; loaded = v.loaded + 1 }
+    let pending = Some record { command = command; length = length log } in
+    record v { log = log; pending = pending; loaded = v.loaded + 1 }
 
 -- the view that has begun a search
 abbrev pub searching : View → Log → View
-searching v log = record v { log = log; loads = record { since = length log; list = [] }; loaded = v.loaded + 1 }
+searching v log =
+    record v { log = log; loads = record { since = length log; list = [] }; loaded = v.loaded + 1 }
 
 -- the view that has ended its call
 abbrev pub ending : View → Call → Log → View
 ending v call log =
-    record v { log = log; calls = v.calls ++ call ∷ []; stamp = call.stamp; pending = None; loaded = v.loaded + 1 }
+    let calls = v.calls ++ call ∷ [] in
+    record v { log = log; calls = calls; stamp = call.stamp; pending = None; loaded = v.loaded + 1 }
 
 -- the view that has given up its call
 abbrev pub giving_up : View → Log → View

@@ -25,7 +25,8 @@ stores step me stored you = (you.0 ≡ storing me.0 step.word stored) × (you.1 
 
 -- an exchange, which is the event where it finds the first number
 abbrev pub exchanges : Event → Told
-exchanges event step me found you = Exchanged me.0 event step.word step.first found you.0 × (you.1 ≡ me.1)
+exchanges event step me found you = Exchanged me.0 event step.word step.first found you.0
+    × (you.1 ≡ me.1)
 
 -- an add, which is the event that is named for the word found
 abbrev pub adds : (ℕ → Event) → Told

@@ -48,7 +48,8 @@ pub record Recalls (pairs : List Pair) (words : ℕ) (log : Log) (load : Load) :
 -- the lengths of the loads never fall, and none is less than that with which the search began
 abbrev pub NeverFall : ℕ → List Load → Type 0
 NeverFall since [] = Unit {0}
-NeverFall since (load ∷ loads) = (since ≤ load.length) × Each (λ l. l.length ≤ load.length) loads × NeverFall since loads
+NeverFall since (load ∷ loads) = (since ≤ load.length) × Each (λ l. l.length ≤ load.length) loads
+    × NeverFall since loads
 
 -- the view by itself: where its calls stand, what its loads gave, which logs it was joined from
 pub record IsWellMade (pairs : List Pair) (words : ℕ) (v : View) : Type 0 where
@@ -66,18 +67,22 @@ pub record IsWellMade (pairs : List Pair) (words : ℕ) (v : View) : Type 0 wher
 
 -- ---- what a view says of the longest log
 
--- the calls of a caller that was taken back: its number is below the callers', and its changes are those of its calls
+-- the calls of a caller that was taken back: its number is below the callers', and its changes are
+-- those of its calls
 pub record IsTakenBack (pairs : List Pair) (words : ℕ) (log : Log) (t : Taken) : Type 0 where
   pub low : t.number < (state_of pairs words log).callers
   pub between : IsBetween pairs words log t.number t.calls
 
--- the view and the log: numbers of callers, own words, and what the changes of the caller have come to
+-- the view and the log: numbers of callers, own words, and what the changes of the caller have come
+-- to
 pub record IsTrueIn (pairs : List Pair) (words : ℕ) (log : Log) (v : View) : Type 0 where
   pub low : (number : ℕ) → v.who ≡ Caller number → number < (state_of pairs words log).callers
-  pub made : v.who ≡ Maker → (v.made ≡ (state_of pairs words log).callers) × (v.given ≤ v.made) × (v.made ≤ v.given + 1)
+  pub made : v.who ≡ Maker → (v.made ≡ (state_of pairs words log).callers) × (v.given ≤ v.made)
+      × (v.made ≤ v.given + 1)
   pub idle : v.who ≡ Maker → (number : ℕ) → v.given ≤ number → IsIdleIn (Caller number) log
   pub fresh : (place : ℕ) → (state_of pairs words log).next ≤ place → own_at v.own place ≡ 0
-  pub call : (number : ℕ) → v.who ≡ Caller number → CallStands pairs words log number v.calls v.pending
+  pub call : (number : ℕ) → v.who ≡ Caller number
+      → CallStands pairs words log number v.calls v.pending
   pub taken : Each (IsTakenBack pairs words log) v.taken
 
 -- what is so of the view of each seat that was not joined away
@@ -120,11 +125,13 @@ pub record Kept (k : About) (s : T.State (Unit {0}) View) : Type 0 where
   pub image : IsImage (state_of k.start.value.items k.words log) s.words
   pub seats : (i : ℕ) (v : View) → HasView s i v → v.who ≢ Spent → Fits k log s.words v
   -- there is one maker, and callers' numbers differ
-  pub apart : (i j : ℕ) (v w : View) → HasView s i v → HasView s j w → IsNamed v.who → w.who ≡ v.who → j ≡ i
+  pub apart : (i j : ℕ) (v w : View) → HasView s i v → HasView s j w → IsNamed v.who → w.who ≡ v.who
+      → j ≡ i
   -- a caller that was not given its seat has none
   pub unborn : (i : ℕ) (v : View) → HasView s i v → v.who ≡ Maker → (number : ℕ) → v.given ≤ number
       → (j : ℕ) (w : View) → HasView s j w → w.who ≢ Caller number
-  pub retired : (i : ℕ) (v : View) → HasView s i v → v.who ≢ Spent → Each (IsRetired s log v) v.taken
+  pub retired : (i : ℕ) (v : View) → HasView s i v → v.who ≢ Spent
+      → Each (IsRetired s log v) v.taken
 
 -- ---- a new table
 

@@ -28,7 +28,8 @@ noted_by (Caller number) = Some number
 noted_by (Note of) = of
 noted_by _ = None
 
--- the seat that another was split from: a maker gave a seat to the caller that it entered, or it is as it was
+-- the seat that another was split from: a maker gave a seat to the caller that it entered, or it is
+-- as it was
 abbrev pub split_left : View → View
 split_left v = if awaits_seat v then record v { given = v.given + 1 } else v
 
@@ -48,9 +49,11 @@ plain v who calls =
       taken = [];
     }
 
--- the seat that was split from another: that of the caller that was entered last, which made no call, or a note
+-- the seat that was split from another: that of the caller that was entered last, which made no
+-- call, or a note
 abbrev pub split_right : View → View
-split_right v = if awaits_seat v then plain v (Caller v.given) [] else plain v (Note (noted_by v.who)) v.calls
+split_right v = if awaits_seat v then plain v (Caller v.given) [] else plain v
+    (Note (noted_by v.who)) v.calls
 
 -- ---- joining
 
@@ -63,7 +66,8 @@ abbrev pub with_taken : Who → List Call → List Taken → List Taken
 with_taken (Caller number) calls taken = record { number = number; calls = calls } ∷ taken
 with_taken _ calls taken = taken
 
--- the seat that another was joined to: it has the longer log and the greater stamp, and keeps both logs
+-- the seat that another was joined to: it has the longer log and the greater stamp, and keeps both
+-- logs
 abbrev pub joined : View → View → View
 joined v w =
     record v {
@@ -93,7 +97,8 @@ gone =
       taken = [];
     }
 
--- the second seat may be joined to the first: it isn't the maker's, is in no call, and a caller's is joined to the maker's
+-- the second seat may be joined to the first: it isn't the maker's, is in no call, and a caller's
+-- is joined to the maker's
 pub record CanJoin (v w : View) : Type 0 where
   pub no_maker : w.who ≢ Maker
   pub in_none : w.pending ≡ None
@@ -101,7 +106,8 @@ pub record CanJoin (v w : View) : Type 0 where
 
 -- ---- closing
 
--- the words are the image of a lawful log that goes on from the seat's by events of others, and the view is true of that log
+-- the words are the image of a lawful log that goes on from the seat's by events of others, and the
+-- view is true of that log
 pub record IsLast (v : View) (image : List ℕ) : Type 0 where
   pub log : Log
   pub later : Later v.who v.log log

@@ -1,4 +1,5 @@
--- Loads that are events: of a status that shows a node open, of a slot of a marked node, and beside a pair row that is given up.
+-- Loads that are events: of a status that shows a node open, of a slot of a marked node, and beside
+-- a pair row that is given up.
 use Rattle.std.specs.Prelude.{◌≡◌, ℕ, ◌<◌, ◌==◌, ◌&&◌, not, Bool, true, false, if◌then◌else◌, [], ◌∷◌, Option, Some, None}
 use Rattle.ist_core.specs.declared.states.InnerRow.{InnerRow}
 use Rattle.ist_core.specs.declared.states.ChangeRow.{ChangeRow}
@@ -27,13 +28,16 @@ abbrev pub waits : Option ChangeRow → Bool
 waits (Some change) = change.decision == undecided
 waits None = false
 
--- the load of a status is an Okay of the change where it shows the node open and the change is undecided
+-- the load of a status is an Okay of the change where it shows the node open and the change is
+-- undecided
 abbrev pub okay_of : View → ℕ → Naming
 okay_of v change log word =
     if (word == open_word) && waits (as_change ((state_of v.start v.words log).pieces change))
     then Some (Okay (number_of v.who) change) else None
 
--- a caller may look whether the node of an installed change is open: at the place of the node's status
+-- a caller may look whether the node of an installed change is open: at the place of the node's
+-- status
+-- Who meets it: who helps a change, by its Install in the log
 pub record CanLoadOkay (v : View) (change place : ℕ) : Type 0 where
   pub number : ℕ
   pub mine : v.who ≡ Caller number
@@ -56,10 +60,12 @@ is_change _ = false
 -- the load of a slot is a Pass where the node is marked and the word is neither a change nor Unset
 abbrev pub pass_of : View → ℕ → ℕ → Naming
 pass_of v node i log word =
-    if is_marked (as_inner ((state_of v.start v.words log).pieces node)) && (not (is_change (ref_of word)) && not (word == unset_word))
+    if is_marked (as_inner ((state_of v.start v.words log).pieces node))
+        && (not (is_change (ref_of word)) && not (word == unset_word))
     then Some (Pass (number_of v.who) node i word) else None
 
--- a caller may pass a slot of a node that it has seen marked or finished: at the place of the slot
+-- a caller may try to pass a slot of a published node: at the place of the slot
+-- Who meets it: who marks a subtree, at each slot of a node behind its mark
 pub record CanLoadPass (v : View) (node i place : ℕ) : Type 0 where
   pub number : ℕ
   pub mine : v.who ≡ Caller number
@@ -75,6 +81,7 @@ abbrev pub past_of : View → ℕ → Naming
 past_of v pair log word = Some (Lose (number_of v.who) (pair ∷ []))
 
 -- a caller may give up a pair row below a published inner row
+-- Who meets it: who gives up a pair row before it may be too late
 pub record CanLoadPast (v : View) (pair node : ℕ) : Type 0 where
   pub number : ℕ
   pub mine : v.who ≡ Caller number

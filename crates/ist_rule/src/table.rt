@@ -21,7 +21,8 @@ impl Model for TreeTable {
 
     ghost Value = { TableFace };
 
-    ghost view = { λ t. record { table = t.table.shared.table_id; start = t.table.shared.key.start.value.items } };
+    ghost view = {
+        λ t. record { table = t.table.shared.table_id; start = t.table.shared.key.start.value.items } };
 
     ghost invariant = { λ t. (t.table.shared.table_id.words ≡ t.table.shared.key.words)
         × (4 ≤ t.table.shared.key.words) × (t.table.shared.key.words ≤ 2 ^ 28)
@@ -45,7 +46,8 @@ impl Model for TreeSeat {
 
     ghost view = { λ s. record { table = s.seat.table_id; view = s.seat.me.0 } };
 
-    ghost invariant = { λ s. (s.seat.me.1 ≡ []) × IsSound s.seat.me.0 × (s.seat.me.0.words ≡ s.seat.table_id.words) };
+    ghost invariant = { λ s. (s.seat.me.1 ≡ []) × IsSound s.seat.me.0
+        × (s.seat.me.0.words ≡ s.seat.table_id.words) };
 }
 
 /// How many words the table has.

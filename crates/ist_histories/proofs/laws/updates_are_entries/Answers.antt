@@ -1,4 +1,5 @@
-use Rattle.ist_histories.proofs.EntryLemmas.{update_entry, entry_update, entries_once, entries_of_one}
+use Rattle.ist_histories.proofs.EntryLemmas.{update_entry, entry_update}
+use Rattle.ist_histories.proofs.EntryOnceLemmas.{entries_once, entries_of_one}
 use Rattle.ist_histories.proofs.EntryChangeLemmas.{entries_change}
 use Rattle.ist_histories.proofs.laws.updates_are_entries.Goals as goal
 

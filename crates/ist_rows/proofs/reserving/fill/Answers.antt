@@ -1,6 +1,6 @@
 use Rattle.std.proofs.Common.{◌+◌, ◌<◌, ◌^◌, sym, ap, subst, arith}
 use Rattle.ist_rule.specs.Conditions.{IsOwn}
-use Rattle.ist_rows.proofs.CallerLemmas.{place_low, words_low}
+use Rattle.ist_rows.proofs.CallerGoingLemmas.{place_low, words_low}
 use Rattle.ist_rows.proofs.reserving.fill.Goals as goal
 
 -- the place lies within the table, so that the sum is small
@@ -25,4 +25,5 @@ store-requires-clause-within c =
 -- and in an own row
 pub store-requires-clause-own : goal.store-requires-clause-own
 store-requires-clause-own c =
-    subst (λ n. IsOwn c.args.who.now.seat.view (n + c.args.at)) (sym c.from.ensures) (place_low _ _ _ c.know.ensures.sound c.requires.caller c.requires.held).0
+    subst (λ n. IsOwn c.args.who.now.seat.view (n + c.args.at)) (sym c.from.ensures)
+        (place_low _ _ _ c.know.ensures.sound c.requires.caller c.requires.held).0

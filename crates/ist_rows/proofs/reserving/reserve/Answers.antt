@@ -3,23 +3,30 @@ use Rattle.ist_rule.specs.Faces.{SeatFace}
 use Rattle.ist_rows.specs.Kinds.{kind_words}
 use Rattle.ist_rows.specs.Rows.{Reserved}
 use Rattle.ist_rows.specs.Fairly.{MayTake}
-use Rattle.ist_rows.proofs.CallerLemmas.{may_take, caller_refused, caller_reserved}
+use Rattle.ist_rows.proofs.CallerLemmas.{may_take}
+use Rattle.ist_rows.proofs.CallerGoingLemmas.{caller_refused, caller_reserved}
 use Rattle.ist_rows.proofs.reserving.reserve.Goals as goal
 
 -- what the caller holds is fair with the row
 pub take-requires-clause-fair : goal.take-requires-clause-fair
 take-requires-clause-fair g c =
     subst (MayTake c.args.who.now.seat.view c.args.who.now.number) (sym c.words.ensures.value)
-    (may_take c.args.who.now c.args.kind c.know.ensures.sound c.requires.caller (sym c.row.ensures.value ∙ c.in_default.is))
+    (may_take c.args.who.now c.args.kind c.know.ensures.sound c.requires.caller
+        (sym c.row.ensures.value ∙ c.in_default.is))
 
 -- a refused caller is one still
 pub returns-in_err-base-clause-caller : goal.returns-in_err-base-clause-caller
-returns-in_err-base-clause-caller g c = caller_refused c.args.who.now c.take.new.seat _ _ _ c.requires.caller c.in_err-base.ensures.full
+returns-in_err-base-clause-caller g c =
+    caller_refused c.args.who.now c.take.new.seat _ _ _ c.requires.caller c.in_err-base.ensures.full
 
 -- a caller with the row is one
 pub returns-clause-caller : goal.returns-clause-caller
 returns-clause-caller g c =
-    let took = subst (λ size. Reserved c.args.who.now.seat.view c.args.who.now.number c.in_ok-base.base size c.take.new.seat.view) c.words.ensures.value c.in_ok-base.ensures.reserved in
-    caller_reserved c.args.who.now c.hold.new.self c.args.kind c.in_ok-base.base c.requires.caller (sym c.row.ensures.value ∙ c.in_default.is)
-    (subst (λ (seat : SeatFace). Reserved c.args.who.now.seat.view c.args.who.now.number c.in_ok-base.base (kind_words c.args.kind) seat.view) (sym c.hold.ensures.same.0) took)
+    let took = subst (λ size. Reserved c.args.who.now.seat.view c.args.who.now.number
+            c.in_ok-base.base size c.take.new.seat.view) c.words.ensures.value
+            c.in_ok-base.ensures.reserved in
+    caller_reserved c.args.who.now c.hold.new.self c.args.kind c.in_ok-base.base c.requires.caller
+        (sym c.row.ensures.value ∙ c.in_default.is)
+    (subst (λ (seat : SeatFace). Reserved c.args.who.now.seat.view c.args.who.now.number
+        c.in_ok-base.base (kind_words c.args.kind) seat.view) (sym c.hold.ensures.same.0) took)
     c.hold.ensures.same.1 c.hold.ensures.value

@@ -41,8 +41,11 @@ exchange-requires g c =
       here,
       (
         omega arith,
-        subst (λ (e : Event). CanExchange v next_place c.load-next.result (c.load-next.result + c.args.size) e) (sym (reserving_is v c.args.number c.load-next.result c.args.size who))
-            (can_reserve v c.args.number _ _ looked.sound who (omega arith) (may_take_on _ v c.args.number c.args.size on c.requires.fair)),
+        subst (λ (e : Event). CanExchange v next_place c.load-next.result
+            (c.load-next.result + c.args.size) e)
+            (sym (reserving_is v c.args.number c.load-next.result c.args.size who))
+            (can_reserve v c.args.number _ _ looked.sound who (omega arith)
+                (may_take_on _ v c.args.number c.args.size on c.requires.fair)),
       ),
     )
 
@@ -54,7 +57,10 @@ returns-then-exchange-next-clause-reserved g c =
     record {
       before = c.load-next.new.seat.view;
       seen = on;
-      reserved = subst (λ (e : Event). Logged c.load-next.new.seat.view e c.exchange.new.seat.view) (reserving_is c.load-next.new.seat.view c.args.number c.load-next.result c.args.size (goes_on_who on ∙ c.requires.caller)) (c.exchange.ensures.exchanged.0 c.if-exchange-next.true);
+      reserved = subst (λ (e : Event). Logged c.load-next.new.seat.view e c.exchange.new.seat.view)
+          (reserving_is c.load-next.new.seat.view c.args.number c.load-next.result c.args.size
+          (goes_on_who on ∙ c.requires.caller))
+          (c.exchange.ensures.exchanged.0 c.if-exchange-next.true);
     }
 
 -- where another was found, nothing but loads was made
@@ -62,4 +68,6 @@ pub loop-preserved : goal.loop-preserved
 loop-preserved g c =
     let looked = c.load-next.ensures.looked in
     let on = goes_on_more _ _ _ c.loop.invariant.1 (looked_goes_on _ _ _ _ looked) in
-    (c.exchange.ensures.same_table ∙ c.load-next.ensures.same_table ∙ c.loop.invariant.0, goes_on_more _ _ _ on (looked_goes_on _ _ _ _ (c.exchange.ensures.exchanged.1 c.if-exchange-next.false)))
+    (c.exchange.ensures.same_table ∙ c.load-next.ensures.same_table ∙ c.loop.invariant.0,
+        goes_on_more _ _ _ on (looked_goes_on _ _ _ _
+        (c.exchange.ensures.exchanged.1 c.if-exchange-next.false)))

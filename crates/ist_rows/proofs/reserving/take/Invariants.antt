@@ -9,4 +9,5 @@ ghost-exchange g a = reserving a.seat.now.view a.old a.new
 
 -- each turn made loads alone
 abbrev pub invariant-loop : goal.invariant-loop
-invariant-loop g l = (l.seat.table ≡ l.initial.seat.table) × GoesOnTo l.initial.seat.view l.seat.view
+invariant-loop g l = (l.seat.table ≡ l.initial.seat.table)
+    × GoesOnTo l.initial.seat.view l.seat.view

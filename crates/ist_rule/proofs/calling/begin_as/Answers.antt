@@ -8,8 +8,10 @@ use Rattle.ist_rule.proofs.calling.begin_as.Goals as goal
 pub load-requires : goal.load-requires
 load-requires g c =
     let i = c.table.invariant in
-    let can = subst CanBegin (ap (λ (s : SeatFace). s.view) (sym c.seat.view_is)) c.requires.may_begin in (
-      ap (λ (s : SeatFace). s.table) c.seat.view_is ∙ c.requires.same_table ∙ sym (ap (λ (t : TableFace). t.table) c.table.view_is),
+    let can = subst CanBegin (ap (λ (s : SeatFace). s.view) (sym c.seat.view_is))
+            c.requires.may_begin in (
+      ap (λ (s : SeatFace). s.table) c.seat.view_is ∙ c.requires.same_table ∙ sym
+          (ap (λ (t : TableFace). t.table) c.table.view_is),
       omega arith,
       begins_moves _ _ _ _ _ c.seat.invariant.1.live can,
     )

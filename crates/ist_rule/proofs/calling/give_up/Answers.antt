@@ -8,8 +8,10 @@ use Rattle.ist_rule.proofs.calling.give_up.Goals as goal
 pub load-requires : goal.load-requires
 load-requires c =
     let i = c.table.invariant in
-    let can = subst CanGiveUp (ap (λ (s : SeatFace). s.view) (sym c.seat.view_is)) c.requires.may_give_up in (
-      ap (λ (s : SeatFace). s.table) c.seat.view_is ∙ c.requires.same_table ∙ sym (ap (λ (t : TableFace). t.table) c.table.view_is),
+    let can = subst CanGiveUp (ap (λ (s : SeatFace). s.view) (sym c.seat.view_is))
+            c.requires.may_give_up in (
+      ap (λ (s : SeatFace). s.table) c.seat.view_is ∙ c.requires.same_table ∙ sym
+          (ap (λ (t : TableFace). t.table) c.table.view_is),
       omega arith,
       gives_up_moves _ _ _ _ c.seat.invariant.1.live can,
     )

@@ -13,10 +13,14 @@ join_seat-requires c =
     let i = c.table.invariant in
     let v : View = c.seat.inside.seat.me.0 in
     let w : View = c.other.inside.seat.me.0 in
-    let can : CanJoin v w = subst (λ x. CanJoin x w) (ap (λ (s : SeatFace). s.view) (sym c.seat.view_is))
-    (subst (λ x. CanJoin c.args.seat.now.view x) (ap (λ (s : SeatFace). s.view) (sym c.other.view_is)) c.requires.may_join) in (
-      ap (λ (s : SeatFace). s.table) c.seat.view_is ∙ c.requires.same_table ∙ sym (ap (λ (t : TableFace). t.table) c.table.view_is),
-      ap (λ (s : SeatFace). s.table) c.other.view_is ∙ c.requires.other_table ∙ sym (ap (λ (t : TableFace). t.table) c.table.view_is),
+    let can : CanJoin v w = subst (λ x. CanJoin x w)
+            (ap (λ (s : SeatFace). s.view) (sym c.seat.view_is))
+    (subst (λ x. CanJoin c.args.seat.now.view x)
+        (ap (λ (s : SeatFace). s.view) (sym c.other.view_is)) c.requires.may_join) in (
+      ap (λ (s : SeatFace). s.table) c.seat.view_is ∙ c.requires.same_table ∙ sym
+          (ap (λ (t : TableFace). t.table) c.table.view_is),
+      ap (λ (s : SeatFace). s.table) c.other.view_is ∙ c.requires.other_table ∙ sym
+          (ap (λ (t : TableFace). t.table) c.table.view_is),
       c.other.invariant.0,
       omega arith,
       joins _ _ _ v w c.seat.invariant.1.live c.other.invariant.1.live can,
@@ -27,7 +31,9 @@ pub load-requires : goal.load-requires
 load-requires c =
     let i = c.table.invariant in
     let e = c.join_seat.ensures in (
-      e.0 ∙ (ap (λ (s : SeatFace). s.table) c.seat.view_is ∙ c.requires.same_table ∙ sym (ap (λ (t : TableFace). t.table) c.table.view_is)),
+      e.0 ∙ (ap (λ (s : SeatFace). s.table) c.seat.view_is ∙ c.requires.same_table ∙ sym
+          (ap (λ (t : TableFace). t.table) c.table.view_is)),
       omega arith,
-      looks_moves _ _ _ _ _ (λ dead. c.seat.invariant.1.live (sym (ap (λ (m : Seated). m.0.who) e.2) ∙ dead)),
+      looks_moves _ _ _ _ _ (λ dead. c.seat.invariant.1.live
+          (sym (ap (λ (m : Seated). m.0.who) e.2) ∙ dead)),
     )

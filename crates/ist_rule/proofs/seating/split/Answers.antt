@@ -3,14 +3,15 @@ use Rattle.ist_rule.specs.declared.view.View.{View}
 use Rattle.ist_rule.specs.Faces.{SeatFace, TableFace}
 use Rattle.ist_rule.specs.Rule.{IsSound}
 use Rattle.ist_rule.specs.Playing.{Seated}
-use Rattle.ist_rule.proofs.SplitLemmas.{splits, left_sound, right_sound, left_words, right_words}
+use Rattle.ist_rule.proofs.SplitSeatLemmas.{splits, left_sound, right_sound, left_words, right_words}
 use Rattle.ist_rule.proofs.seating.split.Goals as goal
 
 -- a split keeps the rule
 pub split_seat-requires : goal.split_seat-requires
 split_seat-requires c =
     let i = c.table.invariant in (
-      ap (λ (s : SeatFace). s.table) c.seat.view_is ∙ c.requires.same_table ∙ sym (ap (λ (t : TableFace). t.table) c.table.view_is),
+      ap (λ (s : SeatFace). s.table) c.seat.view_is ∙ c.requires.same_table ∙ sym
+          (ap (λ (t : TableFace). t.table) c.table.view_is),
       omega arith,
       splits _ _ _ c.seat.invariant.1.live,
     )
@@ -23,7 +24,8 @@ invariant_of-seat c =
     let me = e.2 in (
       ap (λ (m : Seated). m.1) me ∙ c.seat.invariant.0,
       subst (λ (m : Seated). IsSound m.0) (sym me) (left_sound v c.seat.invariant.1),
-      ap (λ (m : Seated). m.0.words) me ∙ left_words v ∙ c.seat.invariant.2 ∙ sym (ap (λ t. t.words) e.0),
+      ap (λ (m : Seated). m.0.words) me ∙ left_words v ∙ c.seat.invariant.2 ∙ sym
+          (ap (λ t. t.words) e.0),
     )
 
 -- and so is the new one
@@ -34,5 +36,6 @@ invariant_of-result c =
     let me = e.4 in (
       ap (λ (m : Seated). m.1) me,
       subst (λ (m : Seated). IsSound m.0) (sym me) (right_sound v c.seat.invariant.1),
-      ap (λ (m : Seated). m.0.words) me ∙ right_words v ∙ c.seat.invariant.2 ∙ sym (ap (λ t. t.words) e.3),
+      ap (λ (m : Seated). m.0.words) me ∙ right_words v ∙ c.seat.invariant.2 ∙ sym
+          (ap (λ t. t.words) e.3),
     )

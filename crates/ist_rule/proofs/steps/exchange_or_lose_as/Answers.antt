@@ -1,7 +1,7 @@
 use Rattle.std.proofs.Common.{sym, ap, subst, ◌∙◌, arith}
 use Rattle.ist_rule.specs.Faces.{SeatFace, TableFace}
 use Rattle.ist_rule.specs.Conditions.{CanExchangeOrLose}
-use Rattle.ist_rule.proofs.LogLemmas.{exchanges_or_loses_moves, exchanged_or_lost_sound}
+use Rattle.ist_rule.proofs.LeavingLemmas.{exchanges_or_loses_moves, exchanged_or_lost_sound}
 use Rattle.ist_rule.proofs.steps.exchange_or_lose_as.Goals as goal
 
 -- an exchange that may be made keeps the rule
@@ -9,8 +9,11 @@ pub compare_exchange-requires : goal.compare_exchange-requires
 compare_exchange-requires g c =
     let w = ap (λ (t : TableFace). t.table.words) c.table.view_is in
     let p = c.requires.within in
-    let can = subst (λ x. CanExchangeOrLose x c.args.place c.args.old c.args.new g.N.NamedEitherWay.events.0 g.N.NamedEitherWay.events.1) (ap (λ (s : SeatFace). s.view) (sym c.seat.view_is)) c.requires.events in (
-      ap (λ (s : SeatFace). s.table) c.seat.view_is ∙ c.requires.same_table ∙ sym (ap (λ (t : TableFace). t.table) c.table.view_is),
+    let can = subst (λ x. CanExchangeOrLose x c.args.place c.args.old c.args.new
+            g.N.NamedEitherWay.events.0 g.N.NamedEitherWay.events.1)
+            (ap (λ (s : SeatFace). s.view) (sym c.seat.view_is)) c.requires.events in (
+      ap (λ (s : SeatFace). s.table) c.seat.view_is ∙ c.requires.same_table ∙ sym
+          (ap (λ (t : TableFace). t.table) c.table.view_is),
       omega arith,
       exchanges_or_loses_moves _ _ _ _ _ _ _ g.N.NamedEitherWay.events c.seat.invariant.1.live can,
     )

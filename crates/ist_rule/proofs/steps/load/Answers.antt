@@ -8,7 +8,8 @@ pub load-requires : goal.load-requires
 load-requires c =
     let w = ap (λ (t : TableFace). t.table.words) c.table.view_is in
     let p = c.requires.within in (
-      ap (λ (s : SeatFace). s.table) c.seat.view_is ∙ c.requires.same_table ∙ sym (ap (λ (t : TableFace). t.table) c.table.view_is),
+      ap (λ (s : SeatFace). s.table) c.seat.view_is ∙ c.requires.same_table ∙ sym
+          (ap (λ (t : TableFace). t.table) c.table.view_is),
       omega arith,
       looks_moves _ _ _ _ _ c.seat.invariant.1.live,
     )

@@ -1,0 +1,270 @@
+-- A caller goes on with its seat: by loads, by a row reserved, by a word stored. Serves
+-- `reserving`.
+use Rattle.std.proofs.Common.{◌≡◌, ◌≢◌, ℕ, ◌+◌, ◌<◌, ◌≤◌, ◌⊎◌, ◌==◌, ◌||◌, not, Bool, true, false, if◌then◌else◌, List, [], ◌∷◌, ◌++◌, map, filter, Option, Some, None, refl, sym, ap, ap₂, ◌∙◌, subst, le_refl, inl, inr, ⊎_elim, append-nil, arith}
+use Rattle.std.proofs.lemmas.Bool.Decides.{eqb_tells}
+use Rattle.std.proofs.lemmas.List.Elements.{filter-append}
+use Rattle.ist_core.specs.declared.pairs.Pair.{Pair}
+use Rattle.ist_core.specs.declared.lists.HeldRow.{HeldRow}
+use Rattle.ist_core.specs.declared.ports.Full.{Full}
+use Rattle.ist_core.specs.declared.events.Event.TheVariants.{Reserve}
+use Rattle.ist_core.specs.RowLayout.{place_limit}
+use Rattle.ist_core.specs.Elements.{Among, Each, Distinct}
+use Rattle.ist_core.specs.Snapshots.{Snapshot, sizes_held, HoldsRow}
+use Rattle.ist_core.specs.StartLayout.{start}
+use Rattle.ist_core.specs.Fairness.{AreBuilds, IsFair, spare_sizes}
+use Rattle.ist_core.specs.Logs.{Log}
+use Rattle.ist_core.specs.Lawful.{EachEnabled, Lawful, state_of}
+use Rattle.ist_core.proofs.ElementLemmas.{among-filter, among_left, among_right, each_append}
+use Rattle.ist_core.proofs.SoundLemmas.{sound}
+use Rattle.ist_core.proofs.StartLemmas.{sound_start}
+use Rattle.ist_core.proofs.RoomLemmas.{next_within, words_same}
+use Rattle.ist_core.proofs.SpendingLemmas.{next-state}
+use Rattle.ist_core.proofs.GrowingLemmas.{all_grow_same}
+use Rattle.ist_core.proofs.FateLemmas.{grow_between}
+use Rattle.ist_rule.specs.declared.view.View.{View}
+use Rattle.ist_rule.specs.declared.view.Who.TheVariants.{Caller as CallerOf}
+use Rattle.ist_rule.specs.Authors.{Later, no_more, one_more}
+use Rattle.ist_rule.specs.Rule.{IsSound}
+use Rattle.ist_rule.specs.Faces.{SeatFace}
+use Rattle.ist_rule.specs.Learning.{now, GoesOnTo, storing}
+use Rattle.ist_rule.specs.Conditions.{IsOwn}
+use Rattle.ist_rule.proofs.LaterLemmas.{later-goes_on, later_more}
+use Rattle.ist_rule.proofs.HeldLemmas.{held_later}
+use Rattle.ist_rule.proofs.ShownLemmas.{held_loose}
+use Rattle.ist_rule.proofs.GoingOnLemmas.{goes_on_who, goes_on_more, looked_goes_on}
+use Rattle.ist_rows.specs.declared.callers.Caller.{Caller}
+use Rattle.ist_rows.specs.declared.kinds.Kind.{Kind}
+use Rattle.ist_rows.specs.declared.kinds.Kind.TheVariants.{Leaf, Pair as PairKind, Change, Rebuild}
+use Rattle.ist_rows.specs.Kinds.{kind_words}
+use Rattle.ist_rows.specs.Rows.{Spares, spares_of, row_of, with_row, is_base, is_spare, held_by, build_sizes, IsCaller, Reserved, IsFull, HoldsPlace}
+use Rattle.ist_rows.specs.Fairly.{MayTake}
+use Rattle.ist_rows.proofs.HeldListLemmas.{distinct_filter, distinct_more, held_distinct, held_by_later}
+use Rattle.ist_rows.proofs.BuildLemmas.{ComesBehind, builds_on, merge_filter, merge_more}
+use Rattle.ist_rows.proofs.CallerLemmas.{IsCallerIn, caller_later}
+
+-- ---- a caller's seat goes on
+
+-- the state that a seat has seen, where it went on from another
+now_is : (v w : View) → GoesOnTo v w → now w ≡ state_of v.start v.words w.log
+now_is v w g = ap₂ (λ p n. state_of p n w.log) (ap (λ x. x.start) g.same) (ap (λ x. x.words) g.same)
+
+-- a caller whose seat made loads is a caller
+pub caller_goes_on : (who : Caller) (seat : SeatFace) → IsCaller who
+    → GoesOnTo who.seat.view seat.view → IsCaller (record who { seat = seat })
+caller_goes_on who seat c g =
+    let v = who.seat.view in
+    let lawful : Lawful v.start v.words seat.view.log =
+            subst (λ p. Lawful p v.words seat.view.log) (ap (λ x. x.start) g.same)
+    (subst (λ n. Lawful seat.view.start n seat.view.log) (ap (λ x. x.words) g.same)
+        g.sound.lawful) in
+    let it = caller_later v.start v.words v.log seat.view.log who.number (spares_of who) lawful
+            (subst (λ w. Later w v.log seat.view.log) c.mine g.later) record { rows =
+            c.rows; builds = c.builds } in
+    let there = subst (λ t. IsCallerIn t who.number (spares_of who)) (sym (now_is v seat.view g))
+            it in
+    record { mine = goes_on_who g ∙ c.mine; rows = there.rows; builds = there.builds }
+
+-- a test of a base with one that differs
+base_differs : (base x : ℕ) → base ≢ x → (base == x) ≡ false
+base_differs base x ne = ⊎_elim (λ k. absurd (ne k.1)) (λ k. k.0) (eqb_tells base x)
+
+base_same : (base : ℕ) → (base == base) ≡ true
+base_same base = ⊎_elim (λ k. k.0) (λ k. absurd (k.1 refl)) (eqb_tells base base)
+
+or_any : (a : Bool) → (a || true) ≡ true
+or_any true = refl
+or_any false = refl
+
+-- another row is as spare as it was
+spare_else : (own : Spares) (kind : Kind) (base x : ℕ) → row_of kind own ≡ None → base ≢ x
+    → is_spare (with_row kind base own) x ≡ is_spare own x
+spare_else own Leaf base x none ne =
+    ap (λ a. a || (is_base own.pair x || (is_base own.change x || is_base own.rebuild x)))
+    (base_differs base x ne ∙ sym (ap (λ o. is_base o x) none))
+spare_else own PairKind base x none ne =
+    ap (λ a. is_base own.leaf x || (a || (is_base own.change x || is_base own.rebuild x)))
+    (base_differs base x ne ∙ sym (ap (λ o. is_base o x) none))
+spare_else own Change base x none ne =
+    ap (λ a. is_base own.leaf x || (is_base own.pair x || (a || is_base own.rebuild x)))
+    (base_differs base x ne ∙ sym (ap (λ o. is_base o x) none))
+spare_else own Rebuild base x none ne =
+    ap (λ a. is_base own.leaf x || (is_base own.pair x || (is_base own.change x || a)))
+    (base_differs base x ne ∙ sym (ap (λ o. is_base o x) none))
+
+-- the new row is spare
+spare_here : (own : Spares) (kind : Kind) (base : ℕ) → is_spare (with_row kind base own) base ≡ true
+spare_here own Leaf base = ap (λ a. a ||
+    (is_base own.pair base || (is_base own.change base || is_base own.rebuild base)))
+    (base_same base)
+spare_here own PairKind base =
+    ap (λ a. is_base own.leaf base || (a || (is_base own.change base || is_base own.rebuild base)))
+        (base_same base) ∙ or_any (is_base own.leaf base)
+spare_here own Change base =
+    ap (λ a. is_base own.leaf base || (is_base own.pair base || (a || is_base own.rebuild base)))
+        (base_same base)
+    ∙ ap (λ a. is_base own.leaf base || a) (or_any (is_base own.pair base)) ∙ or_any
+        (is_base own.leaf base)
+spare_here own Rebuild base =
+    ap (λ a. is_base own.leaf base || (is_base own.pair base || (is_base own.change base || a)))
+        (base_same base)
+    ∙ ap (λ a. is_base own.leaf base || (is_base own.pair base || a))
+        (or_any (is_base own.change base))
+    ∙ ap (λ a. is_base own.leaf base || a) (or_any (is_base own.pair base)) ∙ or_any
+        (is_base own.leaf base)
+
+-- filters whose tests agree on each element
+filter_same : {A : Type 0} (p q : A → Bool) (xs : List A) → ((x : A) → Among x xs → p x ≡ q x)
+    → filter p xs ≡ filter q xs
+filter_same p q [] h = refl
+filter_same p q (x ∷ xs) h =
+    ap₂ (λ b ys. if b then x ∷ ys else ys) (h x (inl refl))
+        (filter_same p q xs (λ y i. h y (inr i)))
+
+-- the row of a kind, where one of a kind is taken
+row_taken : (own : Spares) (kind other : Kind) (base b : ℕ)
+    → row_of other (with_row kind base own) ≡ Some b
+    → ((kind ≡ other) × (base ≡ b)) ⊎ (row_of other own ≡ Some b)
+row_taken own Leaf Leaf base b e = inl (refl, cc)
+row_taken own PairKind PairKind base b e = inl (refl, cc)
+row_taken own Change Change base b e = inl (refl, cc)
+row_taken own Rebuild Rebuild base b e = inl (refl, cc)
+row_taken own Leaf PairKind base b e = inr e
+row_taken own Leaf Change base b e = inr e
+row_taken own Leaf Rebuild base b e = inr e
+row_taken own PairKind Leaf base b e = inr e
+row_taken own PairKind Change base b e = inr e
+row_taken own PairKind Rebuild base b e = inr e
+row_taken own Change Leaf base b e = inr e
+row_taken own Change PairKind base b e = inr e
+row_taken own Change Rebuild base b e = inr e
+row_taken own Rebuild Leaf base b e = inr e
+row_taken own Rebuild PairKind base b e = inr e
+row_taken own Rebuild Change base b e = inr e
+
+-- a caller that reserved a row of a kind, in the state behind
+module _ (pairs : List Pair) (words : ℕ) (log : Log) (number : ℕ) (own : Spares) (kind : Kind)
+    (base : ℕ)
+    (enabled : EachEnabled (start pairs words) (Reserve number base (kind_words kind) ∷ log))
+        (none : row_of kind own ≡ None) (c : IsCallerIn (state_of pairs words log) number own) where
+  abbrev t : Snapshot
+  t = state_of pairs words log
+
+  abbrev u : Snapshot
+  u = state_of pairs words (Reserve number base (kind_words kind) ∷ log)
+
+  abbrev new_row : HeldRow
+  new_row = record { caller = number; base = base; size = kind_words kind }
+
+  held_now : held_by u number ≡ held_by t number ++ new_row ∷ []
+  held_now =
+      filter-append (λ (h : HeldRow). h.caller == number) t.held (new_row ∷ [])
+      ∙ ap (λ b. held_by t number ++ (if b then new_row ∷ [] else [])) (base_same number)
+
+  old_base : (h : HeldRow) → Among h (held_by t number) → base ≢ h.base
+  old_base h i same =
+      let it = among-filter (λ (x : HeldRow). x.caller == number) h t.held i in
+      let low = (sound (start pairs words) log (sound_start pairs words) enabled.0).held_below h
+              it.0 in
+      let at_next = enabled.1.base_is in
+      omega arith
+
+  sizes_now : build_sizes u number (with_row kind base own) ≡ build_sizes t number own
+  sizes_now =
+      ap (λ held. map (λ h. h.size) (filter (λ h. not (is_spare (with_row kind base own) h.base))
+          held)) held_now
+      ∙ ap (map (λ (h : HeldRow). h.size))
+      (filter-append (λ (h : HeldRow). not (is_spare (with_row kind base own) h.base))
+          (held_by t number) (new_row ∷ [])
+      ∙ ap₂ (λ xs ys. xs ++ ys)
+      (filter_same (λ (h : HeldRow). not (is_spare (with_row kind base own) h.base))
+          (λ h. not (is_spare own h.base)) (held_by t number)
+      (λ h i. ap not (spare_else own kind base h.base none (old_base h i))))
+      (ap (λ b. if not b then new_row ∷ [] else []) (spare_here own kind base))
+      ∙ append-nil (filter (λ (h : HeldRow). not (is_spare own h.base)) (held_by t number)))
+
+  behind : ComesBehind t u
+  behind = let at_next = enabled.1.base_is in record { words = refl; next = omega arith; grow =
+      all_grow_same t.pieces }
+
+  pub taken_caller : IsCallerIn u number (with_row kind base own)
+  taken_caller =
+      record {
+        rows = λ other b e.
+            ⊎_elim
+            (λ k. subst (λ x. HoldsRow u number x (kind_words other)) k.1
+                (subst (λ x. HoldsRow u number base (kind_words x)) k.0
+                (among_right new_row t.held (new_row ∷ []) (inl refl))))
+            (λ k. among_left record { caller = number; base = b; size =
+                kind_words other } t.held (new_row ∷ []) (c.rows other b k))
+            (row_taken own kind other base b e);
+        builds = builds_on t u behind (build_sizes u number (with_row kind base own))
+            (subst (AreBuilds t) (sym sizes_now) c.builds);
+      }
+
+-- a caller that reserved a row is a caller with that row
+pub caller_reserved : (old new : Caller) (kind : Kind) (base : ℕ) → IsCaller old
+    → row_of kind (spares_of old) ≡ None
+    → Reserved old.seat.view old.number base (kind_words kind) new.seat.view
+    → new.number ≡ old.number → spares_of new ≡ with_row kind base (spares_of old) → IsCaller new
+caller_reserved old new kind base c none r number rows =
+    let v = old.seat.view in
+    let w = new.seat.view in
+    let m = r.before in
+    let l = r.reserved in
+    let event = Reserve old.number base (kind_words kind) in
+    let start_is : w.start ≡ v.start = ap (λ x. x.start) l.view ∙ ap (λ x. x.start) r.seen.same in
+    let words_is : w.words ≡ v.words = ap (λ x. x.words) l.view ∙ ap (λ x. x.words) r.seen.same in
+    let who_is : w.who ≡ v.who = ap (λ x. x.who) l.view ∙ goes_on_who r.seen in
+    let log_is : w.log ≡ event ∷ l.before = ap (λ x. x.log) l.view in
+    let lawful : Lawful v.start v.words (event ∷ l.before) =
+    subst (λ p. Lawful p v.words (event ∷ l.before)) start_is
+    (subst (λ n. Lawful w.start n (event ∷ l.before)) words_is
+        (subst (Lawful w.start w.words) log_is l.sound.lawful)) in
+    let later : Later v.who v.log l.before =
+            later_more r.seen.later (subst (λ x. Later x m.log l.before) (goes_on_who r.seen)
+            l.later) in
+    let before = caller_later v.start v.words v.log l.before old.number (spares_of old) record
+            { opens = lawful.opens; enabled =
+            lawful.enabled.0 } (subst (λ x. Later x v.log l.before) c.mine later)
+    record { rows = c.rows; builds = c.builds } in
+    let it = taken_caller v.start v.words l.before old.number (spares_of old) kind base
+            lawful.enabled none before in
+    let now_is : now w ≡ state_of v.start v.words (event ∷ l.before) =
+            ap₂ (λ p n. state_of p n w.log) start_is words_is ∙ ap (state_of v.start v.words)
+            log_is in
+    let there = subst (λ own. IsCallerIn (now w) new.number own) (sym rows)
+            (subst (λ n. IsCallerIn (now w) n (with_row kind base (spares_of old))) (sym number)
+    (subst (λ t. IsCallerIn t old.number (with_row kind base (spares_of old))) (sym now_is) it)) in
+    record { mine = who_is ∙ c.mine ∙ ap CallerOf (sym number); rows = there.rows; builds =
+        there.builds }
+
+-- a caller that stored into its row is a caller
+pub caller_storing : (who : Caller) (place word : ℕ) → IsCaller who
+    → IsCaller (record who { seat = record who.seat { view = storing who.seat.view place word } })
+caller_storing who place word c = record { mine = c.mine; rows = c.rows; builds = c.builds }
+
+-- a word of an own row lies within the table
+pub place_low : (who : Caller) (base at : ℕ) → IsSound who.seat.view → IsCaller who
+    → HoldsPlace who base at → IsOwn who.seat.view (base + at) × (base + at < who.seat.view.words)
+place_low who base at s c h =
+    let v = who.seat.view in
+    let loose = held_loose v.start v.words v.log s.lawful.enabled record { caller =
+            who.number; base = base; size = h.size } h.held at h.within in
+    let below = loose.below in
+    let low = next_within v.start v.words s.lawful.opens v.log s.lawful.enabled in
+    let all = words_same v.start v.words s.lawful.opens v.log in (
+      record { row = record { caller = who.number; base = base; size = h.size }; held =
+          h.held; mine = c.mine; offset = at; within = h.within; at = refl },
+      omega arith,
+    )
+
+-- a table is small
+pub words_low : (v : View) → IsSound v → v.words ≤ place_limit
+words_low v s = s.lawful.opens.within
+
+-- a caller whose reserving was refused is a caller
+pub caller_refused : (who : Caller) (seat : SeatFace) (words size : ℕ) (full : Full) → IsCaller who
+    → IsFull who.seat.view words size full seat.view
+    → IsCaller (record who { seat = seat })
+caller_refused who seat words size full c f =
+    caller_goes_on who seat c (goes_on_more _ _ _ f.seen (looked_goes_on _ _ _ _ f.looked))

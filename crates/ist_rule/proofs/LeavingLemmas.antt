@@ -1,0 +1,161 @@
+-- Steps that leave the word at their place, and are events: loads, and failed exchanges. Serves the
+-- plays.
+use Rattle.std.proofs.Common.{◌≡◌, ◌≢◌, ℕ, ◌+◌, ◌%◌, ◌^◌, ◌⊎◌, inl, inr, eqb, List, [], ◌∷◌, slice_index, slice_set, Option, Some, None, refl, sym, ap, ◌∙◌, subst, le_refl, ⊎_elim}
+use Rattle.std.proofs.Math.Nat.{mod-eq_of_lt}
+use Rattle.std.proofs.lemmas.List.{set-get_or}
+use Rattle.std.proofs.lemmas.Bool.Decides.{eqb_tells}
+use Rattle.std.proofs.lemmas.Option.{get_or_from_slice_get}
+use mathlib.Core.Option as maybe
+use mathlib.Core.Option.{some}
+use prog.Atomic.{either}
+use Rattle.atomic_table.specs.Table.{step, keeps, Allows}
+use Rattle.atomic_table.proofs.Lists.{exchanged}
+use Rattle.ist_core.specs.declared.events.Event.{Event}
+use Rattle.ist_core.specs.Elements.{Each}
+use Rattle.ist_core.specs.StartLayout.{start}
+use Rattle.ist_core.specs.Images.{IsImage}
+use Rattle.ist_core.specs.Writing.{Touch, touch_of, touched}
+use Rattle.ist_core.specs.Logs.{Log, one_event}
+use Rattle.ist_core.specs.Enabled.{Enabled}
+use Rattle.ist_core.specs.Lawful.{EachEnabled, Lawful, state_of}
+use Rattle.ist_rule.specs.declared.view.View.{View}
+use Rattle.ist_rule.specs.declared.view.Taken.{Taken}
+use Rattle.ist_rule.specs.declared.view.About.{About}
+use Rattle.ist_rule.specs.declared.view.Who.TheVariants.{Caller, Spent}
+use Rattle.ist_rule.specs.Authors.{author, no_more, one_more}
+use Rattle.ist_rule.specs.Shown.{IsShown}
+use Rattle.ist_rule.specs.Rule.{IsNamed, IsRetired, Owns, HasView, Fits, Kept, IsSound}
+use Rattle.ist_rule.specs.Playing.{Seated, adds, exchanges, loads_as, exchanges_or_loses}
+use Rattle.ist_rule.specs.Learning.{seeing, logging, logging_load, Logged, LoggedLoad, Naming, LoadedAs, as_event, as_load, Exchanged, ExchangedOrLost}
+use Rattle.ist_rule.specs.Conditions.{CanMake, MayCome, ComesAt, IsKnown, CanExchange, CanAdd, LeavesAt, CanLoadAs, CanExchangeOrLose}
+use Rattle.ist_rule.proofs.LaterLemmas.{later-goes_on}
+use Rattle.ist_rule.proofs.EventLemmas.{author_named}
+use Rattle.ist_rule.proofs.ShownLemmas.{image_shows}
+use Rattle.ist_rule.proofs.EventWordLemmas.{owns_behind, image_behind}
+use Rattle.ist_rule.proofs.FitLemmas.{each_map, well_made_on, true_of_others, true_of_own}
+use Rattle.ist_rule.proofs.FrameLemmas.{Table, by_event, moved}
+use Rattle.ist_rule.proofs.SoundViewLemmas.{as_view, as_table, sound_of}
+use Rattle.ist_rule.proofs.LookLemmas.{Goes, sees}
+use Rattle.ist_rule.proofs.LogLemmas.{sound_now, kept, logs, shown_there, comes_here, may_come}
+
+-- ---- steps that leave the word, and are events
+
+-- what the event leaves of the words is all of them
+words_stay : (s : Table) (place : ℕ) (o : Option Touch)
+    → (o ≡ Some record { place = place; found = slice_index s.words place; left =
+        slice_index s.words place }) ⊎ (o ≡ None)
+    → touched s.words o ≡ s.words
+words_stay s place o (inl e) = ap (touched s.words) e ∙ set-get_or s.words place 0
+words_stay s place o (inr e) = ap (touched s.words) e
+
+-- an event at a step that leaves the word
+module _ (k : About) (s : Table) (r : Kept k s) (id : ℕ) (me : Seated) (live : me.0.who ≢ Spent)
+    (mine : HasView s id me.0) (place : ℕ) (event : Event) (make : CanMake me.0 event)
+    (l : LeavesAt me.0 r.log event place (slice_index s.words place)) where
+  abbrev u : View
+  u = logging_load me.0 r.log event
+
+  there : Enabled (start k.start.value.items k.words) r.log event
+      × ((touch_of (state_of k.start.value.items k.words r.log) event ≡ Some record { place =
+          place; found = slice_index s.words place; left = slice_index s.words place })
+      ⊎ (touch_of (state_of k.start.value.items k.words r.log) event ≡ None))
+  there =
+      as_table k r.log s.words me.0 (r.seats id me.0 mine live)
+      (λ p n. Enabled (start p n) r.log event
+      × ((touch_of (state_of p n r.log) event ≡ Some record { place = place; found =
+          slice_index s.words place; left = slice_index s.words place })
+      ⊎ (touch_of (state_of p n r.log) event ≡ None)))
+      (l.enabled, l.leaves)
+
+  abbrev logged_load : LoggedLoad me.0 event place (slice_index s.words place) u
+  logged_load =
+      let f = r.seats id me.0 mine live in
+      record {
+        before = r.log;
+        later = f.later;
+        view = refl;
+        sound = sound_now k s r id me live mine event make there.0 s.words (me.0.loaded + 1)
+            (words_stay s place _ there.1);
+        stood = as_view k r.log s.words me.0 f (λ p n. (shown : ℕ)
+            → IsShown (state_of p n r.log) place shown → slice_index s.words place ≡ shown)
+            (λ shown is. get_or_from_slice_get s.words place shown 0
+                (image_shows (state_of k.start.value.items k.words r.log) s.words r.image is));
+      }
+
+  pub stays : (tells : ℕ → Seated → Type 0)
+      → ((l : LoggedLoad me.0 event place (slice_index s.words place) u) → l.before ≡ r.log
+      → tells (slice_index s.words place) (u, me.1))
+      → Goes k s place id me tells (slice_index s.words place)
+  stays tells told = (
+    u,
+    keeps,
+    tt,
+    subst (λ ws. Kept k (record { words = ws; homes = s.homes; views = slice_set s.views id u }))
+        (sym (set-get_or s.words place 0))
+        (kept k s r id me live mine event make there.0 s.words (me.0.loaded + 1)
+            (words_stay s place _ there.1)),
+    told logged_load refl,
+  )
+
+-- a load that is an event where it is named so keeps the rule
+pub loads_as_moves : (k : About) (slots id : ℕ) (me : Seated) (place : ℕ) (named : Naming)
+    → me.0.who ≢ Spent → CanLoadAs me.0 place named
+    → Allows (Kept k) slots id me place (λ n. n)
+        (loads_as named (step slots place 0 0 maybe.none) me)
+loads_as_moves k slots id me place named live can s r _ mine fits =
+    at (named r.log (slice_index s.words place)) refl
+  where
+    tells : ℕ → Seated → Type 0
+    tells = loads_as named (step slots place 0 0 maybe.none) me
+
+    at : (o : Option Event) → named r.log (slice_index s.words place) ≡ o
+        → Goes k s place id me tells (slice_index s.words place)
+    at (Some event) e =
+        let f = r.seats id me.0 mine live in
+        let it = can.comes r.log (may_come k s r me.0 f) (slice_index s.words place)
+                (shown_there k s r me.0 place f can.known) event e in
+        stays k s r id me live mine place event it.0 it.1 tells
+            (λ l at_log. (as_event event l (ap (λ log. named log (slice_index s.words place)) at_log
+            ∙ e), refl))
+    at None e = sees k s r id me place tells live mine fits (λ l. (as_load l e, refl))
+
+-- an exchange that is an event either way keeps the rule
+pub exchanges_or_loses_moves : (k : About) (slots id : ℕ) (me : Seated) (place old new : ℕ)
+    (events : Event × Event) → me.0.who ≢ Spent
+    → CanExchangeOrLose me.0 place old new events.0 events.1
+    → Allows (Kept k) slots id me place (λ n. either (eqb n old) new n)
+        (exchanges_or_loses events (step slots place old new maybe.none) me)
+exchanges_or_loses_moves k slots id me place old new events live can s r _ mine fits =
+    let x : ℕ = slice_index s.words place in
+    let v = me.0 in
+    let f = r.seats id v mine live in
+    let shown = shown_there k s r v place f can.hit.known in
+    let tells : ℕ → Seated → Type 0 =
+            exchanges_or_loses events (step slots place old new maybe.none) me in
+    exchanged x old new (λ y. Goes k s place id me tells y)
+    (λ hit.
+    let it = comes_here k s r v f events.0 place old new
+            (can.hit.comes r.log (may_come k s r v f)
+            (subst (IsShown (state_of v.start v.words r.log) place) hit shown)) in
+    logs k s r id me live mine events.0 can.hit.make it.0 place old new it.1 tells
+    (λ l. (((λ _. l), (λ miss. absurd (miss hit))), refl)))
+    (λ miss.
+    stays k s r id me live mine place events.1 can.make
+        (can.miss r.log (may_come k s r v f) x shown miss) tells
+    (λ l at_log. (((λ hit. absurd (miss hit)), (λ _. l)), refl)))
+
+-- a seat that made an exchange that is an event either way is sound, of the same table
+pub exchanged_or_lost_sound : (v : View) (event lost : Event) (place old found : ℕ) (w : View)
+    → ExchangedOrLost v event lost place old found w
+    → IsSound w × (w.words ≡ v.words)
+exchanged_or_lost_sound v event lost place old found w e =
+    ⊎_elim
+    (λ hit. let l = e.0 hit.1 in (l.sound, ap (λ y. y.words) l.view))
+    (λ miss. let l = e.1 miss.1 in (l.sound, ap (λ y. y.words) l.view))
+    (eqb_tells found old)
+
+-- so is one that made a load that may be an event
+pub loaded_as_sound : (v : View) (named : Naming) (place word : ℕ) (w : View)
+    → LoadedAs v named place word w → IsSound w × (w.words ≡ v.words)
+loaded_as_sound v named place word w (as_event event l e) = (l.sound, ap (λ y. y.words) l.view)
+loaded_as_sound v named place word w (as_load l e) = (l.sound, ap (λ y. y.words) l.view)
