@@ -1,5 +1,5 @@
 -- Which rows are those of an ideal subtree: a row first, then those of each part. Serves `ideals.rt`.
-use Rattle.std.proofs.Common.{◌≡◌, ◌≢◌, ◌∙◌, ◌≤◌, ◌<◌, ◌-◌, ◌+◌, ◌*◌, ◌^◌, ℕ, zero, suc, min, List, [], ◌∷◌, ◌++◌, length, take, drop, get_or, slice_get, Option, Some, None, refl, sym, ap, subst, append_assoc, arith, length-append, length-take, length-drop}
+use Rattle.std.proofs.Common.{◌≡◌, ◌≢◌, ◌∙◌, ◌≤◌, ◌<◌, ◌-◌, ◌+◌, ℕ, zero, suc, min, List, [], ◌∷◌, ◌++◌, length, take, drop, get_or, Option, Some, None, refl, sym, ap, subst, append_assoc, arith, length-append, length-drop}
 use Rattle.ist_core.specs.declared.lists.Row.{Row}
 use Rattle.ist_core.specs.declared.states.InnerRow.{InnerRow}
 use Rattle.ist_core.specs.Arithmetic.{degree, part_len, part_lens}
@@ -7,7 +7,6 @@ use Rattle.ist_core.specs.References.{Ref, Empty, LeafAt, InnerAt, ref_of}
 use Rattle.ist_core.specs.Parts.{cut, parts}
 use Rattle.ist_core.specs.Pieces.{Inner, inner_of}
 use Rattle.ist_core.specs.Leaves.{PlacedLeaf}
-use Rattle.ist_core.proofs.PartLemmas.{part_len-lt}
 use Rattle.ist_check.proofs.RowLemmas.{behind, split_first}
 use Rattle.ist_ideal.specs.Built.{lens_from, IsTopRow, Builds, builds_none, builds_one, builds_more, BuildsAll, builds_end, builds_part, BuildsAt, Counts, HasTopSlots}
 use Rattle.ist_ideal.proofs.GatherLemmas.{first_word}

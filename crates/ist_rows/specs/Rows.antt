@@ -55,7 +55,7 @@ is_base None other = false
 abbrev pub is_spare : Spares → ℕ → Bool
 is_spare spares base =
     is_base spares.leaf base || (is_base spares.pair base
-        || (is_base spares.change base || is_base spares.rebuild base))
+    || (is_base spares.change base || is_base spares.rebuild base))
 
 -- the rows that a caller holds, in the order of reserving
 abbrev pub held_by : Snapshot → ℕ → List HeldRow
@@ -99,8 +99,8 @@ pub record IsFull (v : View) (words size : ℕ) (full : Full) (w : View) : Type 
 abbrev pub IsFresh : Kind → Caller → Caller → Result ℕ Full → Type 0
 IsFresh kind old new answer =
     row_of kind (spares_of old) ≡ None → IfOk answer (λ base.
-        Reserved old.seat.view old.number base (kind_words kind) new.seat.view
-        × (spares_of new ≡ with_row kind base (spares_of old)))
+    Reserved old.seat.view old.number base (kind_words kind) new.seat.view
+    × (spares_of new ≡ with_row kind base (spares_of old)))
 
 -- nothing was reserved, for want of words
 pub record IsRefused (words : ℕ) (kind : Kind) (old new : Caller) (full : Full) : Type 0 where

@@ -41,7 +41,7 @@ command_update r command e = at (eqb_tells r.kind put_kind) (eqb_tells r.kind re
     at : (((r.kind == put_kind) ≡ true) × (r.kind ≡ put_kind))
         ⊎ (((r.kind == put_kind) ≡ false) × (r.kind ≢ put_kind))
         → (((r.kind == remove_kind) ≡ true) × (r.kind ≡ remove_kind))
-            ⊎ (((r.kind == remove_kind) ≡ false) × (r.kind ≢ remove_kind))
+        ⊎ (((r.kind == remove_kind) ≡ false) × (r.kind ≢ remove_kind))
         → IsUpdate r.kind
     at (inl k) other = inl k.1
     at (inr k) (inl m) = inr m.1
@@ -68,7 +68,7 @@ pub data EntriesMove (pairs : List Pair) (words : ℕ) (log : Log) (number : ℕ
       → (u : IsUndecided (state_of pairs words log) number base)
       → (entry : Entry) → command_of u.change ≡ Some entry.command
       → entries_by number (changes_of pairs words (event ∷ log))
-          ≡ entries_by number (changes_of pairs words log) ++ entry ∷ []
+      ≡ entries_by number (changes_of pairs words log) ++ entry ∷ []
       → EntriesMove pairs words log number event
 
 module _ (pairs : List Pair) (words : ℕ) (log : Log) (number by base : ℕ) (r : ChangeRow)
@@ -80,10 +80,10 @@ module _ (pairs : List Pair) (words : ℕ) (log : Log) (number by base : ℕ) (r
   behind_yes : (new : List Entry)
       → entry_of (state_of pairs words log).pieces ((state_of pairs words log).pieces base) ≡ new
       → entries_by number (changes_of pairs words (Decide by base true ∷ log)) ≡ before
-          ++ entries_by number new
+      ++ entries_by number new
   behind_yes new e =
       filter-append (λ entry. entry.owner == number) (changes_of pairs words log)
-          (entry_of (state_of pairs words log).pieces ((state_of pairs words log).pieces base))
+      (entry_of (state_of pairs words log).pieces ((state_of pairs words log).pieces base))
       ∙ ap (λ xs. before ++ entries_by number xs) e
 
   -- by whether the change has a command
@@ -91,12 +91,16 @@ module _ (pairs : List Pair) (words : ℕ) (log : Log) (number by base : ℕ) (r
       → EntriesMove pairs words log number (Decide by base true)
   with_command None e =
       same_entries (behind_yes [] (ap (entry_of (state_of pairs words log).pieces) there.published ∙
-          ap (entry_for (state_of pairs words log).pieces r) e) ∙ append-nil before)
+      ap (entry_for (state_of pairs words log).pieces r) e) ∙ append-nil before)
   with_command (Some command) e = at (eqb_tells r.owner number)
     where
       entry : Entry
-      entry = record { owner = r.owner; command = command; reply =
-          reply_of (state_of pairs words log).pieces r }
+      entry = record {
+        owner = r.owner;
+        command = command;
+        reply =
+            reply_of (state_of pairs words log).pieces r;
+      }
 
       made : entries_by number (changes_of pairs words (Decide by base true ∷ log)) ≡ before
           ++ entries_by number (entry ∷ [])
@@ -107,8 +111,13 @@ module _ (pairs : List Pair) (words : ℕ) (log : Log) (number by base : ℕ) (r
           ⊎ (((r.owner == number) ≡ false) × (r.owner ≢ number))
           → EntriesMove pairs words log number (Decide by base true)
       at (inl k) =
-          new_entry by base refl record { change = r; pending = there; owned = k.1; update =
-              command_update r command e } entry e
+          new_entry by base refl record {
+            change = r;
+            pending = there;
+            owned = k.1;
+            update =
+                command_update r command e;
+          } entry e
           (made ∙ ap (λ xs. before ++ xs) (one_entry number entry true k.0))
       at (inr k) = same_entries (made ∙ ap (λ xs. before ++ xs) (one_entry number entry false k.0) ∙
           append-nil before)
@@ -160,7 +169,7 @@ module _ (pairs : List Pair) (words : ℕ) (log : Log) (event : Event)
       → UndecidedComes first log number base (command_of u.change) event
   undecided_comes number base u =
       at (change_comes first log event enabled.1
-          (sound first log (sound_start pairs words) enabled.0) base u.change u.pending.published)
+      (sound first log (sound_start pairs words) enabled.0) base u.change u.pending.published)
     where
       at : {e : Event} → ChangeComes first log base u.change e
           → UndecidedComes first log number base (command_of u.change) e
@@ -177,7 +186,7 @@ module _ (pairs : List Pair) (words : ℕ) (log : Log) (event : Event)
       at (is_installed {caller = caller} {rows = rows} h g) =
           let same = grows_same_change g in
           by (sym h.owned ∙ sym same.1 ∙ u.owned) h (subst IsUpdate same.0 u.update)
-              (sym (same_command g))
+          (sym (same_command g))
         where
           by : {c : ℕ} → c ≡ number → (k : CanInstall first log c base rows)
               → IsUpdate k.change.kind → command_of k.change ≡ command_of u.change
@@ -191,7 +200,7 @@ module _ (pairs : List Pair) (words : ℕ) (log : Log) (event : Event)
   pub decided_now : (by base : ℕ) (said : Bool) → event ≡ Decide by base said → (r : ChangeRow)
       → (state_of pairs words log).pieces base ≡ Some (Change r)
       → (new : ChangeRow) → (state_of pairs words (event ∷ log)).pieces base ≡ Some (Change new)
-          → new.decision ≢ undecided
+      → new.decision ≢ undecided
   decided_now by base said is r there new now =
       at said (subst (λ e. (state first (e ∷ log)).pieces base ≡ Some (Change new)) is now)
     where
@@ -199,8 +208,8 @@ module _ (pairs : List Pair) (words : ℕ) (log : Log) (event : Event)
           → new.decision ≢ undecided
       at b e f =
           let made = changed_at-same (state_of pairs words log).pieces base
-                  (with_decision (decision_word b)) ∙ ap
-                  (option_map (with_decision (decision_word b))) there in
+          (with_decision (decision_word b)) ∙ ap
+          (option_map (with_decision (decision_word b))) there in
           word_decides b (ap (λ x. x.decision) (same_row _ _ (sym made ∙ e)) ∙ f)
         where
           same_row : (x y : ChangeRow) → Some (Change x) ≡ Some (Change y) → x ≡ y
@@ -220,21 +229,29 @@ module _ (pairs : List Pair) (words : ℕ) where
   decided_on : (log : Log) (event : Event) → EachEnabled (start pairs words) (event ∷ log)
       → (base : ℕ)
       → IsDecided (state_of pairs words log) base
-          → IsDecided (state_of pairs words (event ∷ log)) base
+      → IsDecided (state_of pairs words (event ∷ log)) base
   decided_on log event enabled base d =
       let grow = grow_step (start pairs words) log event enabled.1
-              (sound (start pairs words) log (sound_start pairs words) enabled.0) in
+      (sound (start pairs words) log (sound_start pairs words) enabled.0) in
       let it = change_there (state_of pairs words log).pieces
-              (state_of pairs words (event ∷ log)).pieces grow base d.change d.published in
-      record { change = it.0; published = it.1; decided =
-          λ e. d.decided (sym (it.2.decided d.decided) ∙ e) }
+      (state_of pairs words (event ∷ log)).pieces grow base d.change d.published in
+      record {
+        change = it.0;
+        published = it.1;
+        decided =
+            λ e. d.decided (sym (it.2.decided d.decided) ∙ e);
+      }
 
   resolved_now : (log : Log) (event : Event) → Enabled (start pairs words) log event → (base : ℕ)
       → Resolves base event
       → IsDecided (state_of pairs words log) base
   resolved_now log (Resolve caller change) h base is =
-      subst (IsDecided (state_of pairs words log)) is record { change = h.change; published =
-      h.published; decided = h.decided }
+      subst (IsDecided (state_of pairs words log)) is record {
+        change = h.change;
+        published =
+            h.published;
+        decided = h.decided;
+      }
   resolved_now log (Enter caller) h base is = absurd is
   resolved_now log (Reserve caller b size) h base is = absurd is
   resolved_now log (Install caller change rows) h base is = absurd is
@@ -262,12 +279,12 @@ module _ (pairs : List Pair) (words : ℕ) where
   -- where all is resolved, nothing is undecided
   pub none_undecided : (log : Log) → EachEnabled (start pairs words) log → (number : ℕ)
       → AllResolvedOf (state_of pairs words log) log number → (base : ℕ)
-          → ¬ (IsUndecided (state_of pairs words log) number base)
+      → ¬ (IsUndecided (state_of pairs words log) number base)
   none_undecided log enabled number all base u =
       let d = resolved_decided log enabled base (all base u.change u.pending.published u.owned) in
       d.decided (ap (λ r. r.decision)
-          (same_row ((state_of pairs words log).pieces base) d.change u.change d.published
-          u.pending.published) ∙ u.pending.unset)
+      (same_row ((state_of pairs words log).pieces base) d.change u.change d.published
+      u.pending.published) ∙ u.pending.unset)
     where
       same_row : (o : Option Piece) (r s : ChangeRow) → o ≡ Some (Change r) → o ≡ Some (Change s)
           → r ≡ s
@@ -281,7 +298,7 @@ module _ (pairs : List Pair) (words : ℕ) where
       → AllResolvedOf (state_of pairs words (event ∷ log)) (event ∷ log) number
   resolved_on log event enabled number idle all base r there owned =
       inr (at (change_comes (start pairs words) log event enabled.1
-          (sound (start pairs words) log (sound_start pairs words) enabled.0) base r there) idle)
+      (sound (start pairs words) log (sound_start pairs words) enabled.0) base r there) idle)
     where
       at : {e : Event} → ChangeComes (start pairs words) log base r e
           → ((b : ℕ) (rows : List Row) → e ≢ Install number b rows)

@@ -35,7 +35,7 @@ pub record MayCome (v : View) (log : Log) : Type 0 where
 abbrev pub StoredAll : View → List Row → Type 0
 StoredAll v rows =
     Each (λ row. (k : ℕ) → k < length row.words
-        → slice_get row.words k ≡ Some (own_at v.own (row.base + k))) rows
+    → slice_get row.words k ≡ Some (own_at v.own (row.base + k))) rows
 
 -- ---- an Install in a call
 
@@ -109,7 +109,7 @@ pub record CanAdd (v : View) (place : ℕ) (named : ℕ → Event) : Type 0 wher
 pub record LeavesAt (v : View) (log : Log) (event : Event) (place word : ℕ) : Type 0 where
   pub enabled : Enabled (start v.start v.words) log event
   pub leaves : (touch_of (state_of v.start v.words log) event
-          ≡ Some record { place = place; found = word; left = word })
+      ≡ Some record { place = place; found = word; left = word })
       ⊎ (touch_of (state_of v.start v.words log) event ≡ None)
 
 -- a load of the place is the event that is named for the log before it and the word, where one is

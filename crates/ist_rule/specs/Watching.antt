@@ -61,7 +61,7 @@ is_change _ = false
 abbrev pub pass_of : View → ℕ → ℕ → Naming
 pass_of v node i log word =
     if is_marked (as_inner ((state_of v.start v.words log).pieces node))
-        && (not (is_change (ref_of word)) && not (word == unset_word))
+    && (not (is_change (ref_of word)) && not (word == unset_word))
     then Some (Pass (number_of v.who) node i word) else None
 
 -- a caller may try to pass a slot of a published node: at the place of the slot

@@ -109,8 +109,7 @@ fn exchange_or_lose_as<N: NamedEitherWay>(
     requires within { place < word_count_of table.now }
     requires events { CanExchangeOrLose seat.old.view place old new N.events.0 N.events.1 }
     ensures same_table { seat.new.table ≡ seat.old.table }
-    ensures exchanged {
-        ExchangedOrLost seat.old.view N.events.0 N.events.1 place old result seat.new.view }
+    ensures exchanged { ExchangedOrLost seat.old.view N.events.0 N.events.1 place old result seat.new.view }
 {
     table
         .table
@@ -135,8 +134,7 @@ pub fn exchange_or_lose(
     requires within { place < word_count_of table.now }
     requires events { CanExchangeOrLose seat.old.view place old new events.0 events.1 }
     ensures same_table { seat.new.table ≡ seat.old.table }
-    ensures exchanged {
-        ExchangedOrLost seat.old.view events.0 events.1 place old result seat.new.view }
+    ensures exchanged { ExchangedOrLost seat.old.view events.0 events.1 place old result seat.new.view }
 {
     exchange_or_lose_as::<Brand>(table, seat, place, old, new)
 }

@@ -21,8 +21,7 @@ impl Model for TreeTable {
 
     ghost Value = { TableFace };
 
-    ghost view = {
-        λ t. record { table = t.table.shared.table_id; start = t.table.shared.key.start.value.items } };
+    ghost view = { λ t. record { table = t.table.shared.table_id; start = t.table.shared.key.start.value.items } };
 
     ghost invariant = { λ t. (t.table.shared.table_id.words ≡ t.table.shared.key.words)
         × (4 ≤ t.table.shared.key.words) × (t.table.shared.key.words ≤ 2 ^ 28)

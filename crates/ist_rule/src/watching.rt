@@ -42,8 +42,7 @@ pub fn load_okay(table: &TreeTable, seat: &mut TreeSeat, change: u32, place: u64
     requires same_table { seat.old.table ≡ table.now.table }
     requires may_load { CanLoadOkay seat.old.view change place }
     ensures same_table { seat.new.table ≡ seat.old.table }
-    ensures seen {
-        LoadedAs seat.old.view (okay_of seat.old.view change) place result seat.new.view }
+    ensures seen { LoadedAs seat.old.view (okay_of seat.old.view change) place result seat.new.view }
 {
     know(seat);
     load_as::<Brand>(table, seat, place, change, 0)
@@ -57,8 +56,7 @@ pub fn load_pass(table: &TreeTable, seat: &mut TreeSeat, node: u32, index: u64, 
     requires same_table { seat.old.table ≡ table.now.table }
     requires may_load { CanLoadPass seat.old.view node index place }
     ensures same_table { seat.new.table ≡ seat.old.table }
-    ensures seen {
-        LoadedAs seat.old.view (pass_of seat.old.view node index) place result seat.new.view }
+    ensures seen { LoadedAs seat.old.view (pass_of seat.old.view node index) place result seat.new.view }
 {
     know(seat);
     load_as::<Brand>(table, seat, place, node, index)

@@ -11,7 +11,7 @@ load-requires g c =
     let i = c.table.invariant in
     let v : View = c.seat.inside.seat.me.0 in
     let can = subst (λ (x : View). CanEnd x g.A.Answered.call)
-            (ap (λ (s : SeatFace). s.view) (sym c.seat.view_is)) c.requires.may_end in (
+    (ap (λ (s : SeatFace). s.view) (sym c.seat.view_is)) c.requires.may_end in (
       ap (λ (s : SeatFace). s.table) c.seat.view_is ∙ c.requires.same_table ∙ sym
           (ap (λ (t : TableFace). t.table) c.table.view_is),
       omega arith,
