@@ -23,7 +23,8 @@ use Rattle.ist_rule.specs.declared.view.Pending.{Pending}
 use Rattle.ist_rule.specs.declared.view.Who.TheVariants.{Caller}
 use Rattle.ist_rule.specs.Authors.{author, Later, no_more, one_more}
 use Rattle.ist_rule.specs.Standings.{entries_made, HasMade, IsUndecided, IsBetween, IsAtWork, IsEntered, CallStands}
-use Rattle.ist_rule.proofs.StandingLemmas.{EntriesMove, same_entries, new_entry, entries_move, UndecidedComes, was_undecided, now_installed, undecided_comes, decided_now, none_undecided, resolved_on}
+use Rattle.ist_rule.proofs.StandingLemmas.{EntriesMove, same_entries, new_entry, entries_move}
+use Rattle.ist_rule.proofs.UndecidedLemmas.{UndecidedComes, undecided_comes, decided_now, none_undecided, resolved_on, was_undecided, now_installed}
 
 -- an event of another installs nothing for the caller
 pub installs_not : (number : ℕ) (event : Event) → author event ≢ Caller number

@@ -8,7 +8,7 @@ use Rattle.ist_core.specs.declared.events.Event.TheVariants.{Okay, Pass, Lose}
 use Rattle.ist_core.specs.RowLayout.{anchor, pair_words, inner_status_offset, slot_place}
 use Rattle.ist_core.specs.References.{ref_of, unset_word}
 use Rattle.ist_core.specs.Statuses.{open_word, marked_word, undecided}
-use Rattle.ist_core.specs.Pieces.{Inner, Change, words_of, size_of, as_inner, as_change}
+use Rattle.ist_core.specs.Pieces.{Inner, Change, words_of, as_inner, as_change}
 use Rattle.ist_core.specs.Snapshots.{Snapshot, HoldsRow}
 use Rattle.ist_core.specs.StartLayout.{start}
 use Rattle.ist_core.specs.Naming.{HasDegree}
@@ -17,19 +17,18 @@ use Rattle.ist_core.specs.Logs.{Log}
 use Rattle.ist_core.specs.Enabled.{Enabled}
 use Rattle.ist_core.specs.Lawful.{state_of}
 use Rattle.ist_core.specs.Writing.{place_of_status, place_of_slot, touch_of, touch_of_okay}
-use Rattle.ist_core.proofs.ImageLemmas.{get_below, get-words_of_slot}
-use Rattle.ist_core.proofs.PlaceLemmas.{placed, claimed_within, anchor_free}
+use Rattle.ist_core.proofs.ImageLemmas.{get-words_of_slot}
+use Rattle.ist_core.proofs.PlaceLemmas.{anchor_free}
 use Rattle.ist_core.proofs.ShapedLemmas.{shaped}
-use Rattle.ist_core.proofs.RoomLemmas.{next_within, words_same}
 use Rattle.ist_core.proofs.GrowingLemmas.{inner_there, change_there}
 use Rattle.ist_core.proofs.FateLemmas.{grow_between}
 use Rattle.ist_rule.specs.declared.view.View.{View}
 use Rattle.ist_rule.specs.declared.view.Who.TheVariants.{Caller}
-use Rattle.ist_rule.specs.Authors.{author, Later, no_more}
-use Rattle.ist_rule.specs.Shown.{IsShown, shown_next, shown_callers, shown_status, shown_slot, shown_row, shown_free}
+use Rattle.ist_rule.specs.Authors.{author, Later}
+use Rattle.ist_rule.specs.Shown.{IsShown, shown_status, shown_row}
 use Rattle.ist_rule.specs.Rule.{IsSound}
 use Rattle.ist_rule.specs.Learning.{now}
-use Rattle.ist_rule.specs.Conditions.{MayCome, CanMake, LeavesAt, IsKnown, CanLoadAs}
+use Rattle.ist_rule.specs.Conditions.{MayCome, CanMake, LeavesAt, CanLoadAs}
 use Rattle.ist_rule.specs.Watching.{number_of, waits, okay_of, CanLoadOkay, is_marked, is_change, pass_of, CanLoadPass, past_of, CanLoadPast}
 use Rattle.ist_rule.proofs.LaterLemmas.{later-goes_on}
 use Rattle.ist_rule.proofs.GoingOnLemmas.{callers_later}
@@ -279,25 +278,3 @@ can_load_past v pair node s can =
             leaves = inr refl;
           },
         )
-
--- a place that is known lies within the table
-pub known_low : (v : View) (place : ℕ) → IsSound v → IsKnown v place → place < v.words
-known_low v place s known =
-    let it = known v.log record { later = no_more; lawful = s.lawful } in
-    at place it.0 it.1
-  where
-    at : (q word : ℕ) → IsShown (now v) q word → q < v.words
-    at _ _ shown_next = let room = s.lawful.opens.room in omega arith
-    at _ _ shown_callers = let room = s.lawful.opens.room in omega arith
-    at _ _ shown_status = let room = s.lawful.opens.room in omega arith
-    at _ _ shown_slot = let room = s.lawful.opens.room in omega arith
-    at _ word (shown_row base p k there got) =
-        let high = (claimed_within v.start v.words v.log base (size_of p) s.lawful.enabled
-        ((placed v.start v.words v.log s.lawful.enabled).published base p
-        there)).below_next in
-        let less = get_below (words_of p) k word got in
-        let low = next_within v.start v.words s.lawful.opens v.log s.lawful.enabled in
-        let all = words_same v.start v.words s.lawful.opens v.log in
-        omega arith
-    at _ _ (shown_free far in_it) = let all =
-        words_same v.start v.words s.lawful.opens v.log in omega arith

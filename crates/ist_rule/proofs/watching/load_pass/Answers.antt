@@ -1,5 +1,6 @@
 use Rattle.std.proofs.Common.{ap, arith}
-use Rattle.ist_rule.proofs.WatchedLoadLemmas.{can_load_pass, known_low}
+use Rattle.ist_rule.proofs.WatchedLoadLemmas.{can_load_pass}
+use Rattle.ist_rule.proofs.KnownPlaceLemmas.{known_low}
 use Rattle.ist_rule.proofs.watching.load_pass.Goals as goal
 
 -- the place lies within the table

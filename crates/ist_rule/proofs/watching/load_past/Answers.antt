@@ -2,7 +2,8 @@ use Rattle.std.proofs.Common.{◌≡◌, ◌+◌, ap, subst, arith}
 use Rattle.ist_rule.specs.Conditions.{CanLoadAs}
 use Rattle.ist_core.specs.RowLayout.{inner_status_offset}
 use Rattle.ist_rule.specs.Watching.{past_of}
-use Rattle.ist_rule.proofs.WatchedLoadLemmas.{can_load_past, known_low}
+use Rattle.ist_rule.proofs.WatchedLoadLemmas.{can_load_past}
+use Rattle.ist_rule.proofs.KnownPlaceLemmas.{known_low}
 use Rattle.ist_rule.proofs.watching.load_past.Goals as goal
 
 -- the place lies within the table
