@@ -1,0 +1,42 @@
+//! Laws over lawful logs. The functions take no steps and answer nothing: contracts are laws.
+ghost use Rattle.ist_stability.specs.Stability.{EntersStay, ReservesStay, LosesStay};
+ghost use Rattle.ist_stability.specs.Stability.{DecidesStay, ResolvesStay, MarksStay, FinishesStay};
+ghost use Rattle.ist_stability.specs.Stability.{RootsStay, PlacesStay, DrawsStay, DrawsGoOn};
+ghost use Rattle.ist_stability.specs.Stability.{InstallsStay, CountsStay, OkaysStay, PassesStay};
+ghost use Rattle.ist_stability.specs.Stability.{ResolvedChangesAreQuiet, TouchesStay};
+
+/// An event that is enabled behind a log stays so behind each longer one whose further events are
+/// made by others, where its place has the word that it is to find. What the place had in between
+/// doesn't matter. An Enter and a Lose stay whatever their word; a Draw moves on to the part that
+/// the draw word names.
+pub fn enabled_events_stay()
+    ensures enter { EntersStay }
+    ensures reserve { ReservesStay }
+    ensures decide { DecidesStay }
+    ensures resolve { ResolvesStay }
+    ensures mark { MarksStay }
+    ensures finish { FinishesStay }
+    ensures root { RootsStay }
+    ensures draw { DrawsStay }
+    ensures next_draw { DrawsGoOn }
+    ensures place { PlacesStay }
+    ensures lose { LosesStay }
+{}
+
+/// Four kinds of event need more than their word: no change of the caller on the node of an Install
+/// was decided no meanwhile, and no put or remove of the caller of a Count yes; the change of an
+/// Okay is undecided, and the node of a Pass isn't finished. A caller that begins an Install when
+/// all its changes are resolved has nothing that others could decide.
+pub fn exposed_events_stay()
+    ensures install { InstallsStay }
+    ensures count { CountsStay }
+    ensures okay { OkaysStay }
+    ensures pass { PassesStay }
+    ensures quiet { ResolvedChangesAreQuiet }
+{}
+
+/// An event touches the same place behind the longer log, and is to find and to leave there the
+/// same words. An Enter, a Count and a Draw add to what they find.
+pub fn touches_stay()
+    ensures touch { TouchesStay }
+{}
