@@ -13,3 +13,4 @@ pub mod BuildEventLemmas
 pub mod SpareEventLemmas
 pub mod QuietLemmas
 pub mod TouchLemmas
+pub mod FoundWordLemmas

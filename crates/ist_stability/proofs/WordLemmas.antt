@@ -57,7 +57,7 @@ module _ (pairs : List Pair) (words : ℕ) (log : Log) (enabled : EachEnabled (s
           ((placed pairs words log enabled).published other q f) ((placed pairs words log enabled).published base p e))
 
   -- a place below the rows has one word
-  fixed_row : (other j : ℕ) (q : Piece) → (state_of pairs words log).pieces other ≡ Some q → first_row ≤ other + j
+  pub fixed_row : (other j : ℕ) (q : Piece) → (state_of pairs words log).pieces other ≡ Some q → first_row ≤ other + j
   fixed_row other j q f =
       let inside = claimed_within pairs words log other (size_of q) enabled ((placed pairs words log enabled).published other q f) in
       let low = inside.behind_fixed in

@@ -7,6 +7,7 @@ use Rattle.ist_core.specs.declared.pairs.Pair.{Pair}
 use Rattle.ist_core.specs.declared.states.ChangeRow.{ChangeRow}
 use Rattle.ist_core.specs.Deciding.{AllResolvedOf}
 use Rattle.ist_core.specs.Enabled.{Enabled}
+use Rattle.ist_core.specs.ImageLaws.{IsNoLose}
 use Rattle.ist_core.specs.Lawful.{Lawful, state_of}
 use Rattle.ist_core.specs.Logs.{GoesOn, Log}
 use Rattle.ist_core.specs.RowLayout.{rebuild_draw_offset}
@@ -126,6 +127,20 @@ ResolvedChangesAreQuiet =
     × NoneAccepted (state_of pairs words earlier) (state_of pairs words log) caller
 
 -- ---- places
+
+-- a place has one word at most
+abbrev pub PlacesHaveOneWord : Type 0
+PlacesHaveOneWord =
+    (pairs : List Pair) (words : ℕ) (log : Log) → Lawful pairs words log → (place word other : ℕ)
+    → HasWord (state_of pairs words log) place word → HasWord (state_of pairs words log) place other
+    → word ≡ other
+
+-- where an event but a Lose is enabled, its word is the one that it is to find
+abbrev pub EventsFindTheirWord : Type 0
+EventsFindTheirWord =
+    (pairs : List Pair) (words : ℕ) (log : Log) (event : Event) → Lawful pairs words log
+    → Enabled (start pairs words) log event → IsNoLose event
+    → FindsItsWord (state_of pairs words log) (state_of pairs words log) event
 
 -- every event but an Enter, a Count and a Draw, which add to what they find
 abbrev pub AddsNothing : Event → Type 0

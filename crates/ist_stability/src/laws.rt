@@ -4,6 +4,7 @@ ghost use Rattle.ist_stability.specs.Stability.{DecidesStay, ResolvesStay, Marks
 ghost use Rattle.ist_stability.specs.Stability.{RootsStay, PlacesStay, DrawsStay, DrawsGoOn};
 ghost use Rattle.ist_stability.specs.Stability.{InstallsStay, CountsStay, OkaysStay, PassesStay};
 ghost use Rattle.ist_stability.specs.Stability.{ResolvedChangesAreQuiet, TouchesStay};
+ghost use Rattle.ist_stability.specs.Stability.{PlacesHaveOneWord, EventsFindTheirWord};
 
 /// An event that is enabled behind a log stays so behind each longer one whose further events are
 /// made by others, where its place has the word that it is to find. What the place had in between
@@ -39,4 +40,11 @@ pub fn exposed_events_stay()
 /// same words. An Enter, a Count and a Draw add to what they find.
 pub fn touches_stay()
     ensures touch { TouchesStay }
+{}
+
+/// A place has one word behind a lawful log, if it has one. An enabled event but a Lose finds its
+/// word there: what the clauses above ask of the longer log is true of the shorter one.
+pub fn events_find_their_words()
+    ensures one { PlacesHaveOneWord }
+    ensures found { EventsFindTheirWord }
 {}
