@@ -14,3 +14,4 @@ pub mod SpareEventLemmas
 pub mod QuietLemmas
 pub mod TouchLemmas
 pub mod FoundWordLemmas
+pub mod NeedLemmas

@@ -4,3 +4,4 @@ pub mod Others
 pub mod Words
 pub mod Meanwhile
 pub mod Stability
+pub mod Needs

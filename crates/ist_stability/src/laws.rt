@@ -5,6 +5,8 @@ ghost use Rattle.ist_stability.specs.Stability.{RootsStay, PlacesStay, DrawsStay
 ghost use Rattle.ist_stability.specs.Stability.{InstallsStay, CountsStay, OkaysStay, PassesStay};
 ghost use Rattle.ist_stability.specs.Stability.{ResolvedChangesAreQuiet, TouchesStay};
 ghost use Rattle.ist_stability.specs.Stability.{PlacesHaveOneWord, EventsFindTheirWord};
+ghost use Rattle.ist_stability.specs.Needs.{WordsAreNeeded, NoRefusalIsNeeded};
+ghost use Rattle.ist_stability.specs.Needs.{NoDecisionIsNeeded, TheMarkIsNeeded};
 
 /// An event that is enabled behind a log stays so behind each longer one whose further events are
 /// made by others, where its place has the word that it is to find. What the place had in between
@@ -47,4 +49,14 @@ pub fn touches_stay()
 pub fn events_find_their_words()
     ensures one { PlacesHaveOneWord }
     ensures found { EventsFindTheirWord }
+{}
+
+/// What the clauses above ask of the longer log is needed: an event that is enabled behind both
+/// logs finds its word, and so on. Of a Count this isn't said: where another put or remove of its
+/// caller was decided yes meanwhile, it may count that one.
+pub fn premises_are_needed()
+    ensures word { WordsAreNeeded }
+    ensures install { NoRefusalIsNeeded }
+    ensures okay { NoDecisionIsNeeded }
+    ensures pass { TheMarkIsNeeded }
 {}
