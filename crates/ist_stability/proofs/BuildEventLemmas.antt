@@ -59,16 +59,20 @@ draws_own caller rebuild part (Place c o i word rows) is = absurd is
 draws_own caller rebuild part (Lose c bases) is = absurd is
 
 -- no row is published where a caller holds one
-held_free : (t : Snapshot) (caller : ℕ) (rows : List Row) → IsSound t → HoldsRows t caller rows → (base : ℕ)
+held_free : (t : Snapshot) (caller : ℕ) (rows : List Row) → IsSound t → HoldsRows t caller rows
+    → (base : ℕ)
     → Among base (bases_of rows) → t.pieces base ≡ None
 held_free t caller rows s held base among =
     let it = row_among base rows among in
     let row : HeldRow = record { caller = caller; base = it.0.base; size = length it.0.words } in
     subst (λ b. t.pieces b ≡ None) it.2
-    (s.unpublished row (each-among (λ x. HoldsRow t caller x.base (length x.words)) it.0 rows held it.1))
+    (s.unpublished row
+    (each-among (λ x. HoldsRow t caller x.base (length x.words)) it.0 rows held it.1))
 
-module _ (pairs : List Pair) (words : ℕ) (opens : CanOpen pairs words) {earlier log : Log} (caller : ℕ)
-    (later : GoesOnByOthers (Some caller) earlier log) (h : EachEnabled (start pairs words) log) where
+module _ (pairs : List Pair) (words : ℕ) (opens : CanOpen pairs words) {earlier log : Log}
+    (caller : ℕ)
+    (later : GoesOnByOthers (Some caller) earlier log)
+    (h : EachEnabled (start pairs words) log) where
   on : GoesOn earlier log
   on = goes_on later
 
@@ -79,7 +83,8 @@ module _ (pairs : List Pair) (words : ℕ) (opens : CanOpen pairs words) {earlie
   grows = grow_between pairs words earlier log h on
 
   -- the leaves below a finished target stay
-  leaves_later : (old new : ℕ) → new ≡ old → (leaves : List PlacedLeaf) → IsFinished (state_of pairs words earlier) old
+  leaves_later : (old new : ℕ) → new ≡ old → (leaves : List PlacedLeaf)
+      → IsFinished (state_of pairs words earlier) old
       → HasLeaves (state_of pairs words earlier).pieces (Some (InnerAt old)) leaves
       → HasLeaves (state_of pairs words log).pieces (Some (InnerAt new)) leaves
   leaves_later old new same leaves done reached =
@@ -94,12 +99,14 @@ module _ (pairs : List Pair) (words : ℕ) (opens : CanOpen pairs words) {earlie
 
   leaf_later : (base : ℕ) (r : LeafRow) → (state_of pairs words earlier).pieces base ≡ Some (Leaf r)
       → (state_of pairs words log).pieces base ≡ Some (Leaf r)
-  leaf_later = leaf_there (state_of pairs words earlier).pieces (state_of pairs words log).pieces grows
+  leaf_later = leaf_there (state_of pairs words earlier).pieces
+      (state_of pairs words log).pieces grows
 
   -- a Root stays where the rebuild has no root
   pub root_stays : (rebuild word : ℕ) (rows : List Row)
       → CanRoot (state_of pairs words earlier) caller rebuild word rows
-      → FindsItsWord (state_of pairs words earlier) (state_of pairs words log) (Root caller rebuild word rows)
+      → FindsItsWord (state_of pairs words earlier) (state_of pairs words log)
+      (Root caller rebuild word rows)
       → CanRoot (state_of pairs words log) caller rebuild word rows
   root_stays rebuild word rows can f =
       let t = state_of pairs words earlier in
@@ -111,12 +118,17 @@ module _ (pairs : List Pair) (words : ℕ) (opens : CanOpen pairs words) {earlie
         row = it.0;
         published = it.1;
         started = started_grows t u grows rebuild can.started;
-        rootless = sym (row_word pairs words log h rebuild 3 it.0.root (Rebuild it.0) it.1 refl _ _ has refl);
+        rootless =
+            sym (row_word pairs words log h rebuild 3 it.0.root
+                (Rebuild it.0) it.1 refl _ _ has refl);
         k = can.k;
         finished = finished_later can.row.target it.0.target can.k it.2.target can.finished;
         leaves = can.leaves;
-        reached = leaves_later can.row.target it.0.target it.2.target can.leaves (can.k, can.finished) can.reached;
-        root = subst (λ n. IsRoot (with_inners u.pieces rows) word can.k can.leaves n (bases_of rows)) (sym it.2.target)
+        reached = leaves_later can.row.target it.0.target it.2.target can.leaves
+            (can.k, can.finished) can.reached;
+        root = subst
+            (λ n. IsRoot (with_inners u.pieces rows) word can.k can.leaves n (bases_of rows))
+            (sym it.2.target)
             (root_put t.pieces u.pieces rows leaf_later
             (held_free t caller rows (sound_behind pairs words earlier before) can.held)
             word can.k can.leaves can.row.target can.root);
@@ -125,7 +137,8 @@ module _ (pairs : List Pair) (words : ℕ) (opens : CanOpen pairs words) {earlie
       }
 
   -- the Draw of the part that the draw word names stays
-  pub next_draw_stays : (rebuild part now : ℕ) → CanDraw (state_of pairs words earlier) earlier caller rebuild part
+  pub next_draw_stays : (rebuild part now : ℕ)
+      → CanDraw (state_of pairs words earlier) earlier caller rebuild part
       → HasWord (state_of pairs words log) (rebuild + rebuild_draw_offset) now
       → CanDraw (state_of pairs words log) log caller rebuild now
   next_draw_stays rebuild part now can has =
@@ -140,36 +153,46 @@ module _ (pairs : List Pair) (words : ℕ) (opens : CanOpen pairs words) {earlie
         k = can.k;
         finished = finished_later can.row.target it.0.target can.k it.2.target can.finished;
         shared = can.shared;
-        part_is = row_word pairs words log h rebuild 4 it.0.draw (Rebuild it.0) it.1 refl _ _ has refl;
+        part_is = row_word pairs words log h rebuild 4 it.0.draw
+            (Rebuild it.0) it.1 refl _ _ has refl;
         not_past = λ old happened. can.not_past old (back old happened);
       }
     where
-      back : (old : ℕ) → Happened (Draws caller rebuild old) log → Happened (Draws caller rebuild old) earlier
-      back old is = done_before (Draws caller rebuild old) (Some caller) (draws_own caller rebuild old) later is
+      back : (old : ℕ) → Happened (Draws caller rebuild old) log
+          → Happened (Draws caller rebuild old) earlier
+      back old is = done_before (Draws caller rebuild old) (Some caller)
+          (draws_own caller rebuild old) later is
 
   -- so does a Draw whose part is named still
-  pub draw_stays : (rebuild part : ℕ) → CanDraw (state_of pairs words earlier) earlier caller rebuild part
-      → FindsItsWord (state_of pairs words earlier) (state_of pairs words log) (Draw caller rebuild part)
+  pub draw_stays : (rebuild part : ℕ) → CanDraw
+      (state_of pairs words earlier) earlier caller rebuild part
+      → FindsItsWord (state_of pairs words earlier) (state_of pairs words log)
+      (Draw caller rebuild part)
       → CanDraw (state_of pairs words log) log caller rebuild part
   draw_stays rebuild part can f =
-      let has = finds (state_of pairs words earlier) (state_of pairs words log) (Draw caller rebuild part) _
+      let has = finds (state_of pairs words earlier) (state_of pairs words log)
+          (Draw caller rebuild part) _
       (ap (λ o. touch_of_draw rebuild (as_rebuild o)) can.published) f in
       next_draw_stays rebuild part part can
-      (subst (λ w. HasWord (state_of pairs words log) (rebuild + rebuild_draw_offset) w) (sym can.part_is) has)
+      (subst (λ w. HasWord (state_of pairs words log) (rebuild + rebuild_draw_offset) w)
+      (sym can.part_is) has)
 
   -- a Place stays where the slot is Unset
   pub place_stays : (rebuild i word : ℕ) (rows : List Row)
       → CanPlace (state_of pairs words earlier) caller rebuild i word rows
-      → FindsItsWord (state_of pairs words earlier) (state_of pairs words log) (Place caller rebuild i word rows)
+      → FindsItsWord (state_of pairs words earlier) (state_of pairs words log)
+      (Place caller rebuild i word rows)
       → CanPlace (state_of pairs words log) caller rebuild i word rows
   place_stays rebuild i word rows can f =
       let t = state_of pairs words earlier in
       let u = state_of pairs words log in
       let it = rebuild_there t.pieces u.pieces grows rebuild can.row can.published in
       let top = inner_there t.pieces u.pieces grows can.root can.root_row can.root_published in
-      let set : can.row.root ≢ unset_word = set_by can.row.root (InnerAt can.root) can.root_is (λ q. cc) in
+      let set : can.row.root ≢ unset_word = set_by can.row.root (InnerAt can.root) can.root_is
+          (λ q. cc) in
       let has = finds t u (Place caller rebuild i word rows) _
-      (ap (λ o. touch_of_place t o i word) (ap as_rebuild can.published) ∙ ap (λ o. touch_in_root t o i word) can.root_is) f in
+      (ap (λ o. touch_of_place t o i word) (ap as_rebuild can.published)
+      ∙ ap (λ o. touch_in_root t o i word) can.root_is) f in
       record {
         known = known_later (start pairs words) on caller can.known;
         row = it.0;
@@ -183,7 +206,8 @@ module _ (pairs : List Pair) (words : ℕ) (opens : CanOpen pairs words) {earlie
             (in_row can.root_row can.root_published can.free) unset_word has);
         leaves = can.leaves;
         reached = leaves_later can.row.target it.0.target it.2.target can.leaves
-            (rooted_is_finished pairs words earlier before rebuild can.row can.published set) can.reached;
+            (rooted_is_finished pairs words earlier before rebuild can.row can.published set)
+            can.reached;
         part = can.part;
         part_is = can.part_is;
         ref = can.ref;

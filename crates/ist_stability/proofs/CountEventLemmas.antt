@@ -1,4 +1,5 @@
--- A Count stays enabled under events of others, where none decides a put or remove of its caller yes. Serves its clause.
+-- A Count stays enabled under events of others, where none decides a put or remove of its caller
+-- yes. Serves its clause.
 use Rattle.std.proofs.Common.{List, Option, Some, [], ap, false, inl, inr, option_map, refl, subst, sym, true, ℕ, ⊎_elim, ◌++◌, ◌∙◌, ◌∷◌, ◌≡◌, ◌≢◌}
 use Rattle.std.proofs.lemmas.Bool.Decides.{eqb_tells}
 use Rattle.ist_core.specs.declared.events.Event.{Event}
@@ -24,7 +25,8 @@ use Rattle.ist_stability.proofs.LaterLemmas.{known_step}
 use Rattle.ist_stability.proofs.OwnLemmas.{Was, own_was}
 
 -- a Count of a caller is its own event
-counts_own : (caller node : ℕ) (event : Event) → Counts caller node event → author event ≡ Some caller
+counts_own : (caller node : ℕ) (event : Event) → Counts caller node event
+    → author event ≡ Some caller
 counts_own caller node (Count c n) is = ap Some is.0
 counts_own caller node (Enter c) is = absurd is
 counts_own caller node (Reserve c base size) is = absurd is
@@ -48,7 +50,8 @@ record IsYes (t : Snapshot) (base : ℕ) : Type 0 where
   published : t.pieces base ≡ Some (Change change)
   decision : change.decision ≡ decided_yes
 
-one_change : (o : Option Piece) (a b : ChangeRow) → o ≡ Some (Change a) → o ≡ Some (Change b) → a ≡ b
+one_change : (o : Option Piece) (a b : ChangeRow) → o ≡ Some (Change a) → o ≡ Some (Change b)
+    → a ≡ b
 one_change o a b f k = cc
 
 yes_grows : (t u : Snapshot) → AllGrow t.pieces u.pieces → (base : ℕ) → IsYes t base → IsYes u base
@@ -75,7 +78,8 @@ blank_same t u g base x y e f =
     sym it.2.others ∙ ap blank (one_change (u.pieces base) it.0 y it.1 f)
 
 -- a put or remove of the caller stays one
-update_grows : (t u : Snapshot) → AllGrow t.pieces u.pieces → (caller base : ℕ) → IsUpdateOf t caller base
+update_grows : (t u : Snapshot) → AllGrow t.pieces u.pieces → (caller base : ℕ)
+    → IsUpdateOf t caller base
     → IsUpdateOf u caller base
 update_grows t u g caller base h =
     let it = change_there t.pieces u.pieces g base h.change h.published in
@@ -90,7 +94,8 @@ update_grows t u g caller base h =
 update_was : (t u : Snapshot) → AllGrow t.pieces u.pieces → (caller base : ℕ) → IsYes t base
     → IsUpdateOf u caller base → IsUpdateOf t caller base
 update_was t u g caller base y h =
-    let same : blank y.change ≡ blank h.change = blank_same t u g base y.change h.change y.published h.published in
+    let same : blank y.change ≡ blank h.change =
+        blank_same t u g base y.change h.change y.published h.published in
     record {
       change = y.change;
       published = y.published;
@@ -119,13 +124,17 @@ says_back t u caller (Draw c rebuild part) back is = absurd is
 says_back t u caller (Place c rebuild i word rows) back is = absurd is
 says_back t u caller (Lose c bases) back is = absurd is
 
--- what says yes to an update of the later state says so to one of the earlier, where the updates are the same
+-- what says yes to an update of the later state says so to one of the earlier, where the updates
+-- are the same
 happened_back : (t u : Snapshot) (caller : ℕ) (log : Log)
-    → ((base : ℕ) → Happened (Decides base true) log → IsUpdateOf u caller base → IsUpdateOf t caller base)
+    → ((base : ℕ) → Happened (Decides base true) log → IsUpdateOf u caller base
+    → IsUpdateOf t caller base)
     → Happened (SaysYes u caller) log → Happened (SaysYes t caller) log
 happened_back t u caller [] back is = absurd is
-happened_back t u caller (event ∷ log) back (inl now) = inl (says_back t u caller event (λ b d. back b (inl d)) now)
-happened_back t u caller (event ∷ log) back (inr old) = inr (happened_back t u caller log (λ b d. back b (inr d)) old)
+happened_back t u caller (event ∷ log) back (inl now) =
+    inl (says_back t u caller event (λ b d. back b (inl d)) now)
+happened_back t u caller (event ∷ log) back (inr old) =
+    inr (happened_back t u caller log (λ b d. back b (inr d)) old)
 
 happened_left : (P : Event → Type 0) (more log : Log) → Happened P more → Happened P (more ++ log)
 happened_left P [] log is = absurd is
@@ -143,7 +152,8 @@ module _ (pairs : List Pair) (words : ℕ) where
       (subst (λ s. IsYes (state_of pairs words (Decide c d s ∷ log)) d) (sym is.1)
       record {
         change = record change { decision = decided_yes };
-        published = changed_at-same ps d (with_decision decided_yes) ∙ ap (option_map (with_decision decided_yes)) h.1.pending.published;
+        published = changed_at-same ps d (with_decision decided_yes)
+            ∙ ap (option_map (with_decision decided_yes)) h.1.pending.published;
         decision = refl;
       })
   yes_now log (Enter c) h base is = absurd is
@@ -166,7 +176,8 @@ module _ (pairs : List Pair) (words : ℕ) where
   yes_behind [] h base is = absurd is
   yes_behind (event ∷ log) h base (inl now) = yes_now log event h base now
   yes_behind (event ∷ log) h base (inr old) =
-      yes_grows (state_of pairs words log) (state_of pairs words (event ∷ log)) (grow_behind pairs words log event h)
+      yes_grows (state_of pairs words log) (state_of pairs words (event ∷ log))
+          (grow_behind pairs words log event h)
       base (yes_behind log h.0 base old)
 
   module _ (caller : ℕ) where
@@ -177,18 +188,21 @@ module _ (pairs : List Pair) (words : ℕ) where
         → ¬ (SaysYes (state_of pairs words (event ∷ log)) caller event)
     yes_meanwhile {earlier = earlier} {log = log} (Decide c base true) later h none up =
         let x : ChangeRow = h.1.change in
-        let there : (state_of pairs words log).pieces base ≡ Some (Change x) = h.1.pending.published in
+        let there : (state_of pairs words log).pieces base ≡ Some (Change x) =
+            h.1.pending.published in
         let same : blank x ≡ blank up.change =
         blank_same (state_of pairs words log) (state_of pairs words (Decide c base true ∷ log))
         (grow_behind pairs words log (Decide c base true) h) base x up.change there up.published in
         let owner : x.owner ≡ caller = ap (λ y. y.owner) same ∙ up.owned in
         let was : Was (state_of pairs words earlier) (state_of pairs words log) base x =
         own_was pairs words caller later h.0 base x there owner in
-        let kind : was.old.kind ≡ up.change.kind = ap (λ y. y.kind) (sym was.grew.others) ∙ ap (λ y. y.kind) same in
+        let kind : was.old.kind ≡ up.change.kind = ap (λ y. y.kind) (sym was.grew.others)
+            ∙ ap (λ y. y.kind) same in
         let own : was.old.owner ≡ caller = ap (λ y. y.owner) (sym was.grew.others) ∙ owner in
         let yes = yes_now log (Decide c base true) h base (refl, refl) in
         let is : up.change ≡ yes.change =
-        one_change ((state_of pairs words (Decide c base true ∷ log)).pieces base) up.change yes.change up.published yes.published in
+        one_change ((state_of pairs words (Decide c base true ∷ log)).pieces base) up.change
+            yes.change up.published yes.published in
         ⊎_elim
         (λ pending.
         none base was.old up.change record { published = was.published; unset = pending.1 } own
@@ -212,8 +226,10 @@ module _ (pairs : List Pair) (words : ℕ) where
 
     -- a Count stays over one event of another
     count_step : (log : Log) (event : Event) → EachEnabled (start pairs words) (event ∷ log)
-        → author event ≢ Some caller → ¬ (SaysYes (state_of pairs words (event ∷ log)) caller event) → (node : ℕ)
-        → CanCount (start pairs words) log caller node → CanCount (start pairs words) (event ∷ log) caller node
+        → author event ≢ Some caller → ¬ (SaysYes (state_of pairs words (event ∷ log)) caller event)
+        → (node : ℕ)
+        → CanCount (start pairs words) log caller node
+        → CanCount (start pairs words) (event ∷ log) caller node
     unfolding update_grows
     count_step log event h other none node can =
         let t = state_of pairs words log in
@@ -233,11 +249,15 @@ module _ (pairs : List Pair) (words : ℕ) where
               (λ old. can.last (happened_back t u caller can.later
               (λ b d up. update_was t u g caller b
               (yes_behind log h.0 b (subst (Happened (Decides b true)) (sym can.log_is)
-              (happened_left (Decides b true) can.later (Decide can.by can.base true ∷ can.earlier) d))) up)
+              (happened_left (Decides b true) can.later
+              (Decide can.by can.base true ∷ can.earlier) d))) up)
               old))
               is;
-          uncounted = λ is. ⊎_elim (λ now. other (counts_own caller node event now)) can.uncounted is;
-          on_chain = inr (subst (λ n. WasOnChain (start pairs words) log n node) (sym (ap (λ x. x.node) it.2.others)) can.on_chain);
+          uncounted =
+              λ is. ⊎_elim (λ now. other (counts_own caller node event now)) can.uncounted is;
+          on_chain =
+              inr (subst (λ n. WasOnChain (start pairs words) log n node)
+                  (sym (ap (λ x. x.node) it.2.others)) can.on_chain);
         }
 
     -- a Count stays where no put or remove of the caller is decided yes
@@ -251,6 +271,7 @@ module _ (pairs : List Pair) (words : ℕ) where
         count_step log event h other (yes_meanwhile event later h none) node
         (count_stays later h.0 node can
         (λ base old new pending own update e yes.
-        let now = yes_grows (state_of pairs words log) (state_of pairs words (event ∷ log)) (grow_behind pairs words log event h) base
+        let now = yes_grows (state_of pairs words log) (state_of pairs words (event ∷ log))
+            (grow_behind pairs words log event h) base
         record { change = new; published = e; decision = yes } in
         none base old now.change pending own update now.published now.decision))

@@ -1,4 +1,5 @@
--- What a caller holds stays where others make events. Serves each clause on events that take held rows.
+-- What a caller holds stays where others make events. Serves each clause on events that take held
+-- rows.
 use Rattle.std.proofs.Common.{Bool, List, None, Option, Some, [], ap, false, filter, if◌then◌else◌, inl, inr, length, map, not, refl, subst, sym, true, ℕ, ⊎_elim, ◌++◌, ◌==◌, ◌∙◌, ◌∷◌, ◌≡◌, ◌≢◌}
 use Rattle.std.specs.List.{list_any}
 use Rattle.std.proofs.lemmas.Bool.Decides.{eqb_tells}
@@ -51,7 +52,8 @@ lost_holder : (t : Snapshot) (log : Log) (caller : ℕ) (bases : List ℕ) → I
     → h.caller ≡ caller
 lost_holder t log caller bases s can h i among =
     ⊎_elim
-    (λ p. sizes_holder t caller (p.pair ∷ []) (_ ∷ []) s (p.held, tt) h i (subst (Among h.base) p.bases_are among))
+    (λ p. sizes_holder t caller (p.pair ∷ []) (_ ∷ []) s (p.held, tt) h i
+    (subst (Among h.base) p.bases_are among))
     (λ b. sizes_holder t caller bases b.sizes s b.held h i among)
     can.cause
 
@@ -67,7 +69,8 @@ filter_kept {A} p q (x ∷ xs) out = at (q x) refl (filter_kept p q xs (λ y i e
         → filter p (if v then x ∷ filter q xs else filter q xs)
         ≡ (if p x then x ∷ filter p xs else filter p xs)
     at true e rest = ap (λ ys. if p x then x ∷ ys else ys) rest
-    at false e rest = rest ∙ sym (ap (λ b. if b then x ∷ filter p xs else filter p xs) (out x (inl refl) e))
+    at false e rest =
+        rest ∙ sym (ap (λ b. if b then x ∷ filter p xs else filter p xs) (out x (inl refl) e))
 
 -- it drops a last element that it doesn't keep
 filter_last : {A : Type 0} (p : A → Bool) (xs : List A) (x : A) → p x ≡ false
@@ -88,11 +91,14 @@ other_caller a b ne = ⊎_elim (λ same. absurd (ne same.1)) (λ other. other.0)
 -- the rows of a caller are none of those at these bases, which are another's
 own_kept : (t : Snapshot) (number caller : ℕ) (bases : List ℕ) → caller ≢ number
     → ((h : HeldRow) → Among h t.held → Among h.base bases → h.caller ≡ caller)
-    → filter (λ h. h.caller == number) (without bases t.held) ≡ filter (λ h. h.caller == number) t.held
+    → filter (λ h. h.caller == number) (without bases t.held) ≡ filter
+    (λ h. h.caller == number) t.held
 own_kept t number caller bases other holder =
-    filter_kept (λ h. h.caller == number) (λ h. not (list_any (λ base. base == h.base) bases)) t.held
+    filter_kept (λ h. h.caller == number) (λ h. not (list_any (λ base. base == h.base) bases))
+        t.held
     (λ h i out.
-    let at = holder h i (among_bases h.base bases (untrue (list_any (λ base. base == h.base) bases) out)) in
+    let at = holder h i
+        (among_bases h.base bases (untrue (list_any (λ base. base == h.base) bases) out)) in
     other_caller h.caller number (λ e. other (sym at ∙ e)))
 
 held-resolved : (t : Snapshot) (change : Option ChangeRow) → (resolved t change).held ≡ t.held
@@ -146,7 +152,8 @@ module _ (pairs : List Pair) (words : ℕ) (number : ℕ) where
   -- the sizes that a caller holds stay
   pub sizes_later : {earlier log : Log} → GoesOnByOthers (Some number) earlier log
       → EachEnabled (start pairs words) log
-      → sizes_held (state_of pairs words log) number ≡ sizes_held (state_of pairs words earlier) number
+      → sizes_held (state_of pairs words log) number ≡ sizes_held
+      (state_of pairs words earlier) number
   sizes_later later h = ap (map (λ row. row.size)) (own_later later h)
 
   -- a row that a caller holds stays held
@@ -156,7 +163,8 @@ module _ (pairs : List Pair) (words : ℕ) (number : ℕ) where
       → HoldsRow (state_of pairs words log) number base size
   holds_later {earlier = earlier} {log = log} later h base size i =
       let row : HeldRow = record { caller = number; base = base; size = size } in
-      let own = ⊎_elim (λ same. same.0) (λ other. absurd (other.1 refl)) (eqb_tells number number) in
+      let own = ⊎_elim (λ same. same.0) (λ other. absurd (other.1 refl))
+          (eqb_tells number number) in
       (among-filter (λ x. x.caller == number) row (state_of pairs words log).held
       (subst (Among row) (sym (own_later later h))
       (among_filter (λ x. x.caller == number) row (state_of pairs words earlier).held i own))).0

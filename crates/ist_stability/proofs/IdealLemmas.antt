@@ -1,5 +1,5 @@
--- An ideal subtree of rows that aren't published yet is one still when others have published theirs. Serves the clauses on
--- Root and Place.
+-- An ideal subtree of rows that aren't published yet is one still when others have published
+-- theirs. Serves the clauses on Root and Place.
 use Rattle.std.proofs.Common.{Bool, List, None, Option, Some, [], false, if◌then◌else◌, inl, inr, refl, subst, sym, true, ℕ, ⊎_elim, ◌==◌, ◌∙◌, ◌∷◌, ◌≡◌, ◌⊎◌}
 use Rattle.ist_core.specs.declared.lists.Row.{Row}
 use Rattle.ist_core.specs.declared.states.InnerRow.{InnerRow}
@@ -15,14 +15,18 @@ use Rattle.ist_core.specs.Snapshots.{bases_of}
 use Rattle.ist_core.proofs.ElementLemmas.{among_left, among_right}
 
 -- what stands where rows are put is one of them, whatever stood there, or is what stood there
-put_or_stood : (ps qs : Pieces) (rows : List Row) (base : ℕ) (p : Piece) → with_inners ps rows base ≡ Some p
-    → (with_inners qs rows base ≡ Some p) ⊎ ((ps base ≡ Some p) × (with_inners qs rows base ≡ qs base))
+put_or_stood : (ps qs : Pieces) (rows : List Row) (base : ℕ) (p : Piece)
+    → with_inners ps rows base ≡ Some p
+    → (with_inners qs rows base ≡ Some p) ⊎
+    ((ps base ≡ Some p) × (with_inners qs rows base ≡ qs base))
 put_or_stood ps qs [] base p e = inr (e, refl)
-put_or_stood ps qs (row ∷ rows) base p e = at (inner_of row.words) e (put_or_stood ps qs rows base p)
+put_or_stood ps qs (row ∷ rows) base p e = at (inner_of row.words) e
+    (put_or_stood ps qs rows base p)
   where
     at : (o : Option Piece) → with_row (with_inners ps rows) row.base o base ≡ Some p
         → (with_inners ps rows base ≡ Some p
-        → (with_inners qs rows base ≡ Some p) ⊎ ((ps base ≡ Some p) × (with_inners qs rows base ≡ qs base)))
+        → (with_inners qs rows base ≡ Some p) ⊎
+        ((ps base ≡ Some p) × (with_inners qs rows base ≡ qs base)))
         → (with_row (with_inners qs rows) row.base o base ≡ Some p)
         ⊎ ((ps base ≡ Some p) × (with_row (with_inners qs rows) row.base o base ≡ qs base))
     at None f rest = rest f
@@ -41,20 +45,24 @@ module _ (ps qs : Pieces) (rows : List Row)
   leaf_put : (base : ℕ) (r : LeafRow) → with_inners ps rows base ≡ Some (Leaf r)
       → with_inners qs rows base ≡ Some (Leaf r)
   leaf_put base r e =
-      ⊎_elim (λ put. put) (λ stood. stood.1 ∙ leaf base r stood.0) (put_or_stood ps qs rows base (Leaf r) e)
+      ⊎_elim (λ put. put) (λ stood. stood.1 ∙ leaf base r stood.0)
+          (put_or_stood ps qs rows base (Leaf r) e)
 
   clash : (o : Option Piece) (p : Piece) → o ≡ None → o ≡ Some p → ⊥
   clash o p e f = cc
 
   -- so does each row that is put
-  inner_put : (base : ℕ) (p : Piece) → Among base (bases_of rows) → with_inners ps rows base ≡ Some p
+  inner_put : (base : ℕ) (p : Piece) → Among base (bases_of rows)
+      → with_inners ps rows base ≡ Some p
       → with_inners qs rows base ≡ Some p
   inner_put base p own e =
       ⊎_elim (λ put. put) (λ stood. absurd (clash (ps base) p (free base own) stood.0))
       (put_or_stood ps qs rows base p e)
 
-  top_put : (base : ℕ) (r : InnerRow) (leaves : List PlacedLeaf) (above : ℕ) → Among base (bases_of rows)
-      → IsTop (with_inners ps rows) base r leaves above → IsTop (with_inners qs rows) base r leaves above
+  top_put : (base : ℕ) (r : InnerRow) (leaves : List PlacedLeaf) (above : ℕ)
+      → Among base (bases_of rows)
+      → IsTop (with_inners ps rows) base r leaves above
+      → IsTop (with_inners qs rows) base r leaves above
   top_put base r leaves above own h =
       record {
         published = inner_put base (Inner r) own h.published;
@@ -74,7 +82,8 @@ module _ (ps qs : Pieces) (rows : List Row)
         → ((base : ℕ) → Among base bases → Among base (bases_of rows))
         → IsIdeal (with_inners qs rows) ref leaves above bases
     ideal_put _ _ _ _ of_none own = of_none
-    ideal_put _ _ _ _ (of_one {base = base} {leaf = l} same e) own = of_one same (leaf_put base l.row e)
+    ideal_put _ _ _ _ (of_one {base = base} {leaf = l} same e) own =
+        of_one same (leaf_put base l.row e)
     ideal_put _ _ above _ (of_more {base = base} {leaves = leaves} {rows = bases} r top under) own =
         of_more r (top_put base r leaves above (own base (inl refl)) top)
         (parts_put r.slots (parts leaves) base bases under (λ b i. own b (inr i)))
@@ -85,8 +94,10 @@ module _ (ps qs : Pieces) (rows : List Row)
         → AreIdeal (with_inners qs rows) words behind above bases
     parts_put _ _ _ _ no_part own = no_part
     parts_put _ _ above _
-        (one_part {words = words} {here = here} {rest = rest} {part = part} {behind = behind} ref is first more) own =
-        one_part ref is (ideal_put ref part above here first (λ b i. own b (among_left b here rest i)))
+        (one_part {words = words} {here = here} {rest = rest} {part = part} {behind = behind} ref is
+        first more) own =
+        one_part ref is
+            (ideal_put ref part above here first (λ b i. own b (among_left b here rest i)))
         (parts_put words behind above rest more (λ b i. own b (among_right b here rest i)))
 
   -- so does a root

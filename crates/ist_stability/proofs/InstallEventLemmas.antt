@@ -36,7 +36,8 @@ use Rattle.ist_stability.proofs.SetLemmas.{set_later}
 use Rattle.ist_stability.proofs.SlotWordLemmas.{finds, get_alike, slot_later, slot_of_row}
 
 -- the child for a key stays the child for it
-child_for_later : (t u : Snapshot) → AllGrow t.pieces u.pieces → (node key i : ℕ) → IsChildFor t node key i
+child_for_later : (t u : Snapshot) → AllGrow t.pieces u.pieces → (node key i : ℕ)
+    → IsChildFor t node key i
     → IsChildFor u node key i
 child_for_later t u g node key i (of_anchor a b) = of_anchor a b
 child_for_later t u g node key i (of_row r e is) =
@@ -47,7 +48,8 @@ child_for_later t u g node key i (of_row r e is) =
 due_later : (old new : InnerRow) → InnerGrows old new → IsDue old → IsDue new
 due_later old new g due =
     let more = g.count in
-    subst (λ n. limit n ≤ new.count) (sym g.size) (le_on (limit old.size) old.count new.count due more)
+    subst (λ n. limit n ≤ new.count) (sym g.size)
+        (le_on (limit old.size) old.count new.count due more)
   where
     le_on : (a b c : ℕ) → a ≤ b → b ≤ c → a ≤ c
     le_on a b c x y = omega arith
@@ -62,7 +64,8 @@ root_here : (t : Snapshot) (target word base : ℕ) → RootNames t.pieces targe
     → ref_of word ≡ Some (InnerAt base) → InnerHere t.pieces base
 root_here t target word base named is = (subst (λ o. RootNames t.pieces target o) is named).1
 
-module _ (pairs : List Pair) (words : ℕ) (opens : CanOpen pairs words) {earlier log : Log} (on : GoesOn earlier log)
+module _ (pairs : List Pair) (words : ℕ) (opens : CanOpen pairs words) {earlier log : Log}
+    (on : GoesOn earlier log)
     (h : EachEnabled (start pairs words) log) where
   grows : AllGrow (state_of pairs words earlier).pieces (state_of pairs words log).pieces
   grows = grow_between pairs words earlier log h on
@@ -76,7 +79,8 @@ module _ (pairs : List Pair) (words : ℕ) (opens : CanOpen pairs words) {earlie
   by_key_later change c =
       record {
         led = ever_later (start pairs words) (λ t. Leads t change.key change.node) on c.led;
-        index = child_for_later (state_of pairs words earlier) (state_of pairs words log) grows change.node change.key
+        index = child_for_later (state_of pairs words earlier)
+            (state_of pairs words log) grows change.node change.key
             change.index c.index;
       }
 
@@ -84,7 +88,8 @@ module _ (pairs : List Pair) (words : ℕ) (opens : CanOpen pairs words) {earlie
   clash w v set same none = set (same ∙ none)
 
   -- a built root stays built
-  built_later : (rebuild : ℕ) (r : RebuildRow) → (state_of pairs words earlier).pieces rebuild ≡ Some (Rebuild r)
+  built_later : (rebuild : ℕ) (r : RebuildRow)
+      → (state_of pairs words earlier).pieces rebuild ≡ Some (Rebuild r)
       → IsBuilt (state_of pairs words earlier) r.root → IsBuilt (state_of pairs words log) r.root
   built_later rebuild r e built =
       record {
@@ -92,21 +97,28 @@ module _ (pairs : List Pair) (words : ℕ) (opens : CanOpen pairs words) {earlie
         whole = λ base i word is holds none.
             let named = (names pairs words opens earlier before).rows rebuild (Rebuild r) e in
             let here = root_here (state_of pairs words earlier) r.target r.root base named.2 is in
-            let row = inner_there (state_of pairs words earlier).pieces (state_of pairs words log).pieces grows base here.0 here.1 in
-            let at = slot_of_row (state_of pairs words log) base i word row.0 (anchor_free pairs words log h) row.1 holds in
+            let row = inner_there (state_of pairs words earlier).pieces
+                (state_of pairs words log).pieces grows base here.0 here.1 in
+            let at = slot_of_row (state_of pairs words log) base i word row.0
+                (anchor_free pairs words log h) row.1 holds in
             let old = get_back here.0.slots row.0.slots i word row.2.slots at in
-            let holds_old : SlotHolds (state_of pairs words earlier) base i old.0 = in_row here.0 here.1 old.1 in
+            let holds_old : SlotHolds (state_of pairs words earlier) base i old.0 =
+                in_row here.0 here.1 old.1 in
             let s = set_later pairs words opens on h base i
-            record { word = old.0; holds = holds_old; set = built.whole base i old.0 is holds_old } in
-            let same : s.word ≡ word = slot_once (state_of pairs words log) base i s.word word (anchor_free pairs words log h) s.holds holds in
+            record { word = old.0; holds = holds_old; set =
+                built.whole base i old.0 is holds_old } in
+            let same : s.word ≡ word = slot_once (state_of pairs words log) base i s.word word
+                (anchor_free pairs words log h) s.holds holds in
             clash s.word word s.set same none;
       }
 
   -- what a start needs stays
-  starts_later : (change : ChangeRow) (fresh : List Row) → Starts (state_of pairs words earlier) change fresh
+  starts_later : (change : ChangeRow) (fresh : List Row)
+      → Starts (state_of pairs words earlier) change fresh
       → Starts (state_of pairs words log) change fresh
   starts_later change fresh s =
-      let it = inner_there (state_of pairs words earlier).pieces (state_of pairs words log).pieces grows s.target s.row s.published in
+      let it = inner_there (state_of pairs words earlier).pieces
+          (state_of pairs words log).pieces grows s.target s.row s.published in
       record {
         kind = s.kind;
         key = s.key;
@@ -122,10 +134,12 @@ module _ (pairs : List Pair) (words : ℕ) (opens : CanOpen pairs words) {earlie
       }
 
   -- and what a finish needs
-  finishes_later : (change : ChangeRow) (fresh : List Row) → Finishes (state_of pairs words earlier) change fresh
+  finishes_later : (change : ChangeRow) (fresh : List Row)
+      → Finishes (state_of pairs words earlier) change fresh
       → Finishes (state_of pairs words log) change fresh
   finishes_later change fresh f =
-      let it = rebuild_there (state_of pairs words earlier).pieces (state_of pairs words log).pieces grows f.rebuild f.row f.published in
+      let it = rebuild_there (state_of pairs words earlier).pieces
+          (state_of pairs words log).pieces grows f.rebuild f.row f.published in
       let root = it.2.rooted f.built.set in
       record {
         kind = f.kind;
@@ -135,22 +149,26 @@ module _ (pairs : List Pair) (words : ℕ) (opens : CanOpen pairs words) {earlie
         row = it.0;
         from = f.from;
         published = it.1;
-        started = started_grows (state_of pairs words earlier) (state_of pairs words log) grows f.rebuild f.started;
+        started = started_grows (state_of pairs words earlier)
+            (state_of pairs words log) grows f.rebuild f.started;
         parent = it.2.parent ∙ f.parent;
         index = it.2.index ∙ f.index;
         to = f.to ∙ sym root;
-        built = subst (λ w. IsBuilt (state_of pairs words log) w) (sym root) (built_later f.rebuild f.row f.published f.built);
+        built = subst (λ w. IsBuilt (state_of pairs words log) w) (sym root)
+            (built_later f.rebuild f.row f.published f.built);
         fresh_are = f.fresh_are;
       }
 
   -- the condition of each kind stays
-  fits_later : (change : ChangeRow) (fresh : List Row) → FitsKind (start pairs words) earlier change fresh
+  fits_later : (change : ChangeRow) (fresh : List Row)
+      → FitsKind (start pairs words) earlier change fresh
       → FitsKind (start pairs words) log change fresh
   fits_later change fresh (a_put p) =
       a_put record {
         kind = p.kind;
         by_key = by_key_later change p.by_key;
-        from = room_grows (state_of pairs words earlier) (state_of pairs words log) grows change.key change.from p.from;
+        from = room_grows (state_of pairs words earlier)
+            (state_of pairs words log) grows change.key change.from p.from;
         leaf = p.leaf;
         to = p.to;
         fresh_are = p.fresh_are;
@@ -162,7 +180,8 @@ module _ (pairs : List Pair) (words : ℕ) (opens : CanOpen pairs words) {earlie
         other = p.other;
         other_key = p.other_key;
         from = p.from;
-        stands = leaf_of_grows (state_of pairs words earlier) (state_of pairs words log) grows p.other p.other_key p.stands;
+        stands = leaf_of_grows (state_of pairs words earlier)
+            (state_of pairs words log) grows p.other p.other_key p.stands;
         differs = p.differs;
         pair = p.pair;
         leaf = p.leaf;
@@ -176,7 +195,8 @@ module _ (pairs : List Pair) (words : ℕ) (opens : CanOpen pairs words) {earlie
         by_key = by_key_later change p.by_key;
         leaf = p.leaf;
         from = p.from;
-        stands = leaf_of_grows (state_of pairs words earlier) (state_of pairs words log) grows p.leaf change.key p.stands;
+        stands = leaf_of_grows (state_of pairs words earlier)
+            (state_of pairs words log) grows p.leaf change.key p.stands;
         to = p.to;
         value = p.value;
         fresh_are = p.fresh_are;
@@ -184,19 +204,26 @@ module _ (pairs : List Pair) (words : ℕ) (opens : CanOpen pairs words) {earlie
   fits_later change fresh (a_start p) = a_start (starts_later change fresh p)
   fits_later change fresh (a_finish p) = a_finish (finishes_later change fresh p)
 
-module _ (pairs : List Pair) (words : ℕ) (opens : CanOpen pairs words) {earlier log : Log} (caller : ℕ)
-    (later : GoesOnByOthers (Some caller) earlier log) (h : EachEnabled (start pairs words) log) where
-  -- an Install stays where `from` is in its slot and no change of the caller on the node is decided no
-  pub install_stays : (base : ℕ) (rows : List Row) → CanInstall (start pairs words) earlier caller base rows
-      → FindsItsWord (state_of pairs words earlier) (state_of pairs words log) (Install caller base rows)
+module _ (pairs : List Pair) (words : ℕ) (opens : CanOpen pairs words) {earlier log : Log}
+    (caller : ℕ)
+    (later : GoesOnByOthers (Some caller) earlier log)
+    (h : EachEnabled (start pairs words) log) where
+  -- an Install stays where `from` is in its slot and no change of the caller on the node is decided
+  -- no
+  pub install_stays : (base : ℕ) (rows : List Row)
+      → CanInstall (start pairs words) earlier caller base rows
+      → FindsItsWord (state_of pairs words earlier) (state_of pairs words log)
+      (Install caller base rows)
       → ((change : ChangeRow) → first_change rows ≡ Some change
       → NoneRefused (state_of pairs words earlier) (state_of pairs words log) caller change.node)
       → CanInstall (start pairs words) log caller base rows
   install_stays base rows can f none =
       let change = can.change in
       let on = goes_on later in
-      let has = finds (state_of pairs words earlier) (state_of pairs words log) (Install caller base rows) _
-      (ap (λ xs. touch_of (state_of pairs words earlier) (Install caller base xs)) can.rows_are) f in
+      let has = finds (state_of pairs words earlier) (state_of pairs words log)
+          (Install caller base rows) _
+      (ap (λ xs. touch_of (state_of pairs words earlier) (Install caller base xs)) can.rows_are)
+      f in
       record {
         known = known_later (start pairs words) on caller can.known;
         change = can.change;
@@ -205,7 +232,9 @@ module _ (pairs : List Pair) (words : ℕ) (opens : CanOpen pairs words) {earlie
         held = rows_later pairs words caller later h rows can.held;
         owned = can.owned;
         unset = can.unset;
-        in_slot = slot_later pairs words earlier log on h change.node change.index change.from can.in_slot change.from has;
+        in_slot =
+            slot_later pairs words earlier log on h change.node change.index change.from can.in_slot
+                change.from has;
         linked = ever_later (start pairs words) (λ t. Linked t change.node) on can.linked;
         unrefused = unrefused_later pairs words caller later h change.node can.unrefused
             (none can.change (ap first_change can.rows_are));

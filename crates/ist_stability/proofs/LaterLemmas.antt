@@ -1,4 +1,5 @@
--- Logs that have gone on: what happened or was true stays so, and callers only come. Serves each clause.
+-- Logs that have gone on: what happened or was true stays so, and callers only come. Serves each
+-- clause.
 use Rattle.std.proofs.Common.{List, None, Option, Some, [], arith, inl, inr, refl, ℕ, ⊎_elim, ◌<◌, ◌∙◌, ◌∷◌, ◌≡◌, ◌≤◌, ◌⊎◌}
 use Rattle.ist_core.specs.declared.events.Event.{Event}
 use Rattle.ist_core.specs.declared.events.Event.TheVariants.{Count, Decide, Draw, Enter, Finish, Install, Lose, Mark, Okay, Pass, Place, Reserve, Resolve, Root}
@@ -11,12 +12,14 @@ use Rattle.ist_core.specs.Snapshots.{Snapshot}
 use Rattle.ist_stability.specs.Others.{GoesOnByOthers, author, no_more, one_more}
 
 -- a log that goes on by others goes on
-pub goes_on : {who : Option ℕ} {earlier log : Log} → GoesOnByOthers who earlier log → GoesOn earlier log
+pub goes_on : {who : Option ℕ} {earlier log : Log} → GoesOnByOthers who earlier log
+    → GoesOn earlier log
 goes_on no_more = same_log
 goes_on (one_more event later other) = one_event event (goes_on later)
 
 -- what happened happened still
-pub happened_later : (P : Event → Type 0) {earlier log : Log} → GoesOn earlier log → Happened P earlier → Happened P log
+pub happened_later : (P : Event → Type 0) {earlier log : Log} → GoesOn earlier log
+    → Happened P earlier → Happened P log
 happened_later P same_log h = h
 happened_later P (one_event event g) h = inr (happened_later P g h)
 
@@ -27,7 +30,8 @@ ever_later first P same_log h = h
 ever_later first P (one_event event g) h = inr (ever_later first P g h)
 
 -- what only one author's events do was done before, where others made the events
-pub done_before : (P : Event → Type 0) (who : Option ℕ) → ((event : Event) → P event → author event ≡ who)
+pub done_before : (P : Event → Type 0) (who : Option ℕ)
+    → ((event : Event) → P event → author event ≡ who)
     → {earlier log : Log} → GoesOnByOthers who earlier log → Happened P log → Happened P earlier
 done_before P who own no_more h = h
 done_before P who own (one_more event later other) h =
@@ -40,11 +44,13 @@ callers-with_change : (t : Snapshot) (base : ℕ) (fresh : List Row) (change : O
 callers-with_change t base fresh None = refl
 callers-with_change t base fresh (Some change) = refl
 
-callers-installed : (t : Snapshot) (base : ℕ) (rows : List Row) → (installed t base rows).callers ≡ t.callers
+callers-installed : (t : Snapshot) (base : ℕ) (rows : List Row)
+    → (installed t base rows).callers ≡ t.callers
 callers-installed t base [] = refl
 callers-installed t base (row ∷ fresh) = callers-with_change t base fresh (change_of row.words)
 
-callers-resolved : (t : Snapshot) (change : Option ChangeRow) → (resolved t change).callers ≡ t.callers
+callers-resolved : (t : Snapshot) (change : Option ChangeRow)
+    → (resolved t change).callers ≡ t.callers
 callers-resolved t None = refl
 callers-resolved t (Some change) = refl
 
@@ -53,7 +59,8 @@ callers_step : (first : Snapshot) (log : Log) (event : Event)
     → ((author event ≡ None) × ((state first log).callers ≤ (state first (event ∷ log)).callers))
     ⊎ ((state first (event ∷ log)).callers ≡ (state first log).callers)
 callers_step first log (Enter caller) = inl (refl, omega arith)
-callers_step first log (Install caller base rows) = inr (callers-installed (state first log) base rows)
+callers_step first log (Install caller base rows) =
+    inr (callers-installed (state first log) base rows)
 callers_step first log (Resolve caller base) =
     inr (callers-resolved (state first log) (as_change ((state first log).pieces base)))
 callers_step first log (Reserve caller base size) = inr refl
@@ -69,10 +76,12 @@ callers_step first log (Place caller rebuild i word rows) = inr refl
 callers_step first log (Lose caller bases) = inr refl
 
 -- who is known stays known over an event
-pub known_step : (first : Snapshot) (log : Log) (event : Event) (caller : ℕ) → caller < (state first log).callers
+pub known_step : (first : Snapshot) (log : Log) (event : Event) (caller : ℕ)
+    → caller < (state first log).callers
     → caller < (state first (event ∷ log)).callers
 known_step first log event caller low =
-    ⊎_elim (λ more. let le = more.1 in omega arith) (λ same. omega arith) (callers_step first log event)
+    ⊎_elim (λ more. let le = more.1 in omega arith) (λ same. omega arith)
+        (callers_step first log event)
 
 -- and over any
 pub known_later : (first : Snapshot) {earlier log : Log} → GoesOn earlier log → (caller : ℕ)

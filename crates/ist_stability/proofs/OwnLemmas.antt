@@ -1,4 +1,5 @@
--- The changes of a caller come from its own events, and what is said of them. Serves the clauses on Install and Count.
+-- The changes of a caller come from its own events, and what is said of them. Serves the clauses on
+-- Install and Count.
 use Rattle.std.proofs.Common.{List, Option, Some, ap, subst, sym, ℕ, ⊎_elim, ◌∙◌, ◌≡◌, ◌≢◌}
 use Rattle.std.proofs.lemmas.Bool.Decides.{eqb_tells}
 use Rattle.ist_core.specs.declared.events.Event.{Event}
@@ -36,8 +37,10 @@ module _ (pairs : List Pair) (words : ℕ) (caller : ℕ) where
   own_before {earlier = earlier} (one_more {log = log} event later other) h base x e own =
       at event other (change_comes pairs words log event h base x e) (own_before later h.0 base)
     where
-      at : (event : Event) → author event ≢ Some caller → ChangeComes (start pairs words) log base x event
-          → ((y : ChangeRow) → (state_of pairs words log).pieces base ≡ Some (Change y) → y.owner ≡ caller
+      at : (event : Event) → author event ≢ Some caller
+          → ChangeComes (start pairs words) log base x event
+          → ((y : ChangeRow) → (state_of pairs words log).pieces base ≡ Some (Change y)
+          → y.owner ≡ caller
           → (old : ChangeRow) × ((state_of pairs words earlier).pieces base ≡ Some (Change old)))
           → (old : ChangeRow) × ((state_of pairs words earlier).pieces base ≡ Some (Change old))
       at event out (change_was old) before = before x old own
@@ -53,18 +56,21 @@ module _ (pairs : List Pair) (words : ℕ) (caller : ℕ) where
       → Was (state_of pairs words earlier) (state_of pairs words log) base x
   own_was {earlier = earlier} {log = log} later h base x e own =
       let it = own_before later h base x e own in
-      let there = change_there (state_of pairs words earlier).pieces (state_of pairs words log).pieces
+      let there = change_there (state_of pairs words earlier).pieces
+          (state_of pairs words log).pieces
       (grow_between pairs words earlier log h (goes_on later)) base it.0 it.1 in
       record {
         old = it.0;
         published = it.1;
-        grew = subst (λ y. ChangeGrows it.0 y) (one ((state_of pairs words log).pieces base) there.0 x there.1 e) there.2;
+        grew = subst (λ y. ChangeGrows it.0 y)
+            (one ((state_of pairs words log).pieces base) there.0 x there.1 e) there.2;
       }
     where
       one : (o : Option Piece) (a b : ChangeRow) → o ≡ Some (Change a) → o ≡ Some (Change b) → a ≡ b
       one o a b f k = cc
 
-  -- no change of the caller on the node was decided no, where none was so before and none is meanwhile
+  -- no change of the caller on the node was decided no, where none was so before and none is
+  -- meanwhile
   pub unrefused_later : {earlier log : Log} → GoesOnByOthers (Some caller) earlier log
       → EachEnabled (start pairs words) log → (node : ℕ)
       → IsUnrefused (state_of pairs words earlier) caller node
@@ -75,6 +81,8 @@ module _ (pairs : List Pair) (words : ℕ) (caller : ℕ) where
       let owner = ap (λ y. y.owner) (sym was.grew.others) ∙ own in
       let place = ap (λ y. y.node) (sym was.grew.others) ∙ on in
       ⊎_elim
-      (λ same. none base was.old x record { published = was.published; unset = same.1 } owner place e refused)
-      (λ other. before base was.old was.published owner place (sym (was.grew.decided other.1) ∙ refused))
+      (λ same. none base was.old x record { published = was.published; unset = same.1 } owner place
+      e refused)
+      (λ other. before base was.old was.published owner place
+      (sym (was.grew.decided other.1) ∙ refused))
       (eqb_tells was.old.decision undecided)

@@ -71,7 +71,8 @@ set_written t u node i at j new old w set h =
     ⊎_elim
     (λ here. record {
       word = new;
-      holds = subst (λ k. SlotHolds u node k new) (sym here.2) (subst (λ n. SlotHolds u n j new) (sym here.1) w.now);
+      holds = subst (λ k. SlotHolds u node k new) (sym here.2)
+          (subst (λ n. SlotHolds u n j new) (sym here.1) w.now);
       set = set;
     })
     (λ there. record { word = h.word; holds = there; set = h.set })
@@ -81,17 +82,20 @@ set_written t u node i at j new old w set h =
 set_filled : (t u : Snapshot) (node i at j new : ℕ) → WritesSlot t u at j new unset_word
     → IsSet t node i → IsSet u node i
 set_filled t u node i at j new w h =
-    ⊎_elim (λ here. absurd (h.set here.0)) (λ there. record { word = h.word; holds = there; set = h.set })
+    ⊎_elim (λ here. absurd (h.set here.0))
+        (λ there. record { word = h.word; holds = there; set = h.set })
     (w.others node i h.word h.holds)
 
 module _ (pairs : List Pair) (words : ℕ) (opens : CanOpen pairs words) where
-  quiet : (log : Log) (event : Event) → EachEnabled (start pairs words) (event ∷ log) → WritesNoSlot event
+  quiet : (log : Log) (event : Event) → EachEnabled (start pairs words) (event ∷ log)
+      → WritesNoSlot event
       → (node i : ℕ) → IsSet (state_of pairs words log) node i
       → IsSet (state_of pairs words (event ∷ log)) node i
   quiet log event h none node i s =
       record {
         word = s.word;
-        holds = slot_stays (start pairs words) log event h.1 (sound_behind pairs words log h.0) none node i s.word s.holds;
+        holds = slot_stays (start pairs words) log event h.1
+            (sound_behind pairs words log h.0) none node i s.word s.holds;
         set = s.set;
       }
 
@@ -100,27 +104,35 @@ module _ (pairs : List Pair) (words : ℕ) (opens : CanOpen pairs words) where
       → (node i : ℕ) → IsSet (state_of pairs words log) node i
       → IsSet (state_of pairs words (event ∷ log)) node i
   set_step log (Install caller base rows) h node i s =
-      set_written _ _ node i h.1.change.node h.1.change.index (word_of (ChangeAt base)) h.1.change.from
-      (install_writes (start pairs words) log caller base rows h.1 (sound_behind pairs words log h.0) (anchor_free pairs words log h.0))
+      set_written _ _ node i h.1.change.node h.1.change.index
+          (word_of (ChangeAt base)) h.1.change.from
+      (install_writes (start pairs words) log caller base rows h.1
+      (sound_behind pairs words log h.0) (anchor_free pairs words log h.0))
       (change_set base) s
   set_step log (Resolve caller base) h node i s =
-      set_written _ _ node i h.1.change.node h.1.change.index (side_of h.1.change) (word_of (ChangeAt base))
+      set_written _ _ node i h.1.change.node h.1.change.index (side_of h.1.change)
+          (word_of (ChangeAt base))
       (resolve_writes (state_of pairs words log) caller base h.1 (anchor_free pairs words log h.0))
       (side_set (state_of pairs words log) h.1.change
       (changes_are_formed pairs words log h.0 base h.1.change h.1.published)) s
   set_step log (Place caller rebuild j word rows) h node i s =
       set_filled _ _ node i h.1.root j word
-      (place_writes (state_of pairs words log) caller rebuild j word rows h.1 (sound_behind pairs words log h.0) (anchor_free pairs words log h.0)) s
+      (place_writes (state_of pairs words log) caller rebuild j word rows h.1
+      (sound_behind pairs words log h.0) (anchor_free pairs words log h.0)) s
   set_step log (Enter caller) h node i s = quiet log (Enter caller) h tt node i s
-  set_step log (Reserve caller base size) h node i s = quiet log (Reserve caller base size) h tt node i s
+  set_step log (Reserve caller base size) h node i s =
+      quiet log (Reserve caller base size) h tt node i s
   set_step log (Okay caller base) h node i s = quiet log (Okay caller base) h tt node i s
-  set_step log (Decide caller base said) h node i s = quiet log (Decide caller base said) h tt node i s
+  set_step log (Decide caller base said) h node i s =
+      quiet log (Decide caller base said) h tt node i s
   set_step log (Count caller at) h node i s = quiet log (Count caller at) h tt node i s
   set_step log (Mark caller at) h node i s = quiet log (Mark caller at) h tt node i s
   set_step log (Pass caller at j word) h node i s = quiet log (Pass caller at j word) h tt node i s
   set_step log (Finish caller at keys) h node i s = quiet log (Finish caller at keys) h tt node i s
-  set_step log (Root caller rebuild word rows) h node i s = quiet log (Root caller rebuild word rows) h tt node i s
-  set_step log (Draw caller rebuild part) h node i s = quiet log (Draw caller rebuild part) h tt node i s
+  set_step log (Root caller rebuild word rows) h node i s =
+      quiet log (Root caller rebuild word rows) h tt node i s
+  set_step log (Draw caller rebuild part) h node i s =
+      quiet log (Draw caller rebuild part) h tt node i s
   set_step log (Lose caller bases) h node i s = quiet log (Lose caller bases) h tt node i s
 
   -- a set slot stays set
@@ -128,4 +140,5 @@ module _ (pairs : List Pair) (words : ℕ) (opens : CanOpen pairs words) where
       → (node i : ℕ) → IsSet (state_of pairs words earlier) node i
       → IsSet (state_of pairs words log) node i
   set_later same_log h node i s = s
-  set_later (one_event {log = log} event g) h node i s = set_step log event h node i (set_later g h.0 node i s)
+  set_later (one_event {log = log} event g) h node i s =
+      set_step log event h node i (set_later g h.0 node i s)

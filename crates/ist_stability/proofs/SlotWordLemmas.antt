@@ -1,5 +1,5 @@
--- The slots of a node, and its place, stay; what a slot holds is what the state has at its place. Serves each clause on an
--- event of a slot.
+-- The slots of a node, and its place, stay; what a slot holds is what the state has at its place.
+-- Serves each clause on an event of a slot.
 use Rattle.std.proofs.Common.{List, None, Some, [], ap, arith, if◌then◌else◌, length, refl, slice_get, subst, suc, sym, zero, ℕ, ⊎_elim, ◌∙◌, ◌∷◌, ◌≡◌}
 use Rattle.std.proofs.lemmas.Bool.Decides.{eqb_tells}
 use Rattle.ist_core.specs.declared.events.Event.{Event}
@@ -22,9 +22,11 @@ use Rattle.ist_stability.specs.Words.{FindsItsWord, HasWord}
 use Rattle.ist_stability.proofs.WordLemmas.{slot_word}
 
 -- the word of an event, where its touch is known
-pub finds : (t u : Snapshot) (event : Event) (a : Touch) → touch_of t event ≡ Some a → FindsItsWord t u event
+pub finds : (t u : Snapshot) (event : Event) (a : Touch) → touch_of t event ≡ Some a
+    → FindsItsWord t u event
     → HasWord u a.place a.found
-finds t u event a is f = subst (λ x. HasWord u x.place x.found) (one f.touch a (sym f.is ∙ is)) f.found
+finds t u event a is f = subst (λ x. HasWord u x.place x.found)
+    (one f.touch a (sym f.is ∙ is)) f.found
   where
     one : (x y : Touch) → Some x ≡ Some y → x ≡ y
     one x y e = cc
@@ -38,7 +40,8 @@ get_alike (a ∷ xs) (b ∷ ys) zero x e at = (b, refl)
 get_alike (a ∷ xs) (b ∷ ys) (suc i) x e at = get_alike xs ys i x (omega arith) at
 
 -- where a row lies at the node, the place of its slot goes by the degree
-pub place_of_row : (t : Snapshot) (node i : ℕ) (r : InnerRow) → t.pieces anchor ≡ None → t.pieces node ≡ Some (Inner r)
+pub place_of_row : (t : Snapshot) (node i : ℕ) (r : InnerRow) → t.pieces anchor ≡ None
+    → t.pieces node ≡ Some (Inner r)
     → place_of_slot t node i ≡ slot_place node r.degree i
 place_of_row t node i r free e =
     ⊎_elim (λ same. absurd (no_row t.pieces node r free same.1 e))
@@ -48,7 +51,8 @@ place_of_row t node i r free e =
     (eqb_tells node anchor)
 
 -- what slot i of a row holds
-pub slot_of_row : (t : Snapshot) (node i word : ℕ) (r : InnerRow) → t.pieces anchor ≡ None → t.pieces node ≡ Some (Inner r)
+pub slot_of_row : (t : Snapshot) (node i word : ℕ) (r : InnerRow) → t.pieces anchor ≡ None
+    → t.pieces node ≡ Some (Inner r)
     → SlotHolds t node i word → slice_get r.slots i ≡ Some word
 slot_of_row t node i word r free e (in_anchor a b c) = absurd (no_row t.pieces node r free a e)
 slot_of_row t node i word r free e (in_row s f at) =
@@ -61,31 +65,38 @@ module _ (pairs : List Pair) (words : ℕ) (earlier log : Log) (on : GoesOn earl
 
   -- a slot keeps its place
   pub place_later : (node i word : ℕ) → SlotHolds (state_of pairs words earlier) node i word
-      → place_of_slot (state_of pairs words log) node i ≡ place_of_slot (state_of pairs words earlier) node i
+      → place_of_slot (state_of pairs words log) node i ≡ place_of_slot
+      (state_of pairs words earlier) node i
   place_later node i word (in_anchor a b c) =
       ap (λ n. place_of_slot (state_of pairs words log) n i) a
       ∙ sym (ap (λ n. place_of_slot (state_of pairs words earlier) n i) a)
   place_later node i word (in_row r e at) =
-      let it = inner_there (state_of pairs words earlier).pieces (state_of pairs words log).pieces grows node r e in
+      let it = inner_there (state_of pairs words earlier).pieces
+          (state_of pairs words log).pieces grows node r e in
       let old = enabled_before (start pairs words) earlier log on h in
       place_of_row (state_of pairs words log) node i it.0 (anchor_free pairs words log h) it.1
       ∙ ap (λ d. slot_place node d i) it.2.degree
-      ∙ sym (place_of_row (state_of pairs words earlier) node i r (anchor_free pairs words earlier old) e)
+      ∙ sym (place_of_row (state_of pairs words earlier) node i r
+      (anchor_free pairs words earlier old) e)
 
   -- and holds a word
   slot_stays : (node i word : ℕ) → SlotHolds (state_of pairs words earlier) node i word
       → (v : ℕ) × SlotHolds (state_of pairs words log) node i v
   slot_stays node i word (in_anchor a b c) = ((state_of pairs words log).anchor, in_anchor a b refl)
   slot_stays node i word (in_row r e at) =
-      let it = inner_there (state_of pairs words earlier).pieces (state_of pairs words log).pieces grows node r e in
+      let it = inner_there (state_of pairs words earlier).pieces
+          (state_of pairs words log).pieces grows node r e in
       let v = get_alike r.slots it.0.slots i word it.2.slots at in
       (v.0, in_row it.0 it.1 v.1)
 
   -- it is the word that the state has at this place
-  pub slot_later : (node i word : ℕ) → SlotHolds (state_of pairs words earlier) node i word → (now : ℕ)
+  pub slot_later : (node i word : ℕ) → SlotHolds (state_of pairs words earlier) node i word
+      → (now : ℕ)
       → HasWord (state_of pairs words log) (place_of_slot (state_of pairs words earlier) node i) now
       → SlotHolds (state_of pairs words log) node i now
   slot_later node i word holds now has =
       let it = slot_stays node i word holds in
-      let there = subst (λ p. HasWord (state_of pairs words log) p now) (sym (place_later node i word holds)) has in
-      subst (λ w. SlotHolds (state_of pairs words log) node i w) (sym (slot_word pairs words log h node i it.0 it.1 now there)) it.1
+      let there = subst (λ p. HasWord (state_of pairs words log) p now)
+          (sym (place_later node i word holds)) has in
+      subst (λ w. SlotHolds (state_of pairs words log) node i w)
+          (sym (slot_word pairs words log h node i it.0 it.1 now there)) it.1

@@ -25,7 +25,8 @@ use Rattle.ist_stability.proofs.SlotWordLemmas.{finds}
 use Rattle.ist_stability.proofs.WordLemmas.{next_word}
 
 -- a building list stays one
-building_later : (t u : Snapshot) → AllGrow t.pieces u.pieces → (sizes : List ℕ) → IsBuilding t sizes
+building_later : (t u : Snapshot) → AllGrow t.pieces u.pieces → (sizes : List ℕ)
+    → IsBuilding t sizes
     → IsBuilding u sizes
 building_later t u g sizes b =
     let it = rebuild_there t.pieces u.pieces g b.rebuild b.row b.published in
@@ -35,15 +36,18 @@ building_later t u g sizes b =
       published = it.1;
       started = started_grows t u g b.rebuild b.started;
       k = b.k;
-      finished = subst (λ n. IsFinishedWith u n b.k) (sym it.2.target) (finished_with_grows t u g b.row.target b.k b.finished);
+      finished = subst (λ n. IsFinishedWith u n b.k) (sym it.2.target)
+          (finished_with_grows t u g b.row.target b.k b.finished);
       build = b.build;
     }
 
 -- and a stuck one stays stuck, where the free words are as many
-builds_later : (t u : Snapshot) → AllGrow t.pieces u.pieces → u.words ≡ t.words → u.next ≡ t.next → (sizes : List ℕ)
+builds_later : (t u : Snapshot) → AllGrow t.pieces u.pieces → u.words ≡ t.words → u.next ≡ t.next
+    → (sizes : List ℕ)
     → AreBuilds t sizes → AreBuilds u sizes
 builds_later t u g same next _ no_build = no_build
-builds_later t u g same next _ (last_build {sizes = sizes} rest b) = last_build rest (building_later t u g (sizes ++ rest) b)
+builds_later t u g same next _ (last_build {sizes = sizes} rest b) =
+    last_build rest (building_later t u g (sizes ++ rest) b)
 builds_later t u g same next _ (stuck_build {sizes = sizes} {more = more} stuck others) =
     let full = stuck.no_room in
     stuck_build
@@ -51,7 +55,8 @@ builds_later t u g same next _ (stuck_build {sizes = sizes} {more = more} stuck 
       next_size = stuck.next_size;
       rest = stuck.rest;
       building = building_later t u g (sizes ++ stuck.next_size ∷ stuck.rest) stuck.building;
-      no_room = subst (λ n. u.words < n + stuck.next_size) (sym next) (subst (λ n. n < t.next + stuck.next_size) (sym same) full);
+      no_room = subst (λ n. u.words < n + stuck.next_size) (sym next)
+          (subst (λ n. n < t.next + stuck.next_size) (sym same) full);
     }
     (builds_later t u g same next more others)
 
@@ -59,7 +64,8 @@ builds_later t u g same next _ (stuck_build {sizes = sizes} {more = more} stuck 
 beaten_step : (caller : ℕ) (sizes : List ℕ) (event : Event) (log : Log) → author event ≢ Some caller
     → IsBeaten caller sizes log → IsBeaten caller sizes (event ∷ log)
 beaten_step caller sizes (Root c rebuild word rows) log other b = ((λ e. other (ap Some e)), inr b)
-beaten_step caller sizes (Place c rebuild i word rows) log other b = ((λ e. other (ap Some e)), inr b)
+beaten_step caller sizes (Place c rebuild i word rows) log other b =
+    ((λ e. other (ap Some e)), inr b)
 beaten_step caller sizes (Lose c bases) log other b = ((λ e. other (ap Some e)), b)
 beaten_step caller sizes (Enter c) log other b = b
 beaten_step caller sizes (Reserve c base size) log other b = b
@@ -73,26 +79,31 @@ beaten_step caller sizes (Pass c n i word) log other b = b
 beaten_step caller sizes (Finish c n keys) log other b = b
 beaten_step caller sizes (Draw c rebuild part) log other b = b
 
-beaten_later : (caller : ℕ) (sizes : List ℕ) {earlier log : Log} → GoesOnByOthers (Some caller) earlier log
+beaten_later : (caller : ℕ) (sizes : List ℕ) {earlier log : Log}
+    → GoesOnByOthers (Some caller) earlier log
     → IsBeaten caller sizes earlier → IsBeaten caller sizes log
 beaten_later caller sizes no_more b = b
 beaten_later caller sizes (one_more {log = log} event later other) b =
     beaten_step caller sizes event log other (beaten_later caller sizes later b)
 
 -- an Enter stays
-pub enter_stays : (first : Snapshot) {earlier log : Log} → GoesOnByOthers None earlier log → (caller : ℕ)
+pub enter_stays : (first : Snapshot) {earlier log : Log} → GoesOnByOthers None earlier log
+    → (caller : ℕ)
     → CanEnter (state first earlier) caller → CanEnter (state first log) caller
 enter_stays first later caller can =
     record { number = can.number ∙ sym (callers_later first later); below_limit = can.below_limit }
 
-module _ (pairs : List Pair) (words : ℕ) (opens : CanOpen pairs words) {earlier log : Log} (caller : ℕ)
-    (later : GoesOnByOthers (Some caller) earlier log) (h : EachEnabled (start pairs words) log) where
+module _ (pairs : List Pair) (words : ℕ) (opens : CanOpen pairs words) {earlier log : Log}
+    (caller : ℕ)
+    (later : GoesOnByOthers (Some caller) earlier log)
+    (h : EachEnabled (start pairs words) log) where
   grows : AllGrow (state_of pairs words earlier).pieces (state_of pairs words log).pieces
   grows = grow_between pairs words earlier log h (goes_on later)
 
   -- a Reserve stays where the first free word is the same
   pub reserve_stays : (base size : ℕ) → CanReserve (state_of pairs words earlier) caller base size
-      → FindsItsWord (state_of pairs words earlier) (state_of pairs words log) (Reserve caller base size)
+      → FindsItsWord (state_of pairs words earlier) (state_of pairs words log)
+      (Reserve caller base size)
       → CanReserve (state_of pairs words log) caller base size
   reserve_stays base size can f =
       let t = state_of pairs words earlier in
@@ -100,13 +111,16 @@ module _ (pairs : List Pair) (words : ℕ) (opens : CanOpen pairs words) {earlie
       let has = finds t u (Reserve caller base size) _ refl f in
       let now : base ≡ u.next = next_word pairs words log h _ _ has refl in
       let next : u.next ≡ t.next = sym now ∙ can.base_is in
-      let same : u.words ≡ t.words = words_same pairs words opens log ∙ sym (words_same pairs words opens earlier) in
+      let same : u.words ≡ t.words = words_same pairs words opens log
+          ∙ sym (words_same pairs words opens earlier) in
       let room = can.room in
       record {
         known = known_later (start pairs words) (goes_on later) caller can.known;
         base_is = now;
-        room = subst (λ n. n + size ≤ u.words) (sym next) (subst (λ n. t.next + size ≤ n) (sym same) room);
-        fair = subst (λ sizes. IsFair u (sizes ++ size ∷ [])) (sym (sizes_later pairs words caller later h))
+        room = subst (λ n. n + size ≤ u.words) (sym next)
+            (subst (λ n. t.next + size ≤ n) (sym same) room);
+        fair = subst (λ sizes. IsFair u (sizes ++ size ∷ []))
+            (sym (sizes_later pairs words caller later h))
             record {
               building = can.fair.building;
               spare = can.fair.spare;
@@ -120,7 +134,8 @@ module _ (pairs : List Pair) (words : ℕ) (opens : CanOpen pairs words) {earlie
   pair_later : (bases : List ℕ) → LosesPair (state_of pairs words earlier) caller bases
       → LosesPair (state_of pairs words log) caller bases
   pair_later bases p =
-      let it = inner_there (state_of pairs words earlier).pieces (state_of pairs words log).pieces grows p.node p.row p.published in
+      let it = inner_there (state_of pairs words earlier).pieces
+          (state_of pairs words log).pieces grows p.node p.row p.published in
       record {
         pair = p.pair;
         bases_are = p.bases_are;
@@ -138,7 +153,8 @@ module _ (pairs : List Pair) (words : ℕ) (opens : CanOpen pairs words) {earlie
         sizes = b.sizes;
         held = bases_later pairs words caller later h bases b.sizes b.held;
         once = b.once;
-        building = building_later (state_of pairs words earlier) (state_of pairs words log) grows b.sizes b.building;
+        building = building_later (state_of pairs words earlier)
+            (state_of pairs words log) grows b.sizes b.building;
         beaten = beaten_later caller b.sizes later b.beaten;
       }
 

@@ -1,4 +1,5 @@
--- An event touches behind a longer log what it touched behind a shorter one. Serves `laws.touches_stay`.
+-- An event touches behind a longer log what it touched behind a shorter one. Serves
+-- `laws.touches_stay`.
 use Rattle.std.proofs.Common.{List, Option, Some, ap, if◌then◌else◌, refl, sym, ℕ, ◌==◌, ◌∙◌, ◌≡◌, ◌≢◌}
 use Rattle.ist_core.specs.declared.events.Event.{Event}
 use Rattle.ist_core.specs.declared.events.Event.TheVariants.{Count, Decide, Draw, Enter, Finish, Install, Lose, Mark, Okay, Pass, Place, Reserve, Resolve, Root}
@@ -42,7 +43,8 @@ module _ (pairs : List Pair) (words : ℕ) (earlier log : Log) (on : GoesOn earl
       ap (λ p. touch_at p found left) (place_later pairs words earlier log on h node i word holds)
 
   -- a touch in the slot of a change
-  change_touch : (x y : ChangeRow) (word found left now : ℕ) → y.node ≡ x.node → y.index ≡ x.index → now ≡ left
+  change_touch : (x y : ChangeRow) (word found left now : ℕ) → y.node ≡ x.node → y.index ≡ x.index
+      → now ≡ left
       → SlotHolds (state_of pairs words earlier) x.node x.index word
       → touch_at (place_of_slot (state_of pairs words log) y.node y.index) found now
       ≡ touch_at (place_of_slot (state_of pairs words earlier) x.node x.index) found left
@@ -57,10 +59,13 @@ module _ (pairs : List Pair) (words : ℕ) (earlier log : Log) (on : GoesOn earl
       → touch_of (state_of pairs words log) event ≡ touch_of (state_of pairs words earlier) event
   touch_stays (Install caller base rows) can adds =
       ap (λ xs. touch_of (state_of pairs words log) (Install caller base xs)) can.rows_are
-      ∙ slot_touch can.change.node can.change.index can.change.from can.change.from (word_of (ChangeAt base)) can.in_slot
-      ∙ sym (ap (λ xs. touch_of (state_of pairs words earlier) (Install caller base xs)) can.rows_are)
+      ∙ slot_touch can.change.node can.change.index can.change.from can.change.from
+      (word_of (ChangeAt base)) can.in_slot
+      ∙ sym (ap (λ xs. touch_of (state_of pairs words earlier) (Install caller base xs))
+      can.rows_are)
   touch_stays (Okay caller base) can adds =
-      let it = change_there (state_of pairs words earlier).pieces (state_of pairs words log).pieces grows base can.change can.pending.published in
+      let it = change_there (state_of pairs words earlier).pieces
+          (state_of pairs words log).pieces grows base can.change can.pending.published in
       ap (λ o. touch_of_okay (as_change o)) it.1
       ∙ ap (λ n. touch_at (place_of_status n) open_word open_word) (ap (λ x. x.node) it.2.others)
       ∙ sym (ap (λ o. touch_of_okay (as_change o)) can.pending.published)
@@ -75,7 +80,8 @@ module _ (pairs : List Pair) (words : ℕ) (earlier log : Log) (on : GoesOn earl
       ∙ ap (λ w. side can.change.decision w it.0.to) (ap (λ x. x.from) it.2.others)
       ∙ ap (λ w. side can.change.decision can.change.from w) (ap (λ x. x.to) it.2.others) in
       ap (λ o. touch_of_resolve u base (as_change o)) it.1
-      ∙ change_touch can.change it.0 (word_of (ChangeAt base)) (word_of (ChangeAt base)) (side_of can.change)
+      ∙ change_touch can.change it.0 (word_of (ChangeAt base)) (word_of (ChangeAt base))
+      (side_of can.change)
       (side_of it.0) node index left can.in_slot
       ∙ sym (ap (λ o. touch_of_resolve t base (as_change o)) can.published)
   touch_stays (Pass caller node i word) can adds =
@@ -84,11 +90,14 @@ module _ (pairs : List Pair) (words : ℕ) (earlier log : Log) (on : GoesOn earl
       let t = state_of pairs words earlier in
       let u = state_of pairs words log in
       let it = rebuild_there t.pieces u.pieces grows rebuild can.row can.published in
-      let set : can.row.root ≢ unset_word = set_by can.row.root (InnerAt can.root) can.root_is (λ q. cc) in
+      let set : can.row.root ≢ unset_word = set_by can.row.root (InnerAt can.root) can.root_is
+          (λ q. cc) in
       ap (λ o. touch_of_place u (as_rebuild o) i word) it.1
       ∙ ap (λ o. touch_in_root u o i word) (ap ref_of (it.2.rooted set) ∙ can.root_is)
-      ∙ slot_touch can.root i unset_word unset_word word (in_row can.root_row can.root_published can.free)
-      ∙ sym (ap (λ o. touch_of_place t (as_rebuild o) i word) can.published ∙ ap (λ o. touch_in_root t o i word) can.root_is)
+      ∙ slot_touch can.root i unset_word unset_word word
+      (in_row can.root_row can.root_published can.free)
+      ∙ sym (ap (λ o. touch_of_place t (as_rebuild o) i word) can.published
+      ∙ ap (λ o. touch_in_root t o i word) can.root_is)
   touch_stays (Enter caller) can adds = absurd adds
   touch_stays (Reserve caller base size) can adds = refl
   touch_stays (Decide caller base said) can adds = refl

@@ -1,4 +1,5 @@
--- Which word a lawful state has at the places that events touch. Serves each clause that speaks of an event's word.
+-- Which word a lawful state has at the places that events touch. Serves each clause that speaks of
+-- an event's word.
 use Rattle.std.proofs.Common.{List, Some, ap, arith, if◌then◌else◌, length, refl, slice_get, subst, ℕ, ⊎_elim, ◌+◌, ◌<◌, ◌∙◌, ◌≡◌, ◌≢◌, ◌≤◌}
 use Rattle.std.proofs.lemmas.Bool.Decides.{eqb_tells}
 use Rattle.ist_core.specs.declared.pairs.Pair.{Pair}
@@ -17,11 +18,13 @@ use Rattle.ist_core.proofs.ShapedLemmas.{shaped}
 use Rattle.ist_core.proofs.SlotLemmas.{no_row}
 use Rattle.ist_stability.specs.Words.{HasWord, free_word, word_of_anchor, word_of_callers, word_of_next, word_of_row, word_of_status}
 
-same_get : (xs ys : List ℕ) (j k w v : ℕ) → xs ≡ ys → j ≡ k → slice_get xs j ≡ Some w → slice_get ys k ≡ Some v
+same_get : (xs ys : List ℕ) (j k w v : ℕ) → xs ≡ ys → j ≡ k → slice_get xs j ≡ Some w
+    → slice_get ys k ≡ Some v
     → w ≡ v
 same_get xs ys j k w v e f g h = cc
 
-module _ (pairs : List Pair) (words : ℕ) (log : Log) (enabled : EachEnabled (start pairs words) log) where
+module _ (pairs : List Pair) (words : ℕ) (log : Log)
+    (enabled : EachEnabled (start pairs words) log) where
   -- a word of a row is the one at its place
   pub row_word : (base k w : ℕ) (p : Piece) → (state_of pairs words log).pieces base ≡ Some p
       → slice_get (words_of p) k ≡ Some w
@@ -29,10 +32,12 @@ module _ (pairs : List Pair) (words : ℕ) (log : Log) (enabled : EachEnabled (s
   row_word base k w p e there place v has same = at has same
     where
       inside : first_row ≤ base
-      inside = (claimed_within pairs words log base (size_of p) enabled ((placed pairs words log enabled).published base p e)).behind_fixed
+      inside = (claimed_within pairs words log base (size_of p) enabled
+          ((placed pairs words log enabled).published base p e)).behind_fixed
 
       high : base + size_of p ≤ (state_of pairs words log).next
-      high = (claimed_within pairs words log base (size_of p) enabled ((placed pairs words log enabled).published base p e)).below_next
+      high = (claimed_within pairs words log base (size_of p) enabled
+          ((placed pairs words log enabled).published base p e)).below_next
 
       less : k < size_of p
       less = get_below (words_of p) k w there
@@ -50,16 +55,21 @@ module _ (pairs : List Pair) (words : ℕ) (log : Log) (enabled : EachEnabled (s
           (λ one.
           let base_is = one.0 in
           same_get (words_of q) (words_of p) j k _ w
-          (ap words_of (one_piece ((state_of pairs words log).pieces base) q p (subst (λ b. (state_of pairs words log).pieces b ≡ Some q) base_is f) e))
+          (ap words_of
+          (one_piece ((state_of pairs words log).pieces base) q p
+          (subst (λ b. (state_of pairs words log).pieces b ≡ Some q) base_is f) e))
           (omega arith) g there)
           (λ two. ⊎_elim (λ before. absurd (omega arith)) (λ behind. absurd (omega arith)) two.1)
           (claimed_apart pairs words log other (size_of q) base (size_of p) enabled
-          ((placed pairs words log enabled).published other q f) ((placed pairs words log enabled).published base p e))
+          ((placed pairs words log enabled).published other q f)
+          ((placed pairs words log enabled).published base p e))
 
   -- a place below the rows has one word
-  pub fixed_row : (other j : ℕ) (q : Piece) → (state_of pairs words log).pieces other ≡ Some q → first_row ≤ other + j
+  pub fixed_row : (other j : ℕ) (q : Piece) → (state_of pairs words log).pieces other ≡ Some q
+      → first_row ≤ other + j
   fixed_row other j q f =
-      let inside = claimed_within pairs words log other (size_of q) enabled ((placed pairs words log enabled).published other q f) in
+      let inside = claimed_within pairs words log other (size_of q) enabled
+          ((placed pairs words log enabled).published other q f) in
       let low = inside.behind_fixed in
       omega arith
 
@@ -70,27 +80,34 @@ module _ (pairs : List Pair) (words : ℕ) (log : Log) (enabled : EachEnabled (s
   next_word _ _ word_of_callers is = absurd (omega arith)
   next_word _ _ word_of_status is = absurd (omega arith)
   next_word _ _ word_of_anchor is = absurd (omega arith)
-  next_word _ _ (free_word far near) is = let low = next_behind_fixed pairs words log enabled in absurd (omega arith)
-  next_word _ _ (word_of_row other q j f g) is = let low = fixed_row other j q f in absurd (omega arith)
+  next_word _ _ (free_word far near) is = let low =
+      next_behind_fixed pairs words log enabled in absurd (omega arith)
+  next_word _ _ (word_of_row other q j f g) is = let low =
+      fixed_row other j q f in absurd (omega arith)
 
   -- the anchor's word stands at its place
-  pub anchor_word : (place v : ℕ) → HasWord (state_of pairs words log) place v → place ≡ anchor_slot_place
+  pub anchor_word : (place v : ℕ) → HasWord (state_of pairs words log) place v
+      → place ≡ anchor_slot_place
       → v ≡ (state_of pairs words log).anchor
   anchor_word _ _ word_of_next is = absurd (omega arith)
   anchor_word _ _ word_of_callers is = absurd (omega arith)
   anchor_word _ _ word_of_status is = absurd (omega arith)
   anchor_word _ _ word_of_anchor is = refl
-  anchor_word _ _ (free_word far near) is = let low = next_behind_fixed pairs words log enabled in absurd (omega arith)
-  anchor_word _ _ (word_of_row other q j f g) is = let low = fixed_row other j q f in absurd (omega arith)
+  anchor_word _ _ (free_word far near) is = let low =
+      next_behind_fixed pairs words log enabled in absurd (omega arith)
+  anchor_word _ _ (word_of_row other q j f g) is = let low =
+      fixed_row other j q f in absurd (omega arith)
 
   -- the place of a slot
   slot_at : (node i : ℕ) (r : InnerRow) → (state_of pairs words log).pieces node ≡ Some (Inner r)
       → place_of_slot (state_of pairs words log) node i ≡ node + (3 + r.degree + i)
   slot_at node i r e =
-      let out : node ≢ anchor = λ a. no_row (state_of pairs words log).pieces node r (anchor_free pairs words log enabled) a e in
+      let out : node ≢ anchor = λ a. no_row (state_of pairs words log).pieces node r
+          (anchor_free pairs words log enabled) a e in
       ⊎_elim (λ same. absurd (out same.1))
       (λ other.
-      ap (λ b. if b then anchor_slot_place else place_in node i (as_inner ((state_of pairs words log).pieces node))) other.0
+      ap (λ b. if b then anchor_slot_place else place_in node i
+          (as_inner ((state_of pairs words log).pieces node))) other.0
       ∙ ap (λ o. place_in node i (as_inner o)) e ∙ sums node r.degree)
       (eqb_tells node anchor)
     where
@@ -99,7 +116,8 @@ module _ (pairs : List Pair) (words : ℕ) (log : Log) (enabled : EachEnabled (s
 
   -- the word of a slot stands at its place
   pub slot_word : (node i w : ℕ) → SlotHolds (state_of pairs words log) node i w → (v : ℕ)
-      → HasWord (state_of pairs words log) (place_of_slot (state_of pairs words log) node i) v → v ≡ w
+      → HasWord (state_of pairs words log) (place_of_slot (state_of pairs words log) node i) v
+      → v ≡ w
   slot_word node i w (in_anchor a b e) v has =
       anchor_word _ v has (ap (λ n. place_of_slot (state_of pairs words log) n i) a) ∙ e
   slot_word node i w (in_row r e g) v has =

@@ -1,4 +1,5 @@
--- What the stability law asks for is needed: an event that is enabled behind both logs has it. `src/laws.rt` lists the clauses.
+-- What the stability law asks for is needed: an event that is enabled behind both logs has it.
+-- `src/laws.rt` lists the clauses.
 use Rattle.std.specs.Prelude.{List, Some, ℕ, ◌≡◌}
 use Rattle.ist_core.specs.declared.events.Event.{Event}
 use Rattle.ist_core.specs.declared.events.Event.TheVariants.{Install, Okay, Pass}

@@ -4,7 +4,8 @@ use Rattle.ist_core.specs.declared.events.Event.{Event}
 use Rattle.ist_core.specs.declared.events.Event.TheVariants.{Count, Decide, Draw, Enter, Finish, Install, Lose, Mark, Okay, Pass, Place, Reserve, Resolve, Root}
 use Rattle.ist_core.specs.Logs.{Log}
 
--- the caller that makes the event, and none where it is the maker of the table: an Enter is the maker's
+-- the caller that makes the event, and none where it is the maker of the table: an Enter is the
+-- maker's
 abbrev pub author : Event → Option ℕ
 author (Enter caller) = None
 author (Reserve caller base size) = Some caller

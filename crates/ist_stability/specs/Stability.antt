@@ -1,4 +1,5 @@
--- The stability law: an event that is enabled stays enabled under events of others. `src/laws.rt` lists its clauses.
+-- The stability law: an event that is enabled stays enabled under events of others. `src/laws.rt`
+-- lists its clauses.
 use Rattle.std.specs.Prelude.{Bool, List, Some, ℕ, ◌+◌, ◌≡◌}
 use Rattle.ist_core.specs.declared.events.Event.{Event}
 use Rattle.ist_core.specs.declared.events.Event.TheVariants.{Count, Decide, Draw, Enter, Finish, Install, Lose, Mark, Okay, Pass, Place, Reserve, Resolve, Root}
@@ -18,8 +19,8 @@ use Rattle.ist_stability.specs.Meanwhile.{IsMarked, IsUndecided, NoneAccepted, N
 use Rattle.ist_stability.specs.Others.{GoesOnByOthers, author}
 use Rattle.ist_stability.specs.Words.{FindsItsWord, HasWord}
 
--- where the event is enabled behind a log, it is so behind each longer lawful log whose further events are made by others, if
--- P is true of the states behind the two logs
+-- where the event is enabled behind a log, it is so behind each longer lawful log whose further
+-- events are made by others, if P is true of the states behind the two logs
 abbrev pub StaysWhere : (Snapshot → Snapshot → Type 0) → Event → Type 0
 StaysWhere P event =
     (pairs : List Pair) (words : ℕ) (earlier log : Log) → Lawful pairs words log
@@ -63,12 +64,15 @@ FinishesStay = (caller node keys : ℕ) → StaysAtItsWord (Finish caller node k
 
 -- a Root needs the rebuild without a root
 abbrev pub RootsStay : Type 0
-RootsStay = (caller rebuild word : ℕ) (rows : List Row) → StaysAtItsWord (Root caller rebuild word rows)
+RootsStay =
+    (caller rebuild word : ℕ) (rows : List Row)
+    → StaysAtItsWord (Root caller rebuild word rows)
 
 -- a Place needs the slot Unset
 abbrev pub PlacesStay : Type 0
 PlacesStay =
-    (caller rebuild i word : ℕ) (rows : List Row) → StaysAtItsWord (Place caller rebuild i word rows)
+    (caller rebuild i word : ℕ) (rows : List Row)
+    → StaysAtItsWord (Place caller rebuild i word rows)
 
 -- a Draw needs the draw word
 abbrev pub DrawsStay : Type 0
@@ -89,16 +93,19 @@ LosesStay = (caller : ℕ) (bases : List ℕ) → StaysAlways (Lose caller bases
 
 -- ---- events that others may take away though their word stays
 
--- an Install needs `from` in its slot, and that no change of the caller on that node was decided no meanwhile
+-- an Install needs `from` in its slot, and that no change of the caller on that node was decided no
+-- meanwhile
 abbrev pub InstallsStay : Type 0
 InstallsStay =
     (caller base : ℕ) (rows : List Row)
     → StaysWhere
     (λ t u. FindsItsWord t u (Install caller base rows)
-    × ((change : ChangeRow) → first_change rows ≡ Some change → NoneRefused t u caller change.node))
+    × ((change : ChangeRow) → first_change rows ≡ Some change
+    → NoneRefused t u caller change.node))
     (Install caller base rows)
 
--- a Count needs no word of its own, but that no put or remove of the caller was decided yes meanwhile
+-- a Count needs no word of its own, but that no put or remove of the caller was decided yes
+-- meanwhile
 abbrev pub CountsStay : Type 0
 CountsStay = (caller node : ℕ) → StaysWhere (λ t u. NoneAccepted t u caller) (Count caller node)
 
@@ -106,7 +113,8 @@ CountsStay = (caller node : ℕ) → StaysWhere (λ t u. NoneAccepted t u caller
 abbrev pub OkaysStay : Type 0
 OkaysStay =
     (caller base : ℕ)
-    → StaysWhere (λ t u. FindsItsWord t u (Okay caller base) × IsUndecided u base) (Okay caller base)
+    → StaysWhere (λ t u. FindsItsWord t u (Okay caller base) × IsUndecided u base)
+    (Okay caller base)
 
 -- a Pass loads a slot, and needs the node marked too
 abbrev pub PassesStay : Type 0
@@ -117,13 +125,15 @@ PassesStay =
 
 -- ---- the premises
 
--- where all that the caller installed is resolved, nothing of it is pending, so that nothing of it is decided meanwhile
+-- where all that the caller installed is resolved, nothing of it is pending, so that nothing of it
+-- is decided meanwhile
 abbrev pub ResolvedChangesAreQuiet : Type 0
 ResolvedChangesAreQuiet =
     (pairs : List Pair) (words : ℕ) (earlier log : Log) → Lawful pairs words log
     → GoesOn earlier log → (caller : ℕ)
     → AllResolvedOf (state_of pairs words earlier) earlier caller
-    → ((node : ℕ) → NoneRefused (state_of pairs words earlier) (state_of pairs words log) caller node)
+    → ((node : ℕ)
+    → NoneRefused (state_of pairs words earlier) (state_of pairs words log) caller node)
     × NoneAccepted (state_of pairs words earlier) (state_of pairs words log) caller
 
 -- ---- places
@@ -149,8 +159,8 @@ AddsNothing (Count caller node) = ⊥
 AddsNothing (Draw caller rebuild part) = ⊥
 AddsNothing _ = Unit {0}
 
--- such an event touches behind the longer log what it touched behind the shorter one: the same place, to find and to leave
--- there the same words
+-- such an event touches behind the longer log what it touched behind the shorter one: the same
+-- place, to find and to leave there the same words
 abbrev pub TouchesStay : Type 0
 TouchesStay =
     (pairs : List Pair) (words : ℕ) (earlier log : Log) (event : Event) → Lawful pairs words log

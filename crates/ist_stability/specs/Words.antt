@@ -1,4 +1,5 @@
--- Which word a state has at a place of the table, and where the word of an event is still the one that it is to find.
+-- Which word a state has at a place of the table, and where the word of an event is still the one
+-- that it is to find.
 use Rattle.std.specs.Prelude.{Some, slice_get, ℕ, ◌+◌, ◌<◌, ◌≡◌, ◌≤◌}
 use Rattle.ist_core.specs.declared.events.Event.{Event}
 use Rattle.ist_core.specs.Pieces.{Piece, words_of}
@@ -7,8 +8,8 @@ use Rattle.ist_core.specs.Snapshots.{Snapshot}
 use Rattle.ist_core.specs.Statuses.{open_word}
 use Rattle.ist_core.specs.Writing.{Touch, touch_of}
 
--- the state has this word at the place: a fixed word, a word of a published row, or a free one. Of the words of held and lost
--- rows a state says nothing
+-- the state has this word at the place: a fixed word, a word of a published row, or a free one. Of
+-- the words of held and lost rows a state says nothing
 pub data HasWord (t : Snapshot) : ℕ → ℕ → Type 0 where
   word_of_next : HasWord t next_place t.next
   word_of_callers : HasWord t callers_place t.callers
@@ -18,7 +19,8 @@ pub data HasWord (t : Snapshot) : ℕ → ℕ → Type 0 where
       → slice_get (words_of p) k ≡ Some word → HasWord t (base + k) word
   free_word : {place : ℕ} → t.next ≤ place → place < t.words → HasWord t place 0
 
--- at the place that the event touches in the first state, the second state has the word that the event is to find there
+-- at the place that the event touches in the first state, the second state has the word that the
+-- event is to find there
 pub record FindsItsWord (t u : Snapshot) (event : Event) : Type 0 where
   pub touch : Touch
   pub is : touch_of t event ≡ Some touch

@@ -5,5 +5,6 @@ pub returns : goal.returns
 returns c =
     record {
       one = λ pairs size log l. words.one_word pairs size l.opens log l.enabled;
-      found = λ pairs size log event l can k. words.finds_own pairs size l.opens log l.enabled event can k;
+      found = λ pairs size log event l can k.
+          words.finds_own pairs size l.opens log l.enabled event can k;
     }

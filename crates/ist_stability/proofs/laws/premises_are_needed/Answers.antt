@@ -12,7 +12,8 @@ returns c =
       install = λ pairs words earlier log l on caller base rows can change is.
           needs.none_refused (start pairs words) (state_of pairs words earlier) log caller base rows
           (grow_between pairs words earlier log l.enabled on) can change is;
-      okay = λ pairs words log l caller base can. needs.undecided_needed (state_of pairs words log) caller base can;
+      okay = λ pairs words log l caller base can. needs.undecided_needed
+          (state_of pairs words log) caller base can;
       pass = λ pairs words log l caller node i word can.
           needs.mark_needed (state_of pairs words log) caller node i word can;
     }
