@@ -120,7 +120,7 @@ module _ (pairs : List Pair) (words : ℕ) (opens : CanOpen pairs words) {earlie
         started = started_grows t u grows rebuild can.started;
         rootless =
             sym (row_word pairs words log h rebuild 3 it.0.root
-                (Rebuild it.0) it.1 refl _ _ has refl);
+            (Rebuild it.0) it.1 refl _ _ has refl);
         k = can.k;
         finished = finished_later can.row.target it.0.target can.k it.2.target can.finished;
         leaves = can.leaves;
@@ -171,7 +171,7 @@ module _ (pairs : List Pair) (words : ℕ) (opens : CanOpen pairs words) {earlie
       → CanDraw (state_of pairs words log) log caller rebuild part
   draw_stays rebuild part can f =
       let has = finds (state_of pairs words earlier) (state_of pairs words log)
-          (Draw caller rebuild part) _
+      (Draw caller rebuild part) _
       (ap (λ o. touch_of_draw rebuild (as_rebuild o)) can.published) f in
       next_draw_stays rebuild part part can
       (subst (λ w. HasWord (state_of pairs words log) (rebuild + rebuild_draw_offset) w)
@@ -189,7 +189,7 @@ module _ (pairs : List Pair) (words : ℕ) (opens : CanOpen pairs words) {earlie
       let it = rebuild_there t.pieces u.pieces grows rebuild can.row can.published in
       let top = inner_there t.pieces u.pieces grows can.root can.root_row can.root_published in
       let set : can.row.root ≢ unset_word = set_by can.row.root (InnerAt can.root) can.root_is
-          (λ q. cc) in
+      (λ q. cc) in
       let has = finds t u (Place caller rebuild i word rows) _
       (ap (λ o. touch_of_place t o i word) (ap as_rebuild can.published)
       ∙ ap (λ o. touch_in_root t o i word) can.root_is) f in

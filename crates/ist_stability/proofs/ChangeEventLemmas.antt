@@ -47,7 +47,7 @@ closed_later t u g free node i word (in_row r p at) closed (row_is s e is) =
     let it = inner_there t.pieces u.pieces g node r p in
     let same = same_inner (u.pieces node) it.0 s it.1 e in
     closed_on r.status it.0.status it.2.status (λ o. closed (row_is r p o))
-        (ap (λ x. x.status) same ∙ is)
+    (ap (λ x. x.status) same ∙ is)
 
 module _ (pairs : List Pair) (words : ℕ) (opens : CanOpen pairs words) (earlier log : Log)
     (on : GoesOn earlier log)
@@ -62,7 +62,7 @@ module _ (pairs : List Pair) (words : ℕ) (opens : CanOpen pairs words) (earlie
       × ChangeGrows r s
   change_later base r e =
       change_there (state_of pairs words earlier).pieces
-          (state_of pairs words log).pieces grows base r e
+      (state_of pairs words log).pieces grows base r e
 
   -- an outcome stays possible
   outcome_later : (base : ℕ) (old new : ChangeRow) (said : Bool)
@@ -76,7 +76,7 @@ module _ (pairs : List Pair) (words : ℕ) (opens : CanOpen pairs words) (earlie
       (closed_later (state_of pairs words earlier) (state_of pairs words log) grows
       (anchor_free pairs words log h)
       old.node old.index (word_of (ChangeAt base))
-          (undecided_stands pairs words opens earlier before base old e none) may)
+      (undecided_stands pairs words opens earlier before base old e none) may)
 
   -- a Decide stays where the change is undecided
   pub decide_stays : (caller base : ℕ) (said : Bool)
@@ -87,7 +87,7 @@ module _ (pairs : List Pair) (words : ℕ) (opens : CanOpen pairs words) (earlie
   decide_stays caller base said can f =
       let it = change_later base can.change can.pending.published in
       let has = finds (state_of pairs words earlier) (state_of pairs words log)
-          (Decide caller base said) _ refl f in
+      (Decide caller base said) _ refl f in
       record {
         known = known_later (start pairs words) on caller can.known;
         change = it.0;
@@ -108,7 +108,7 @@ module _ (pairs : List Pair) (words : ℕ) (opens : CanOpen pairs words) (earlie
   resolve_stays caller base can f =
       let it = change_later base can.change can.published in
       let has = finds (state_of pairs words earlier) (state_of pairs words log)
-          (Resolve caller base) _
+      (Resolve caller base) _
       (ap (λ o. touch_of_resolve (state_of pairs words earlier) base (as_change o)) can.published)
       f in
       let holds = slot_later pairs words earlier log on h can.change.node can.change.index
@@ -133,14 +133,14 @@ module _ (pairs : List Pair) (words : ℕ) (opens : CanOpen pairs words) (earlie
   open_later node (anchor_is a) has = anchor_is a
   open_later node (row_is r e is) has =
       let it = inner_there (state_of pairs words earlier).pieces
-          (state_of pairs words log).pieces grows node r e in
+      (state_of pairs words log).pieces grows node r e in
       let out : node ≢ anchor = λ a. no_row (state_of pairs words log).pieces node it.0
-          (anchor_free pairs words log h) a it.1 in
+      (anchor_free pairs words log h) a it.1 in
       ⊎_elim (λ same. absurd (out same.1))
       (λ other.
       let at = ap (λ b. if b then anchor_status_place else node + inner_status_offset) other.0 in
       row_is it.0 it.1
-          (sym (row_word pairs words log h node 0 it.0.status (Inner it.0) it.1 refl _ _ has at)))
+      (sym (row_word pairs words log h node 0 it.0.status (Inner it.0) it.1 refl _ _ has at)))
       (eqb_tells node anchor)
 
   -- an Okay stays where the node is open and the change undecided

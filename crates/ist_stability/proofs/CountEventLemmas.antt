@@ -95,7 +95,7 @@ update_was : (t u : Snapshot) → AllGrow t.pieces u.pieces → (caller base : �
     → IsUpdateOf u caller base → IsUpdateOf t caller base
 update_was t u g caller base y h =
     let same : blank y.change ≡ blank h.change =
-        blank_same t u g base y.change h.change y.published h.published in
+    blank_same t u g base y.change h.change y.published h.published in
     record {
       change = y.change;
       published = y.published;
@@ -177,7 +177,7 @@ module _ (pairs : List Pair) (words : ℕ) where
   yes_behind (event ∷ log) h base (inl now) = yes_now log event h base now
   yes_behind (event ∷ log) h base (inr old) =
       yes_grows (state_of pairs words log) (state_of pairs words (event ∷ log))
-          (grow_behind pairs words log event h)
+      (grow_behind pairs words log event h)
       base (yes_behind log h.0 base old)
 
   module _ (caller : ℕ) where
@@ -189,7 +189,7 @@ module _ (pairs : List Pair) (words : ℕ) where
     yes_meanwhile {earlier = earlier} {log = log} (Decide c base true) later h none up =
         let x : ChangeRow = h.1.change in
         let there : (state_of pairs words log).pieces base ≡ Some (Change x) =
-            h.1.pending.published in
+        h.1.pending.published in
         let same : blank x ≡ blank up.change =
         blank_same (state_of pairs words log) (state_of pairs words (Decide c base true ∷ log))
         (grow_behind pairs words log (Decide c base true) h) base x up.change there up.published in
@@ -197,12 +197,12 @@ module _ (pairs : List Pair) (words : ℕ) where
         let was : Was (state_of pairs words earlier) (state_of pairs words log) base x =
         own_was pairs words caller later h.0 base x there owner in
         let kind : was.old.kind ≡ up.change.kind = ap (λ y. y.kind) (sym was.grew.others)
-            ∙ ap (λ y. y.kind) same in
+        ∙ ap (λ y. y.kind) same in
         let own : was.old.owner ≡ caller = ap (λ y. y.owner) (sym was.grew.others) ∙ owner in
         let yes = yes_now log (Decide c base true) h base (refl, refl) in
         let is : up.change ≡ yes.change =
         one_change ((state_of pairs words (Decide c base true ∷ log)).pieces base) up.change
-            yes.change up.published yes.published in
+        yes.change up.published yes.published in
         ⊎_elim
         (λ pending.
         none base was.old up.change record { published = was.published; unset = pending.1 } own
@@ -257,7 +257,7 @@ module _ (pairs : List Pair) (words : ℕ) where
               λ is. ⊎_elim (λ now. other (counts_own caller node event now)) can.uncounted is;
           on_chain =
               inr (subst (λ n. WasOnChain (start pairs words) log n node)
-                  (sym (ap (λ x. x.node) it.2.others)) can.on_chain);
+              (sym (ap (λ x. x.node) it.2.others)) can.on_chain);
         }
 
     -- a Count stays where no put or remove of the caller is decided yes
@@ -272,6 +272,6 @@ module _ (pairs : List Pair) (words : ℕ) where
         (count_stays later h.0 node can
         (λ base old new pending own update e yes.
         let now = yes_grows (state_of pairs words log) (state_of pairs words (event ∷ log))
-            (grow_behind pairs words log event h) base
+        (grow_behind pairs words log event h) base
         record { change = new; published = e; decision = yes } in
         none base old now.change pending own update now.published now.decision))

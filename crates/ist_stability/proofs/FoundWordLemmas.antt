@@ -35,10 +35,12 @@ module _ (pairs : List Pair) (words : ℕ) (opens : CanOpen pairs words) (log : 
   callers_word _ _ word_of_callers is = refl
   callers_word _ _ word_of_status is = absurd (omega arith)
   callers_word _ _ word_of_anchor is = absurd (omega arith)
-  callers_word _ _ (free_word far near) is = let low =
-      next_behind_fixed pairs words log enabled in absurd (omega arith)
-  callers_word _ _ (word_of_row base p k e at) is = let low =
-      fixed_row pairs words log enabled base k p e in absurd (omega arith)
+  callers_word _ _ (free_word far near) is =
+      let low = next_behind_fixed pairs words log enabled in
+      absurd (omega arith)
+  callers_word _ _ (word_of_row base p k e at) is =
+      let low = fixed_row pairs words log enabled base k p e in
+      absurd (omega arith)
 
   -- so does the anchor's status
   status_word : (place v : ℕ) → HasWord (state_of pairs words log) place v
@@ -48,27 +50,37 @@ module _ (pairs : List Pair) (words : ℕ) (opens : CanOpen pairs words) (log : 
   status_word _ _ word_of_callers is = absurd (omega arith)
   status_word _ _ word_of_status is = refl
   status_word _ _ word_of_anchor is = absurd (omega arith)
-  status_word _ _ (free_word far near) is = let low =
-      next_behind_fixed pairs words log enabled in absurd (omega arith)
-  status_word _ _ (word_of_row base p k e at) is = let low =
-      fixed_row pairs words log enabled base k p e in absurd (omega arith)
+  status_word _ _ (free_word far near) is =
+      let low = next_behind_fixed pairs words log enabled in
+      absurd (omega arith)
+  status_word _ _ (word_of_row base p k e at) is =
+      let low = fixed_row pairs words log enabled base k p e in
+      absurd (omega arith)
 
   -- and 0 at a free place
   free_is : (place v : ℕ) → HasWord (state_of pairs words log) place v
       → (state_of pairs words log).next ≤ place
       → 0 ≡ v
-  free_is _ _ word_of_next is = let low = next_behind_fixed pairs words log enabled in absurd
+  free_is _ _ word_of_next is =
+      let low = next_behind_fixed pairs words log enabled in
+      absurd
       (omega arith)
-  free_is _ _ word_of_callers is = let low = next_behind_fixed pairs words log enabled in absurd
+  free_is _ _ word_of_callers is =
+      let low = next_behind_fixed pairs words log enabled in
+      absurd
       (omega arith)
-  free_is _ _ word_of_status is = let low = next_behind_fixed pairs words log enabled in absurd
+  free_is _ _ word_of_status is =
+      let low = next_behind_fixed pairs words log enabled in
+      absurd
       (omega arith)
-  free_is _ _ word_of_anchor is = let low = next_behind_fixed pairs words log enabled in absurd
+  free_is _ _ word_of_anchor is =
+      let low = next_behind_fixed pairs words log enabled in
+      absurd
       (omega arith)
   free_is _ _ (free_word far near) is = refl
   free_is _ _ (word_of_row base p k e at) is =
       let inside = claimed_within pairs words log base (size_of p) enabled
-          ((placed pairs words log enabled).published base p e) in
+      ((placed pairs words log enabled).published base p e) in
       let high = inside.below_next in
       let less = get_below (words_of p) k _ at in
       absurd (omega arith)
@@ -92,7 +104,7 @@ module _ (pairs : List Pair) (words : ℕ) (opens : CanOpen pairs words) (log : 
       → HasWord (state_of pairs words log) (place_of_slot (state_of pairs words log) node i) w
   slot_has node i w (in_anchor a b e) =
       subst (λ n. HasWord (state_of pairs words log)
-          (place_of_slot (state_of pairs words log) n i) w) (sym a)
+      (place_of_slot (state_of pairs words log) n i) w) (sym a)
       (subst (λ x. HasWord (state_of pairs words log) 3 x) e word_of_anchor)
   slot_has node i w (in_row r e at) =
       let degree : HasDegree r = shaped pairs words log enabled node (Inner r) e in
@@ -108,11 +120,11 @@ module _ (pairs : List Pair) (words : ℕ) (opens : CanOpen pairs words) (log : 
       → HasWord (state_of pairs words log) (place_of_status node) open_word
   status_has node (anchor_is a) =
       subst (λ n. HasWord (state_of pairs words log) (place_of_status n) open_word)
-          (sym a) word_of_status
+      (sym a) word_of_status
   status_has node (row_is r e is) =
       ⊎_elim (λ same.
-          absurd (no_row (state_of pairs words log).pieces node r
-              (anchor_free pairs words log enabled) same.1 e))
+      absurd (no_row (state_of pairs words log).pieces node r
+      (anchor_free pairs words log enabled) same.1 e))
       (λ other.
       subst (λ p. HasWord (state_of pairs words log) p open_word)
       (sym (ap (λ b. if b then anchor_status_place else node + inner_status_offset) other.0))
@@ -124,8 +136,12 @@ module _ (pairs : List Pair) (words : ℕ) (opens : CanOpen pairs words) (log : 
       → FindsItsWord (state_of pairs words log) (state_of pairs words log) event
   finds_own (Enter caller) can k = record { touch = _; is = refl; found = word_of_callers }
   finds_own (Reserve caller base size) can k =
-      record { touch = _; is = refl; found = subst (λ w. HasWord (state_of pairs words log) 0 w)
-          (sym can.base_is) word_of_next }
+      record {
+        touch = _;
+        is = refl;
+        found = subst (λ w. HasWord (state_of pairs words log) 0 w)
+            (sym can.base_is) word_of_next;
+      }
   finds_own (Install caller base rows) can k =
       record {
         touch = _;
@@ -153,21 +169,33 @@ module _ (pairs : List Pair) (words : ℕ) (opens : CanOpen pairs words) (log : 
       }
   finds_own (Count caller node) can k =
       let it = on_chain_inner pairs words opens log enabled can.update.change.node node
-          can.on_chain in
+      can.on_chain in
       record {
         touch = _;
         is = ap (λ o. touch_of_count node (as_inner o)) it.1;
         found = word_of_row node (Inner it.0) 1 it.1 refl;
       }
   finds_own (Mark caller node) can k =
-      record { touch = _; is = refl; found = word_of_row node (Inner can.row) 0 can.published
-          (ap (λ x. Some x) can.row_open) }
+      record {
+        touch = _;
+        is = refl;
+        found = word_of_row node (Inner can.row) 0 can.published
+            (ap (λ x. Some x) can.row_open);
+      }
   finds_own (Pass caller node i word) can k =
-      record { touch = _; is = refl; found = slot_has node i word
-          (in_row can.row can.published can.in_slot) }
+      record {
+        touch = _;
+        is = refl;
+        found = slot_has node i word
+            (in_row can.row can.published can.in_slot);
+      }
   finds_own (Finish caller node keys) can k =
-      record { touch = _; is = refl; found = word_of_row node (Inner can.row) 0 can.published
-          (ap (λ x. Some x) can.marked) }
+      record {
+        touch = _;
+        is = refl;
+        found = word_of_row node (Inner can.row) 0 can.published
+            (ap (λ x. Some x) can.marked);
+      }
   finds_own (Root caller rebuild word rows) can k =
       record {
         touch = _;

@@ -95,10 +95,10 @@ own_kept : (t : Snapshot) (number caller : ℕ) (bases : List ℕ) → caller �
     (λ h. h.caller == number) t.held
 own_kept t number caller bases other holder =
     filter_kept (λ h. h.caller == number) (λ h. not (list_any (λ base. base == h.base) bases))
-        t.held
+    t.held
     (λ h i out.
     let at = holder h i
-        (among_bases h.base bases (untrue (list_any (λ base. base == h.base) bases) out)) in
+    (among_bases h.base bases (untrue (list_any (λ base. base == h.base) bases) out)) in
     other_caller h.caller number (λ e. other (sym at ∙ e)))
 
 held-resolved : (t : Snapshot) (change : Option ChangeRow) → (resolved t change).held ≡ t.held
@@ -164,7 +164,7 @@ module _ (pairs : List Pair) (words : ℕ) (number : ℕ) where
   holds_later {earlier = earlier} {log = log} later h base size i =
       let row : HeldRow = record { caller = number; base = base; size = size } in
       let own = ⊎_elim (λ same. same.0) (λ other. absurd (other.1 refl))
-          (eqb_tells number number) in
+      (eqb_tells number number) in
       (among-filter (λ x. x.caller == number) row (state_of pairs words log).held
       (subst (Among row) (sym (own_later later h))
       (among_filter (λ x. x.caller == number) row (state_of pairs words earlier).held i own))).0

@@ -46,7 +46,7 @@ module _ (ps qs : Pieces) (rows : List Row)
       → with_inners qs rows base ≡ Some (Leaf r)
   leaf_put base r e =
       ⊎_elim (λ put. put) (λ stood. stood.1 ∙ leaf base r stood.0)
-          (put_or_stood ps qs rows base (Leaf r) e)
+      (put_or_stood ps qs rows base (Leaf r) e)
 
   clash : (o : Option Piece) (p : Piece) → o ≡ None → o ≡ Some p → ⊥
   clash o p e f = cc
@@ -97,7 +97,7 @@ module _ (ps qs : Pieces) (rows : List Row)
         (one_part {words = words} {here = here} {rest = rest} {part = part} {behind = behind} ref is
         first more) own =
         one_part ref is
-            (ideal_put ref part above here first (λ b i. own b (among_left b here rest i)))
+        (ideal_put ref part above here first (λ b i. own b (among_left b here rest i)))
         (parts_put words behind above rest more (λ b i. own b (among_right b here rest i)))
 
   -- so does a root

@@ -49,7 +49,7 @@ due_later : (old new : InnerRow) → InnerGrows old new → IsDue old → IsDue 
 due_later old new g due =
     let more = g.count in
     subst (λ n. limit n ≤ new.count) (sym g.size)
-        (le_on (limit old.size) old.count new.count due more)
+    (le_on (limit old.size) old.count new.count due more)
   where
     le_on : (a b c : ℕ) → a ≤ b → b ≤ c → a ≤ c
     le_on a b c x y = omega arith
@@ -98,17 +98,21 @@ module _ (pairs : List Pair) (words : ℕ) (opens : CanOpen pairs words) {earlie
             let named = (names pairs words opens earlier before).rows rebuild (Rebuild r) e in
             let here = root_here (state_of pairs words earlier) r.target r.root base named.2 is in
             let row = inner_there (state_of pairs words earlier).pieces
-                (state_of pairs words log).pieces grows base here.0 here.1 in
+            (state_of pairs words log).pieces grows base here.0 here.1 in
             let at = slot_of_row (state_of pairs words log) base i word row.0
-                (anchor_free pairs words log h) row.1 holds in
+            (anchor_free pairs words log h) row.1 holds in
             let old = get_back here.0.slots row.0.slots i word row.2.slots at in
             let holds_old : SlotHolds (state_of pairs words earlier) base i old.0 =
-                in_row here.0 here.1 old.1 in
+            in_row here.0 here.1 old.1 in
             let s = set_later pairs words opens on h base i
-            record { word = old.0; holds = holds_old; set =
-                built.whole base i old.0 is holds_old } in
+            record {
+              word = old.0;
+              holds = holds_old;
+              set =
+                  built.whole base i old.0 is holds_old;
+            } in
             let same : s.word ≡ word = slot_once (state_of pairs words log) base i s.word word
-                (anchor_free pairs words log h) s.holds holds in
+            (anchor_free pairs words log h) s.holds holds in
             clash s.word word s.set same none;
       }
 
@@ -118,7 +122,7 @@ module _ (pairs : List Pair) (words : ℕ) (opens : CanOpen pairs words) {earlie
       → Starts (state_of pairs words log) change fresh
   starts_later change fresh s =
       let it = inner_there (state_of pairs words earlier).pieces
-          (state_of pairs words log).pieces grows s.target s.row s.published in
+      (state_of pairs words log).pieces grows s.target s.row s.published in
       record {
         kind = s.kind;
         key = s.key;
@@ -139,7 +143,7 @@ module _ (pairs : List Pair) (words : ℕ) (opens : CanOpen pairs words) {earlie
       → Finishes (state_of pairs words log) change fresh
   finishes_later change fresh f =
       let it = rebuild_there (state_of pairs words earlier).pieces
-          (state_of pairs words log).pieces grows f.rebuild f.row f.published in
+      (state_of pairs words log).pieces grows f.rebuild f.row f.published in
       let root = it.2.rooted f.built.set in
       record {
         kind = f.kind;
@@ -221,7 +225,7 @@ module _ (pairs : List Pair) (words : ℕ) (opens : CanOpen pairs words) {earlie
       let change = can.change in
       let on = goes_on later in
       let has = finds (state_of pairs words earlier) (state_of pairs words log)
-          (Install caller base rows) _
+      (Install caller base rows) _
       (ap (λ xs. touch_of (state_of pairs words earlier) (Install caller base xs)) can.rows_are)
       f in
       record {
@@ -234,7 +238,7 @@ module _ (pairs : List Pair) (words : ℕ) (opens : CanOpen pairs words) {earlie
         unset = can.unset;
         in_slot =
             slot_later pairs words earlier log on h change.node change.index change.from can.in_slot
-                change.from has;
+            change.from has;
         linked = ever_later (start pairs words) (λ t. Linked t change.node) on can.linked;
         unrefused = unrefused_later pairs words caller later h change.node can.unrefused
             (none can.change (ap first_change can.rows_are));

@@ -81,7 +81,7 @@ pub known_step : (first : Snapshot) (log : Log) (event : Event) (caller : ℕ)
     → caller < (state first (event ∷ log)).callers
 known_step first log event caller low =
     ⊎_elim (λ more. let le = more.1 in omega arith) (λ same. omega arith)
-        (callers_step first log event)
+    (callers_step first log event)
 
 -- and over any
 pub known_later : (first : Snapshot) {earlier log : Log} → GoesOn earlier log → (caller : ℕ)

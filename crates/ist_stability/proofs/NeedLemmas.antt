@@ -40,8 +40,12 @@ pub word_needed : (pairs : List Pair) (words : ℕ) → CanOpen pairs words → 
     → FindsItsWord (state_of pairs words earlier) (state_of pairs words log) event
 word_needed pairs words opens earlier log on h event old now adds touches =
     let f = finds_own pairs words opens log h event now touches in
-    record { touch = f.touch; is = sym (touch_stays pairs words earlier log on h event old adds)
-        ∙ f.is; found = f.found }
+    record {
+      touch = f.touch;
+      is = sym (touch_stays pairs words earlier log on h event old adds)
+          ∙ f.is;
+      found = f.found;
+    }
 
 -- where an Install is enabled, no change of the caller on its node was decided no
 pub none_refused : (first : Snapshot) (t : Snapshot) (log : Log) (caller base : ℕ) (rows : List Row)
@@ -53,9 +57,9 @@ none_refused first t log caller base rows g can change is at old new p own on e 
     let it = change_there t.pieces u.pieces g at old p.published in
     let same : it.0 ≡ new = one_change (u.pieces at) it.0 new it.1 e in
     let change_is : change ≡ can.change = one_first change can.change
-        (sym is ∙ ap first_change can.rows_are) in
+    (sym is ∙ ap first_change can.rows_are) in
     let owner : new.owner ≡ caller = ap (λ x. x.owner) (sym same) ∙ ap (λ x. x.owner) it.2.others
-        ∙ own in
+    ∙ own in
     let node : new.node ≡ can.change.node =
     ap (λ x. x.node) (sym same) ∙ ap (λ x. x.node) it.2.others ∙ on ∙ ap (λ x. x.node) change_is in
     can.unrefused at new e owner node refused
@@ -64,7 +68,7 @@ none_refused first t log caller base rows g can change is at old new p own on e 
 pub undecided_needed : (t : Snapshot) (caller base : ℕ) → CanOkay t caller base → IsUndecided t base
 undecided_needed t caller base can change e =
     ap (λ x. x.decision) (one_change (t.pieces base) change can.change e can.pending.published)
-        ∙ can.pending.unset
+    ∙ can.pending.unset
 
 -- where a Pass is enabled, its node is marked
 pub mark_needed : (t : Snapshot) (caller node i word : ℕ) → CanPass t caller node i word

@@ -57,7 +57,7 @@ passed_later t u g on node i _ _ [] same (one_passed word p c more) = absurd (om
 passed_later t u g on node i _ _ (w ∷ ws) same
     (one_passed {here = here} {rest = rest} {slots = slots} word p c more) =
     one_passed word (happened_later (Passes node i word) on p)
-        (counts_later t u g (ref_of word) here c)
+    (counts_later t u g (ref_of word) here c)
     (passed_later t u g on node (i + 1) rest slots ws (omega arith) more)
 
 module _ (pairs : List Pair) (words : ℕ) (earlier log : Log) (on : GoesOn earlier log)
@@ -72,7 +72,7 @@ module _ (pairs : List Pair) (words : ℕ) (earlier log : Log) (on : GoesOn earl
       × (length s.slots ≡ length r.slots)
   row_later node r e =
       let it = inner_there (state_of pairs words earlier).pieces
-          (state_of pairs words log).pieces grows node r e in
+      (state_of pairs words log).pieces grows node r e in
       (it.0, it.1, it.2.slots)
 
   -- a Mark stays where the node is open
@@ -82,7 +82,7 @@ module _ (pairs : List Pair) (words : ℕ) (earlier log : Log) (on : GoesOn earl
   mark_stays caller node can f =
       let it = row_later node can.row can.published in
       let has = finds (state_of pairs words earlier) (state_of pairs words log)
-          (Mark caller node) _ refl f in
+      (Mark caller node) _ refl f in
       record {
         known = known_later (start pairs words) on caller can.known;
         row = it.0;
@@ -102,7 +102,7 @@ module _ (pairs : List Pair) (words : ℕ) (earlier log : Log) (on : GoesOn earl
   finish_stays caller node keys can f =
       let it = row_later node can.row can.published in
       let has = finds (state_of pairs words earlier) (state_of pairs words log)
-          (Finish caller node keys) _ refl f in
+      (Finish caller node keys) _ refl f in
       record {
         known = known_later (start pairs words) on caller can.known;
         row = it.0;
@@ -124,7 +124,7 @@ module _ (pairs : List Pair) (words : ℕ) (earlier log : Log) (on : GoesOn earl
   pass_stays caller node i word can f marked =
       let it = row_later node can.row can.published in
       let has = finds (state_of pairs words earlier) (state_of pairs words log)
-          (Pass caller node i word) _ refl f in
+      (Pass caller node i word) _ refl f in
       record {
         known = known_later (start pairs words) on caller can.known;
         row = it.0;

@@ -57,7 +57,7 @@ module _ (pairs : List Pair) (words : ℕ) (caller : ℕ) where
   own_was {earlier = earlier} {log = log} later h base x e own =
       let it = own_before later h base x e own in
       let there = change_there (state_of pairs words earlier).pieces
-          (state_of pairs words log).pieces
+      (state_of pairs words log).pieces
       (grow_between pairs words earlier log h (goes_on later)) base it.0 it.1 in
       record {
         old = it.0;

@@ -19,7 +19,7 @@ module _ (pairs : List Pair) (words : ℕ) (opens : CanOpen pairs words) (log : 
       → x.owner ≢ caller
   none_pending base x p own =
       undecided_unresolved pairs words opens log h base x p.published p.unset
-          (all base x p.published own)
+      (all base x p.published own)
 
   -- so that none is decided no meanwhile
   pub none_refused : (u : Snapshot) (node : ℕ)

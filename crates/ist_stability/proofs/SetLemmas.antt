@@ -83,7 +83,7 @@ set_filled : (t u : Snapshot) (node i at j new : ℕ) → WritesSlot t u at j ne
     → IsSet t node i → IsSet u node i
 set_filled t u node i at j new w h =
     ⊎_elim (λ here. absurd (h.set here.0))
-        (λ there. record { word = h.word; holds = there; set = h.set })
+    (λ there. record { word = h.word; holds = there; set = h.set })
     (w.others node i h.word h.holds)
 
 module _ (pairs : List Pair) (words : ℕ) (opens : CanOpen pairs words) where
@@ -105,13 +105,13 @@ module _ (pairs : List Pair) (words : ℕ) (opens : CanOpen pairs words) where
       → IsSet (state_of pairs words (event ∷ log)) node i
   set_step log (Install caller base rows) h node i s =
       set_written _ _ node i h.1.change.node h.1.change.index
-          (word_of (ChangeAt base)) h.1.change.from
+      (word_of (ChangeAt base)) h.1.change.from
       (install_writes (start pairs words) log caller base rows h.1
       (sound_behind pairs words log h.0) (anchor_free pairs words log h.0))
       (change_set base) s
   set_step log (Resolve caller base) h node i s =
       set_written _ _ node i h.1.change.node h.1.change.index (side_of h.1.change)
-          (word_of (ChangeAt base))
+      (word_of (ChangeAt base))
       (resolve_writes (state_of pairs words log) caller base h.1 (anchor_free pairs words log h.0))
       (side_set (state_of pairs words log) h.1.change
       (changes_are_formed pairs words log h.0 base h.1.change h.1.published)) s

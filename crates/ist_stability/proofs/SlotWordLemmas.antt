@@ -72,7 +72,7 @@ module _ (pairs : List Pair) (words : ℕ) (earlier log : Log) (on : GoesOn earl
       ∙ sym (ap (λ n. place_of_slot (state_of pairs words earlier) n i) a)
   place_later node i word (in_row r e at) =
       let it = inner_there (state_of pairs words earlier).pieces
-          (state_of pairs words log).pieces grows node r e in
+      (state_of pairs words log).pieces grows node r e in
       let old = enabled_before (start pairs words) earlier log on h in
       place_of_row (state_of pairs words log) node i it.0 (anchor_free pairs words log h) it.1
       ∙ ap (λ d. slot_place node d i) it.2.degree
@@ -85,7 +85,7 @@ module _ (pairs : List Pair) (words : ℕ) (earlier log : Log) (on : GoesOn earl
   slot_stays node i word (in_anchor a b c) = ((state_of pairs words log).anchor, in_anchor a b refl)
   slot_stays node i word (in_row r e at) =
       let it = inner_there (state_of pairs words earlier).pieces
-          (state_of pairs words log).pieces grows node r e in
+      (state_of pairs words log).pieces grows node r e in
       let v = get_alike r.slots it.0.slots i word it.2.slots at in
       (v.0, in_row it.0 it.1 v.1)
 
@@ -97,6 +97,6 @@ module _ (pairs : List Pair) (words : ℕ) (earlier log : Log) (on : GoesOn earl
   slot_later node i word holds now has =
       let it = slot_stays node i word holds in
       let there = subst (λ p. HasWord (state_of pairs words log) p now)
-          (sym (place_later node i word holds)) has in
+      (sym (place_later node i word holds)) has in
       subst (λ w. SlotHolds (state_of pairs words log) node i w)
-          (sym (slot_word pairs words log h node i it.0 it.1 now there)) it.1
+      (sym (slot_word pairs words log h node i it.0 it.1 now there)) it.1

@@ -112,7 +112,7 @@ module _ (pairs : List Pair) (words : ℕ) (opens : CanOpen pairs words) {earlie
       let now : base ≡ u.next = next_word pairs words log h _ _ has refl in
       let next : u.next ≡ t.next = sym now ∙ can.base_is in
       let same : u.words ≡ t.words = words_same pairs words opens log
-          ∙ sym (words_same pairs words opens earlier) in
+      ∙ sym (words_same pairs words opens earlier) in
       let room = can.room in
       record {
         known = known_later (start pairs words) (goes_on later) caller can.known;
@@ -135,7 +135,7 @@ module _ (pairs : List Pair) (words : ℕ) (opens : CanOpen pairs words) {earlie
       → LosesPair (state_of pairs words log) caller bases
   pair_later bases p =
       let it = inner_there (state_of pairs words earlier).pieces
-          (state_of pairs words log).pieces grows p.node p.row p.published in
+      (state_of pairs words log).pieces grows p.node p.row p.published in
       record {
         pair = p.pair;
         bases_are = p.bases_are;

@@ -65,7 +65,7 @@ module _ (pairs : List Pair) (words : ℕ) (earlier log : Log) (on : GoesOn earl
       can.rows_are)
   touch_stays (Okay caller base) can adds =
       let it = change_there (state_of pairs words earlier).pieces
-          (state_of pairs words log).pieces grows base can.change can.pending.published in
+      (state_of pairs words log).pieces grows base can.change can.pending.published in
       ap (λ o. touch_of_okay (as_change o)) it.1
       ∙ ap (λ n. touch_at (place_of_status n) open_word open_word) (ap (λ x. x.node) it.2.others)
       ∙ sym (ap (λ o. touch_of_okay (as_change o)) can.pending.published)
@@ -91,7 +91,7 @@ module _ (pairs : List Pair) (words : ℕ) (earlier log : Log) (on : GoesOn earl
       let u = state_of pairs words log in
       let it = rebuild_there t.pieces u.pieces grows rebuild can.row can.published in
       let set : can.row.root ≢ unset_word = set_by can.row.root (InnerAt can.root) can.root_is
-          (λ q. cc) in
+      (λ q. cc) in
       ap (λ o. touch_of_place u (as_rebuild o) i word) it.1
       ∙ ap (λ o. touch_in_root u o i word) (ap ref_of (it.2.rooted set) ∙ can.root_is)
       ∙ slot_touch can.root i unset_word unset_word word

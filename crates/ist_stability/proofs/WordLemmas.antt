@@ -69,7 +69,7 @@ module _ (pairs : List Pair) (words : ℕ) (log : Log)
       → first_row ≤ other + j
   fixed_row other j q f =
       let inside = claimed_within pairs words log other (size_of q) enabled
-          ((placed pairs words log enabled).published other q f) in
+      ((placed pairs words log enabled).published other q f) in
       let low = inside.behind_fixed in
       omega arith
 
@@ -80,10 +80,12 @@ module _ (pairs : List Pair) (words : ℕ) (log : Log)
   next_word _ _ word_of_callers is = absurd (omega arith)
   next_word _ _ word_of_status is = absurd (omega arith)
   next_word _ _ word_of_anchor is = absurd (omega arith)
-  next_word _ _ (free_word far near) is = let low =
-      next_behind_fixed pairs words log enabled in absurd (omega arith)
-  next_word _ _ (word_of_row other q j f g) is = let low =
-      fixed_row other j q f in absurd (omega arith)
+  next_word _ _ (free_word far near) is =
+      let low = next_behind_fixed pairs words log enabled in
+      absurd (omega arith)
+  next_word _ _ (word_of_row other q j f g) is =
+      let low = fixed_row other j q f in
+      absurd (omega arith)
 
   -- the anchor's word stands at its place
   pub anchor_word : (place v : ℕ) → HasWord (state_of pairs words log) place v
@@ -93,21 +95,23 @@ module _ (pairs : List Pair) (words : ℕ) (log : Log)
   anchor_word _ _ word_of_callers is = absurd (omega arith)
   anchor_word _ _ word_of_status is = absurd (omega arith)
   anchor_word _ _ word_of_anchor is = refl
-  anchor_word _ _ (free_word far near) is = let low =
-      next_behind_fixed pairs words log enabled in absurd (omega arith)
-  anchor_word _ _ (word_of_row other q j f g) is = let low =
-      fixed_row other j q f in absurd (omega arith)
+  anchor_word _ _ (free_word far near) is =
+      let low = next_behind_fixed pairs words log enabled in
+      absurd (omega arith)
+  anchor_word _ _ (word_of_row other q j f g) is =
+      let low = fixed_row other j q f in
+      absurd (omega arith)
 
   -- the place of a slot
   slot_at : (node i : ℕ) (r : InnerRow) → (state_of pairs words log).pieces node ≡ Some (Inner r)
       → place_of_slot (state_of pairs words log) node i ≡ node + (3 + r.degree + i)
   slot_at node i r e =
       let out : node ≢ anchor = λ a. no_row (state_of pairs words log).pieces node r
-          (anchor_free pairs words log enabled) a e in
+      (anchor_free pairs words log enabled) a e in
       ⊎_elim (λ same. absurd (out same.1))
       (λ other.
       ap (λ b. if b then anchor_slot_place else place_in node i
-          (as_inner ((state_of pairs words log).pieces node))) other.0
+      (as_inner ((state_of pairs words log).pieces node))) other.0
       ∙ ap (λ o. place_in node i (as_inner o)) e ∙ sums node r.degree)
       (eqb_tells node anchor)
     where

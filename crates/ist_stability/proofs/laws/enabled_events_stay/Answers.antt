@@ -15,10 +15,10 @@ returns c =
           spare.reserve_stays pairs words l.opens caller on l.enabled base size can p;
       decide = λ caller base said pairs words earlier log l on can p.
           changes.decide_stays pairs words l.opens earlier log
-              (goes_on on) l.enabled caller base said can p;
+          (goes_on on) l.enabled caller base said can p;
       resolve = λ caller base pairs words earlier log l on can p.
           changes.resolve_stays pairs words l.opens earlier log
-              (goes_on on) l.enabled caller base can p;
+          (goes_on on) l.enabled caller base can p;
       mark = λ caller node pairs words earlier log l on can p.
           nodes.mark_stays pairs words earlier log (goes_on on) l.enabled caller node can p;
       finish = λ caller node keys pairs words earlier log l on can p.
