@@ -22,7 +22,7 @@ use Rattle.ist_core.proofs.PlaceLemmas.{anchor_free}
 use Rattle.ist_core.proofs.SlotLemmas.{no_row, same_inner}
 use Rattle.ist_links.proofs.ChangeLemmas.{undecided_stands}
 use Rattle.ist_stability.specs.Meanwhile.{IsUndecided}
-use Rattle.ist_stability.specs.Words.{FindsItsWord, HasWord}
+use Rattle.ist_stability.specs.Words.{FindsItsWord, PlaceHas}
 use Rattle.ist_stability.proofs.LaterLemmas.{happened_later, known_later}
 use Rattle.ist_stability.proofs.SlotWordLemmas.{finds, slot_later}
 use Rattle.ist_stability.proofs.WordLemmas.{row_word}
@@ -128,7 +128,7 @@ module _ (pairs : List Pair) (words : ℕ) (opens : CanOpen pairs words) (earlie
 
   -- a node whose status is still that of an open node is open
   open_later : (node : ℕ) → IsOpen (state_of pairs words earlier) node
-      → HasWord (state_of pairs words log) (place_of_status node) open_word
+      → PlaceHas (state_of pairs words log) (place_of_status node) open_word
       → IsOpen (state_of pairs words log) node
   open_later node (anchor_is a) has = anchor_is a
   open_later node (row_is r e is) has =

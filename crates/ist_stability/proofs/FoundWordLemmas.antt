@@ -22,14 +22,14 @@ use Rattle.ist_core.proofs.ImageLemmas.{get-words_of_slot, get_below}
 use Rattle.ist_core.proofs.PlaceLemmas.{anchor_free, claimed_within, next_behind_fixed, placed}
 use Rattle.ist_core.proofs.ShapedLemmas.{shaped}
 use Rattle.ist_core.proofs.SlotLemmas.{no_row}
-use Rattle.ist_stability.specs.Words.{FindsItsWord, HasWord, free_word, word_of_anchor, word_of_callers, word_of_next, word_of_row, word_of_status}
+use Rattle.ist_stability.specs.Words.{FindsItsWord, PlaceHas, free_word, word_of_anchor, word_of_callers, word_of_next, word_of_row, word_of_status}
 use Rattle.ist_stability.proofs.SlotWordLemmas.{place_of_row}
 use Rattle.ist_stability.proofs.WordLemmas.{anchor_word, fixed_row, next_word, row_word}
 
 module _ (pairs : List Pair) (words : ℕ) (opens : CanOpen pairs words) (log : Log)
     (enabled : EachEnabled (start pairs words) log) where
   -- the number of callers stands at its place
-  callers_word : (place v : ℕ) → HasWord (state_of pairs words log) place v → place ≡ callers_place
+  callers_word : (place v : ℕ) → PlaceHas (state_of pairs words log) place v → place ≡ callers_place
       → (state_of pairs words log).callers ≡ v
   callers_word _ _ word_of_next is = absurd (omega arith)
   callers_word _ _ word_of_callers is = refl
@@ -43,7 +43,7 @@ module _ (pairs : List Pair) (words : ℕ) (opens : CanOpen pairs words) (log : 
       absurd (omega arith)
 
   -- so does the anchor's status
-  status_word : (place v : ℕ) → HasWord (state_of pairs words log) place v
+  status_word : (place v : ℕ) → PlaceHas (state_of pairs words log) place v
       → place ≡ anchor_status_place
       → open_word ≡ v
   status_word _ _ word_of_next is = absurd (omega arith)
@@ -58,7 +58,7 @@ module _ (pairs : List Pair) (words : ℕ) (opens : CanOpen pairs words) (log : 
       absurd (omega arith)
 
   -- and 0 at a free place
-  free_is : (place v : ℕ) → HasWord (state_of pairs words log) place v
+  free_is : (place v : ℕ) → PlaceHas (state_of pairs words log) place v
       → (state_of pairs words log).next ≤ place
       → 0 ≡ v
   free_is _ _ word_of_next is =
@@ -86,8 +86,8 @@ module _ (pairs : List Pair) (words : ℕ) (opens : CanOpen pairs words) (log : 
       absurd (omega arith)
 
   -- a place has one word
-  pub one_word : (place w v : ℕ) → HasWord (state_of pairs words log) place w
-      → HasWord (state_of pairs words log) place v
+  pub one_word : (place w v : ℕ) → PlaceHas (state_of pairs words log) place w
+      → PlaceHas (state_of pairs words log) place v
       → w ≡ v
   one_word _ _ v word_of_next has = sym (next_word pairs words log enabled _ v has refl)
   one_word _ _ v word_of_callers has = callers_word _ v has refl
@@ -101,32 +101,32 @@ module _ (pairs : List Pair) (words : ℕ) (opens : CanOpen pairs words) (log : 
 
   -- the state has the word of a slot at its place
   slot_has : (node i w : ℕ) → SlotHolds (state_of pairs words log) node i w
-      → HasWord (state_of pairs words log) (place_of_slot (state_of pairs words log) node i) w
+      → PlaceHas (state_of pairs words log) (place_of_slot (state_of pairs words log) node i) w
   slot_has node i w (in_anchor a b e) =
-      subst (λ n. HasWord (state_of pairs words log)
+      subst (λ n. PlaceHas (state_of pairs words log)
       (place_of_slot (state_of pairs words log) n i) w) (sym a)
-      (subst (λ x. HasWord (state_of pairs words log) 3 x) e word_of_anchor)
+      (subst (λ x. PlaceHas (state_of pairs words log) 3 x) e word_of_anchor)
   slot_has node i w (in_row r e at) =
       let degree : HasDegree r = shaped pairs words log enabled node (Inner r) e in
       let keys = degree.keys in
       let same : node + (4 + length r.keys + i) ≡ slot_place node r.degree i = omega arith in
-      subst (λ p. HasWord (state_of pairs words log) p w)
+      subst (λ p. PlaceHas (state_of pairs words log) p w)
       (same ∙ sym
       (place_of_row (state_of pairs words log) node i r (anchor_free pairs words log enabled) e))
       (word_of_row node (Inner r) (4 + length r.keys + i) e (get-words_of_slot r i ∙ at))
 
   -- and that of an open status
   status_has : (node : ℕ) → IsOpen (state_of pairs words log) node
-      → HasWord (state_of pairs words log) (place_of_status node) open_word
+      → PlaceHas (state_of pairs words log) (place_of_status node) open_word
   status_has node (anchor_is a) =
-      subst (λ n. HasWord (state_of pairs words log) (place_of_status n) open_word)
+      subst (λ n. PlaceHas (state_of pairs words log) (place_of_status n) open_word)
       (sym a) word_of_status
   status_has node (row_is r e is) =
       ⊎_elim (λ same.
       absurd (no_row (state_of pairs words log).pieces node r
       (anchor_free pairs words log enabled) same.1 e))
       (λ other.
-      subst (λ p. HasWord (state_of pairs words log) p open_word)
+      subst (λ p. PlaceHas (state_of pairs words log) p open_word)
       (sym (ap (λ b. if b then anchor_status_place else node + inner_status_offset) other.0))
       (word_of_row node (Inner r) 0 e (ap (λ x. Some x) is)))
       (eqb_tells node anchor)
@@ -139,7 +139,7 @@ module _ (pairs : List Pair) (words : ℕ) (opens : CanOpen pairs words) (log : 
       record {
         touch = _;
         is = refl;
-        found = subst (λ w. HasWord (state_of pairs words log) 0 w)
+        found = subst (λ w. PlaceHas (state_of pairs words log) 0 w)
             (sym can.base_is) word_of_next;
       }
   finds_own (Install caller base rows) can k =

@@ -16,7 +16,7 @@ use Rattle.ist_core.proofs.ImageLemmas.{get-words_of_slot, get_below}
 use Rattle.ist_core.proofs.PlaceLemmas.{anchor_free, claimed_apart, claimed_within, next_behind_fixed, one_piece, placed}
 use Rattle.ist_core.proofs.ShapedLemmas.{shaped}
 use Rattle.ist_core.proofs.SlotLemmas.{no_row}
-use Rattle.ist_stability.specs.Words.{HasWord, free_word, word_of_anchor, word_of_callers, word_of_next, word_of_row, word_of_status}
+use Rattle.ist_stability.specs.Words.{PlaceHas, free_word, word_of_anchor, word_of_callers, word_of_next, word_of_row, word_of_status}
 
 same_get : (xs ys : List ℕ) (j k w v : ℕ) → xs ≡ ys → j ≡ k → slice_get xs j ≡ Some w
     → slice_get ys k ≡ Some v
@@ -28,7 +28,7 @@ module _ (pairs : List Pair) (words : ℕ) (log : Log)
   -- a word of a row is the one at its place
   pub row_word : (base k w : ℕ) (p : Piece) → (state_of pairs words log).pieces base ≡ Some p
       → slice_get (words_of p) k ≡ Some w
-      → (place v : ℕ) → HasWord (state_of pairs words log) place v → place ≡ base + k → v ≡ w
+      → (place v : ℕ) → PlaceHas (state_of pairs words log) place v → place ≡ base + k → v ≡ w
   row_word base k w p e there place v has same = at has same
     where
       inside : first_row ≤ base
@@ -42,7 +42,7 @@ module _ (pairs : List Pair) (words : ℕ) (log : Log)
       less : k < size_of p
       less = get_below (words_of p) k w there
 
-      at : {place v : ℕ} → HasWord (state_of pairs words log) place v → place ≡ base + k → v ≡ w
+      at : {place v : ℕ} → PlaceHas (state_of pairs words log) place v → place ≡ base + k → v ≡ w
       at word_of_next is = let low = inside in absurd (omega arith)
       at word_of_callers is = let low = inside in absurd (omega arith)
       at word_of_status is = let low = inside in absurd (omega arith)
@@ -74,7 +74,7 @@ module _ (pairs : List Pair) (words : ℕ) (log : Log)
       omega arith
 
   -- the first free word stands at its place
-  pub next_word : (place v : ℕ) → HasWord (state_of pairs words log) place v → place ≡ next_place
+  pub next_word : (place v : ℕ) → PlaceHas (state_of pairs words log) place v → place ≡ next_place
       → v ≡ (state_of pairs words log).next
   next_word _ _ word_of_next is = refl
   next_word _ _ word_of_callers is = absurd (omega arith)
@@ -88,7 +88,7 @@ module _ (pairs : List Pair) (words : ℕ) (log : Log)
       absurd (omega arith)
 
   -- the anchor's word stands at its place
-  pub anchor_word : (place v : ℕ) → HasWord (state_of pairs words log) place v
+  pub anchor_word : (place v : ℕ) → PlaceHas (state_of pairs words log) place v
       → place ≡ anchor_slot_place
       → v ≡ (state_of pairs words log).anchor
   anchor_word _ _ word_of_next is = absurd (omega arith)
@@ -120,7 +120,7 @@ module _ (pairs : List Pair) (words : ℕ) (log : Log)
 
   -- the word of a slot stands at its place
   pub slot_word : (node i w : ℕ) → SlotHolds (state_of pairs words log) node i w → (v : ℕ)
-      → HasWord (state_of pairs words log) (place_of_slot (state_of pairs words log) node i) v
+      → PlaceHas (state_of pairs words log) (place_of_slot (state_of pairs words log) node i) v
       → v ≡ w
   slot_word node i w (in_anchor a b e) v has =
       anchor_word _ v has (ap (λ n. place_of_slot (state_of pairs words log) n i) a) ∙ e

@@ -17,7 +17,7 @@ use Rattle.ist_core.specs.StartLayout.{start}
 use Rattle.ist_core.specs.Writing.{first_change, touch_of}
 use Rattle.ist_stability.specs.Meanwhile.{IsMarked, IsUndecided, NoneAccepted, NoneRefused}
 use Rattle.ist_stability.specs.Others.{GoesOnByOthers, author}
-use Rattle.ist_stability.specs.Words.{FindsItsWord, HasWord}
+use Rattle.ist_stability.specs.Words.{FindsItsWord, PlaceHas}
 
 -- where the event is enabled behind a log, it is so behind each longer lawful log whose further
 -- events are made by others, if P is true of the states behind the two logs
@@ -84,7 +84,7 @@ DrawsGoOn =
     (pairs : List Pair) (words : ℕ) (earlier log : Log) → Lawful pairs words log
     → (caller rebuild part now : ℕ) → GoesOnByOthers (Some caller) earlier log
     → Enabled (start pairs words) earlier (Draw caller rebuild part)
-    → HasWord (state_of pairs words log) (rebuild + rebuild_draw_offset) now
+    → PlaceHas (state_of pairs words log) (rebuild + rebuild_draw_offset) now
     → Enabled (start pairs words) log (Draw caller rebuild now)
 
 -- a Lose touches no word, and needs nothing
@@ -142,7 +142,7 @@ ResolvedChangesAreQuiet =
 abbrev pub PlacesHaveOneWord : Type 0
 PlacesHaveOneWord =
     (pairs : List Pair) (words : ℕ) (log : Log) → Lawful pairs words log → (place word other : ℕ)
-    → HasWord (state_of pairs words log) place word → HasWord (state_of pairs words log) place other
+    → PlaceHas (state_of pairs words log) place word → PlaceHas (state_of pairs words log) place other
     → word ≡ other
 
 -- where an event but a Lose is enabled, its word is the one that it is to find

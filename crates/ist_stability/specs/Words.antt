@@ -10,18 +10,18 @@ use Rattle.ist_core.specs.Writing.{Touch, touch_of}
 
 -- the state has this word at the place: a fixed word, a word of a published row, or a free one. Of
 -- the words of held and lost rows a state says nothing
-pub data HasWord (t : Snapshot) : ℕ → ℕ → Type 0 where
-  word_of_next : HasWord t next_place t.next
-  word_of_callers : HasWord t callers_place t.callers
-  word_of_status : HasWord t anchor_status_place open_word
-  word_of_anchor : HasWord t anchor_slot_place t.anchor
+pub data PlaceHas (t : Snapshot) : ℕ → ℕ → Type 0 where
+  word_of_next : PlaceHas t next_place t.next
+  word_of_callers : PlaceHas t callers_place t.callers
+  word_of_status : PlaceHas t anchor_status_place open_word
+  word_of_anchor : PlaceHas t anchor_slot_place t.anchor
   word_of_row : {word : ℕ} (base : ℕ) (p : Piece) (k : ℕ) → t.pieces base ≡ Some p
-      → slice_get (words_of p) k ≡ Some word → HasWord t (base + k) word
-  free_word : {place : ℕ} → t.next ≤ place → place < t.words → HasWord t place 0
+      → slice_get (words_of p) k ≡ Some word → PlaceHas t (base + k) word
+  free_word : {place : ℕ} → t.next ≤ place → place < t.words → PlaceHas t place 0
 
 -- at the place that the event touches in the first state, the second state has the word that the
 -- event is to find there
 pub record FindsItsWord (t u : Snapshot) (event : Event) : Type 0 where
   pub touch : Touch
   pub is : touch_of t event ≡ Some touch
-  pub found : HasWord u touch.place touch.found
+  pub found : PlaceHas u touch.place touch.found
