@@ -92,7 +92,8 @@ module _ (pairs : List Pair) (words : ℕ) (earlier log : Log) (on : GoesOn earl
   -- it is the word that the state has at this place
   pub slot_later : (node i word : ℕ) → SlotHolds (state_of pairs words earlier) node i word
       → (now : ℕ)
-      → PlaceHas (state_of pairs words log) (place_of_slot (state_of pairs words earlier) node i) now
+      → PlaceHas (state_of pairs words log)
+      (place_of_slot (state_of pairs words earlier) node i) now
       → SlotHolds (state_of pairs words log) node i now
   slot_later node i word holds now has =
       let it = slot_stays node i word holds in

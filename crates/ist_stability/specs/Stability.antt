@@ -142,7 +142,8 @@ ResolvedChangesAreQuiet =
 abbrev pub PlacesHaveOneWord : Type 0
 PlacesHaveOneWord =
     (pairs : List Pair) (words : ℕ) (log : Log) → Lawful pairs words log → (place word other : ℕ)
-    → PlaceHas (state_of pairs words log) place word → PlaceHas (state_of pairs words log) place other
+    → PlaceHas (state_of pairs words log) place word
+    → PlaceHas (state_of pairs words log) place other
     → word ≡ other
 
 -- where an event but a Lose is enabled, its word is the one that it is to find
