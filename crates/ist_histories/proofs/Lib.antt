@@ -34,3 +34,8 @@ pub mod WordLemmas
 pub mod RefusedExampleLemmas
 pub mod CallExampleLemmas
 pub mod SearchExampleLemmas
+pub mod BusyExampleLemmas
+pub mod DueExampleLemmas
+pub mod RootedExampleLemmas
+pub mod ParentExampleLemmas
+pub mod UnseenExampleLemmas

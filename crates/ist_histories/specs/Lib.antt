@@ -7,3 +7,4 @@ pub mod Placing
 pub mod Loads
 pub mod Searching
 pub mod ExampleCalls
+pub mod ExampleRebuilds
