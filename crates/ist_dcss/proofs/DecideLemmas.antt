@@ -1,0 +1,297 @@
+-- Deciding: when it may be made, and what it tells. Serves `decide`.
+use Rattle.std.proofs.Common.{◌≡◌, ◌≢◌, ℕ, ◌+◌, ◌<◌, ◌⊎◌, ◌&&◌, ◌==◌, Bool, true, false, if◌then◌else◌, ◌∷◌, option_map, Some, None, refl, sym, ap, ap₂, ◌∙◌, subst, inl, inr, arith}
+use Rattle.std.proofs.lemmas.Bool.Decides.{eqb_tells}
+use Rattle.ist_core.specs.declared.states.InnerRow.{InnerRow}
+use Rattle.ist_core.specs.declared.states.ChangeRow.{ChangeRow}
+use Rattle.ist_core.specs.declared.events.Event.{Event}
+use Rattle.ist_core.specs.declared.events.Event.TheVariants.{Okay, Decide}
+use Rattle.ist_core.specs.RowLayout.{change_decision_offset, change_node_offset}
+use Rattle.ist_core.specs.Statuses.{open_word, undecided, decided_yes}
+use Rattle.ist_core.specs.Pieces.{Inner, Change, as_change, with_decision}
+use Rattle.ist_core.specs.Snapshots.{Snapshot}
+use Rattle.ist_core.specs.Growing.{AllGrow, StatusGoesOn, status_stays, is_marked, is_finished, is_closed, ChangeGrows}
+use Rattle.ist_core.specs.After.{decision_word}
+use Rattle.ist_core.specs.Logs.{Log, GoesOn, same_log, one_event, Happened, Okays}
+use Rattle.ist_core.specs.Slots.{IsOpen, anchor_is, row_is}
+use Rattle.ist_core.specs.Deciding.{MayBe}
+use Rattle.ist_core.specs.Lawful.{state_of}
+use Rattle.ist_core.specs.Writing.{place_of_status}
+use Rattle.ist_core.proofs.GrowingLemmas.{inner_there, change_there}
+use Rattle.ist_core.proofs.FateLemmas.{grow_between}
+use Rattle.ist_core.proofs.RowLemmas.{changed_at-same}
+use Rattle.ist_rule.specs.declared.view.View.{View}
+use Rattle.ist_rule.specs.declared.view.Who.TheVariants.{Caller}
+use Rattle.ist_rule.specs.Shown.{IsShown, shown_status, shown_row}
+use Rattle.ist_rule.specs.Rule.{IsSound}
+use Rattle.ist_rule.specs.Learning.{now, made_behind, Looked, Logged, LoadedAs, as_event, as_load, Exchanged}
+use Rattle.ist_rule.specs.Conditions.{MayCome, CanExchange}
+use Rattle.ist_rule.specs.Watching.{number_of, waits, okay_of}
+use Rattle.ist_rule.proofs.LaterLemmas.{later-goes_on}
+use Rattle.ist_rule.proofs.GoingOnLemmas.{callers_later}
+use Rattle.ist_rule.proofs.WatchLemmas.{shown_in_row, IsNode, is_anchor, is_inner, change_node, both_true, if_some, status_place_inner, status_place_anchor}
+use Rattle.ist_dcss.specs.Helping.{MayHelp, Serves, Helped, IsDecided}
+use Rattle.ist_dcss.specs.Naming.{IsReady, settled, okayed, closed, IsField, standing, deciding}
+use Rattle.ist_dcss.proofs.GoingLemmas.{looked_helped, logged_helped, logged_load_helped, helped_now, helped_row, helped_more, helped_who}
+use Rattle.ist_dcss.proofs.SlotPlaceLemmas.{no_anchor}
+use Rattle.ist_dcss.proofs.FieldLemmas.{field_now}
+use Rattle.ist_dcss.proofs.OutcomeLemmas.{HasFate, fate}
+
+-- what happened in a log happened in each that goes on from it
+pub happened_later : (P : Event → Type 0) (a b : Log) → GoesOn a b → Happened P a → Happened P b
+happened_later P a _ same_log h = h
+happened_later P a _ (one_event {log = log} event g) h = inr (happened_later P a log g h)
+
+-- a status that goes on to open was open
+status_open : (a b : ℕ) → StatusGoesOn a b → b ≡ open_word → a ≡ open_word
+status_open a b (status_stays e) o = sym e ∙ o
+status_open a b (is_marked e f) o = e
+status_open a b (is_finished k e f) o = absurd (omega arith)
+status_open a b (is_closed k e f) o = e
+
+-- a node that is open was open
+pub open_before : (t u : Snapshot) → AllGrow t.pieces u.pieces → (node : ℕ) → IsNode t node
+    → IsOpen u node → IsOpen t node
+open_before t u g node is (anchor_is e) = anchor_is e
+open_before t u g node (is_anchor f) (row_is q e o) = anchor_is f
+open_before t u g node (is_inner p f) (row_is q e o) =
+    let on = inner_there t.pieces u.pieces g node p f in
+    let same : Some (Inner on.0) ≡ Some (Inner q) = sym on.1 ∙ e in
+    row_is p f (status_open p.status on.0.status on.2.status (status_is on.0 q same ∙ o))
+  where
+    status_is : (a b : InnerRow) → Some (Inner a) ≡ Some (Inner b) → a.status ≡ b.status
+    status_is a b e = let same : a ≡ b = cc in ap (λ r. r.status) same
+
+-- behind each log that may come an installed change may be decided so, if it is undecided there
+module _ (v : View) (s : IsSound v) (change number : ℕ) (mine : v.who ≡ Caller number)
+    (row : ChangeRow) (installed : (now v).pieces change ≡ Some (Change row)) where
+  -- the change behind such a log
+  pub row_behind : (log : Log) → MayCome v log → (r : ChangeRow)
+      × ((state_of v.start v.words log).pieces change ≡ Some (Change r)) × ChangeGrows row r
+  row_behind log m =
+      change_there (now v).pieces (state_of v.start v.words log).pieces
+          (grow_between v.start v.words v.log log m.lawful.enabled (later-goes_on m.later)) change
+          row installed
+
+  -- the caller is one of the table
+  pub number_low : (log : Log) → MayCome v log → number < (state_of v.start v.words log).callers
+  number_low log m =
+      let before = s.is_true.low number mine in
+      let more = callers_later v.start v.words v.log log m.later in
+      omega arith
+
+  -- what was known of the change is enough still
+  outcome : (said : Bool) → IsReady v change row said → (log : Log) (m : MayCome v log)
+      → (r : ChangeRow) → ChangeGrows row r → r.decision ≡ undecided
+      → MayBe (state_of v.start v.words log) log change r said
+  outcome said (settled set) log m r g unset = absurd (set (sym (g.decided set) ∙ unset))
+  outcome _ (okayed h) log m r g unset =
+      happened_later _ v.log log (later-goes_on m.later) h
+  outcome _ (closed shut) log m r g unset =
+      let u = state_of v.start v.words log in
+      λ opened. shut (open_before (now v) u
+          (grow_between v.start v.words v.log log m.lawful.enabled (later-goes_on m.later)) row.node
+          (change_node v.start v.words v.log s.lawful.enabled change row installed)
+          (subst (IsOpen u) (ap (λ x. x.node) g.others) opened))
+
+  -- a caller may decide a change by what it knows of it
+  pub can_decide : (said : Bool) → IsReady v change row said → (place new : ℕ)
+      → place ≡ change + change_decision_offset → new ≡ decision_word said
+      → CanExchange v place undecided new (Decide number change said)
+  can_decide said ready place new at new_is =
+      record {
+        make = record { mine = sym mine; stored = tt; allowed = tt };
+        known = λ log m.
+            let r = row_behind log m in (
+              r.0.decision,
+              subst (λ p. IsShown (state_of v.start v.words log) p r.0.decision) (sym at)
+                  (shown_row change (Change r.0) 0 r.1 refl),
+            );
+        comes = λ log m shown.
+            let r = row_behind log m in
+            let unset : r.0.decision ≡ undecided =
+                    sym (shown_in_row v.start v.words log m.lawful.enabled change (Change r.0) 0
+                    r.0.decision r.1 refl place undecided shown at) in
+            record {
+              enabled = record {
+                known = number_low log m;
+                change = r.0;
+                pending = record { published = r.1; unset = unset };
+                outcome = outcome said ready log m r.0 r.2 unset;
+              };
+              touches = ap₂ (λ p n. Some record { place = p; found = undecided; left = n })
+                  (sym at) (sym new_is);
+            };
+      }
+
+-- ---- what the load of the status tells
+
+-- the status of an open node is shown as open
+open_shown : (v : View) → IsSound v → (node : ℕ) → IsOpen (now v) node
+    → IsShown (now v) (place_of_status node) open_word
+open_shown v s node (anchor_is e) =
+    subst (λ p. IsShown (now v) p open_word) (sym (status_place_anchor node e)) shown_status
+open_shown v s node (row_is q e o) =
+    subst (λ p. IsShown (now v) p open_word)
+        (sym (status_place_inner node (no_anchor v.start v.words v.log s.lawful.enabled node q e)))
+        (shown_row node (Inner q) 0 e (ap Some o))
+
+-- where a test names an event and it is named none, the test fails
+not_named : {A : Type 0} (b : Bool) (x : A) → (if b then Some x else None) ≡ None → b ≡ false
+not_named true x e = absurd (cc)
+not_named false x e = refl
+
+-- a seat that loaded the status helped
+pub okay_helped : (v : View) (change place word : ℕ) (w : View)
+    → LoadedAs v (okay_of v change) place word w → Helped change v w
+okay_helped v change place word w (as_event event l named) =
+    let it = if_some ((word == open_word)
+            && waits (as_change ((state_of v.start v.words l.before).pieces change)))
+            (Okay (number_of v.who) change) event named in
+    logged_load_helped change v event place word w l (subst (Serves change) it.1 refl)
+        (subst (λ e. made_behind e v.made ≡ v.made) it.1 refl)
+okay_helped v change place word w (as_load l none) = looked_helped change v place word w l
+
+-- the change is ready for a yes where the load gave an open node, and for a no otherwise
+okay_ready : (v : View) (change place word : ℕ) (w : View) (node : ℕ) (r : ChangeRow)
+    → place ≡ place_of_status node → (l : LoadedAs v (okay_of v change) place word w)
+    → (now w).pieces change ≡ Some (Change r) → r.node ≡ node
+    → IsReady w change r (word == open_word)
+okay_ready v change place word w node r at (as_event event l named) here same =
+    let t = state_of v.start v.words l.before in
+    let it = if_some ((word == open_word) && waits (as_change (t.pieces change)))
+            (Okay (number_of v.who) change) event named in
+    let both = both_true (word == open_word) (waits (as_change (t.pieces change))) it.0 in
+    let happened : Happened (Okays change) w.log =
+            subst (Happened (Okays change)) (sym (ap (λ x. x.log) l.view))
+            (inl (subst (Okays change) it.1 refl)) in
+    subst (IsReady w change r) (sym both.0) (okayed happened)
+okay_ready v change place word w node r at (as_load l none) here same =
+    by_word (eqb_tells word open_word)
+  where
+    set_when : (r.decision == undecided) ≡ false → r.decision ≢ undecided
+    set_when e is = clash (sym e ∙ ap (λ d. d == undecided) is)
+      where
+        clash : false ≡ true → ⊥
+        clash f = cc
+
+    by_word : (((word == open_word) ≡ true) × (word ≡ open_word))
+        ⊎ (((word == open_word) ≡ false) × (word ≢ open_word))
+        → IsReady w change r (word == open_word)
+    by_word (inl k) =
+        let t = state_of v.start v.words w.log in
+        let is = helped_now change v w (looked_helped change v place word w l) in
+        let piece : t.pieces change ≡ Some (Change r) = ap (λ u. u.pieces change) (sym is) ∙ here in
+        let off : ((word == open_word) && waits (as_change (t.pieces change))) ≡ false =
+                not_named ((word == open_word) && waits (as_change (t.pieces change)))
+                (Okay (number_of v.who) change) none in
+        let rest : (r.decision == undecided) ≡ false =
+                ap (λ o. waits (as_change o)) (sym piece)
+                ∙ ap (λ b. b && waits (as_change (t.pieces change))) (sym k.0) ∙ off in
+        settled (set_when rest)
+    by_word (inr k) =
+        subst (IsReady w change r) (sym k.0)
+        (closed (λ is. k.1 (l.stood open_word
+            (subst (λ p. IsShown (now w) p open_word) (ap place_of_status same ∙ sym at)
+            (open_shown w l.sound r.node is)))))
+
+-- what a helper knows once it loaded the status of the node
+pub record MayDecide (change number : ℕ) (said : Bool) (v w : View) : Type 0 where
+  pub helped : Helped change v w
+  pub mine : w.who ≡ Caller number
+  pub row : ChangeRow
+  pub published : (now w).pieces change ≡ Some (Change row)
+  pub ready : IsReady w change row said
+
+-- it may decide the change by that word
+pub may_decide : (v : View) (change : ℕ) (m : MayHelp v change) (u : View) → Helped change v u
+    → (node : ℕ) → IsField u change change_node_offset node → (place : ℕ)
+    → place ≡ place_of_status node → (word : ℕ) (w : View)
+    → LoadedAs u (okay_of u change) place word w
+    → MayDecide change m.number (word == open_word) v w
+may_decide v change m u h node field place at word w l =
+    let more = okay_helped u change place word w l in
+    let all = helped_more change v u w h more in
+    let on = helped_row change u w more field.row field.published in
+    let same : node ≡ field.row.node = field_now u change change_node_offset node field
+            (λ r. r.node) (λ r. refl) field.row field.published in
+    record {
+      helped = all;
+      mine = helped_who change v w all ∙ m.mine;
+      row = on.0;
+      published = on.1;
+      ready = okay_ready u change place word w node on.0 at l on.1
+          (ap (λ x. x.node) on.2.others ∙ sym same);
+    }
+
+said_word : (b : Bool) → (decision_word b == decided_yes) ≡ b
+said_word true = refl
+said_word false = refl
+
+-- the event that the exchange of a decision names
+pub deciding_is : (v : View) (number change place new : ℕ) (said : Bool) → v.who ≡ Caller number
+    → place ≡ change → new ≡ decision_word said → deciding v place new ≡ Decide number change said
+deciding_is v number change place new said who at is =
+    ap (λ n. Decide n place (new == decided_yes)) (ap number_of who)
+    ∙ ap (λ b. Decide number b (new == decided_yes)) at
+    ∙ ap (Decide number change) (ap (λ n. n == decided_yes) is ∙ said_word said)
+
+-- ---- what the exchange of the decision tells
+
+-- a seat that exchanged the decision helped, and the change has the decision that stands
+pub decide_tells : (v : View) (change number : ℕ) (said : Bool) (place stood : ℕ) (w : View)
+    (row : ChangeRow) → (now v).pieces change ≡ Some (Change row)
+    → place ≡ change + change_decision_offset
+    → Exchanged v (Decide number change said) place undecided stood w
+    → Helped change v w × ((r : ChangeRow) × ((now w).pieces change ≡ Some (Change r))
+        × (r.decision ≡ standing (decision_word said) stood) × (r.decision ≢ undecided))
+decide_tells v change number said place stood w row there at x =
+    by_word (eqb_tells stood undecided)
+  where
+    said_set : (b : Bool) → decision_word b ≢ undecided
+    said_set true e = let one : ◌≡◌ {A = ℕ} 1 0 = e in omega arith
+    said_set false e = let two : ◌≡◌ {A = ℕ} 2 0 = e in omega arith
+
+    by_word : (((stood == undecided) ≡ true) × (stood ≡ undecided))
+        ⊎ (((stood == undecided) ≡ false) × (stood ≢ undecided))
+        → Helped change v w × ((r : ChangeRow) × ((now w).pieces change ≡ Some (Change r))
+        × (r.decision ≡ standing (decision_word said) stood) × (r.decision ≢ undecided))
+    by_word (inl k) =
+        let l : Logged v (Decide number change said) w = x.0 k.1 in
+        let helped = logged_helped change v (Decide number change said) w l refl refl in
+        let t = state_of v.start v.words l.before in
+        let can = (subst IsSound l.view l.sound).lawful.enabled.1 in
+        let is : now w ≡ state_of v.start v.words (Decide number change said ∷ l.before) =
+                helped_now change v w helped ∙ ap (λ y. state_of v.start v.words y.log) l.view in
+        let piece : (now w).pieces change
+                ≡ Some (Change record (can.change) { decision = decision_word said }) =
+                ap (λ u. u.pieces change) is
+                ∙ changed_at-same t.pieces change (with_decision (decision_word said))
+                ∙ ap (option_map (with_decision (decision_word said))) can.pending.published in
+        (helped, (record (can.change) { decision = decision_word said }, piece,
+            ap (λ b. if b then decision_word said else stood) (sym k.0), said_set said))
+    by_word (inr k) =
+        let l : Looked v place stood w = x.1 k.1 in
+        let helped = looked_helped change v place stood w l in
+        let on = helped_row change v w helped row there in
+        let same : stood ≡ on.0.decision = l.stood on.0.decision
+                (subst (λ p. IsShown (now w) p on.0.decision) (sym at)
+                (shown_row change (Change on.0) 0 on.1 refl)) in
+        (helped, (on.0, on.1, sym same
+            ∙ ap (λ b. if b then decision_word said else stood) (sym k.0),
+            (λ e. k.1 (same ∙ e))))
+
+-- ---- the answer
+
+-- a change whose decision isn't undecided is decided as the test of it says
+pub decided_as : (v : View) → IsSound v → (change : ℕ) (row : ChangeRow)
+    → (now v).pieces change ≡ Some (Change row) → row.decision ≢ undecided
+    → (said : Bool) → said ≡ (row.decision == decided_yes) → IsDecided v change said
+decided_as v s change row there set said is =
+    record { row = row; published = there; decision =
+        at (fate v.start v.words v.log s.lawful.enabled change row there) ∙ ap decision_word (sym is) }
+  where
+    at : HasFate v.start v.words v.log change row
+        → row.decision ≡ decision_word (row.decision == decided_yes)
+    at (inl e) = absurd (set e)
+    at (inr (inl e)) = e ∙ ap (λ d. decision_word (d == decided_yes)) (sym e)
+    at (inr (inr e)) = e.0 ∙ ap (λ d. decision_word (d == decided_yes)) (sym e.0)

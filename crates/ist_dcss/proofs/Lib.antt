@@ -1,0 +1,6 @@
+pub mod GoingLemmas
+pub mod OutcomeLemmas
+pub mod SlotPlaceLemmas
+pub mod FieldLemmas
+pub mod DecideLemmas
+pub mod ResolveLemmas

@@ -1,0 +1,285 @@
+-- Resolving: when it may be made, and what it tells. Serves `resolve`.
+use Rattle.std.proofs.Common.{◌≡◌, ◌≢◌, ℕ, ◌+◌, ◌*◌, ◌/◌, ◌⊎◌, ◌==◌, Bool, true, false, if◌then◌else◌, [], ◌∷◌, Some, refl, sym, ap, ap₂, ◌∙◌, subst, inl, inr, ⊎_elim, arith}
+use Rattle.std.proofs.lemmas.Bool.Decides.{eqb_tells}
+use Rattle.ist_core.specs.declared.states.ChangeRow.{ChangeRow}
+use Rattle.ist_core.specs.declared.events.Event.{Event}
+use Rattle.ist_core.specs.declared.events.Event.TheVariants.{Enter, Reserve, Install, Okay, Decide, Resolve, Count, Mark, Pass, Finish, Root, Draw, Place, Lose}
+use Rattle.ist_core.specs.References.{ChangeAt, word_of, tag_count}
+use Rattle.ist_core.specs.Statuses.{undecided, decided_yes}
+use Rattle.ist_core.specs.Pieces.{Change, as_change}
+use Rattle.ist_core.specs.Growing.{ChangeGrows}
+use Rattle.ist_core.specs.After.{side_of, decision_word}
+use Rattle.ist_core.specs.Logs.{Log, Happened, Resolves}
+use Rattle.ist_core.specs.Slots.{SlotHolds}
+use Rattle.ist_core.specs.Lawful.{state_of}
+use Rattle.ist_core.specs.Writing.{place_of_slot, touch_of_resolve}
+use Rattle.ist_core.proofs.FateLemmas.{grow_between}
+use Rattle.ist_links.proofs.ChangeLemmas.{unresolved_stands, yes_has_okay}
+use Rattle.ist_links.proofs.ResolvedLemmas.{resolved_gone}
+use Rattle.ist_rule.specs.declared.view.View.{View}
+use Rattle.ist_rule.specs.declared.view.Who.TheVariants.{Caller}
+use Rattle.ist_rule.specs.Shown.{IsShown}
+use Rattle.ist_rule.specs.Rule.{IsSound}
+use Rattle.ist_rule.specs.Learning.{now, Looked, Logged, Exchanged}
+use Rattle.ist_rule.specs.Conditions.{MayCome, CanExchange}
+use Rattle.ist_rule.specs.Watching.{number_of}
+use Rattle.ist_rule.proofs.LaterLemmas.{later-goes_on}
+use Rattle.ist_dcss.specs.Helping.{MayHelp, Helped, IsDecided, WasOpen, WasClosed, IsOut}
+use Rattle.ist_dcss.specs.Naming.{resolving, IsField, IsSlotOf, side_offset_of}
+use Rattle.ist_dcss.proofs.GoingLemmas.{looked_helped, logged_helped, helped_row, later_by-goes_on, helped_more, helped_who, helped_now, helped_lawful}
+use Rattle.ist_dcss.proofs.SlotPlaceLemmas.{change_slot, slot_later, slot_shown, shown_in_slot, slot_place_later}
+use Rattle.ist_dcss.proofs.FieldLemmas.{field_now}
+use Rattle.ist_dcss.proofs.OutcomeLemmas.{HasFate, fate, okay_seen}
+use Rattle.ist_dcss.proofs.DecideLemmas.{row_behind, number_low}
+
+-- an event resolves the change or doesn't
+resolves_now : (base : ℕ) (event : Event) → Resolves base event ⊎ ¬ (Resolves base event)
+resolves_now base (Resolve caller change) =
+    ⊎_elim (λ k. inl k.1) (λ k. inr k.1) (eqb_tells change base)
+resolves_now base (Enter caller) = inr (λ e. e)
+resolves_now base (Reserve caller b size) = inr (λ e. e)
+resolves_now base (Install caller change rows) = inr (λ e. e)
+resolves_now base (Okay caller change) = inr (λ e. e)
+resolves_now base (Decide caller change said) = inr (λ e. e)
+resolves_now base (Count caller node) = inr (λ e. e)
+resolves_now base (Mark caller node) = inr (λ e. e)
+resolves_now base (Pass caller node i word) = inr (λ e. e)
+resolves_now base (Finish caller node keys) = inr (λ e. e)
+resolves_now base (Root caller rebuild word rows) = inr (λ e. e)
+resolves_now base (Draw caller rebuild part) = inr (λ e. e)
+resolves_now base (Place caller rebuild i word rows) = inr (λ e. e)
+resolves_now base (Lose caller bases) = inr (λ e. e)
+
+-- the change was resolved or wasn't
+resolved_or_not : (base : ℕ) (log : Log) → Happened (Resolves base) log
+    ⊎ ¬ (Happened (Resolves base) log)
+resolved_or_not base [] = inr (λ e. e)
+resolved_or_not base (event ∷ log) =
+    ⊎_elim (λ k. inl (inl k))
+    (λ no. ⊎_elim (λ k. inl (inr k)) (λ none. inr (λ h. ⊎_elim no none h))
+        (resolved_or_not base log))
+    (resolves_now base event)
+
+-- a change that was resolved is out
+out : (v : View) → IsSound v → (change : ℕ) → Happened (Resolves change) v.log → IsOut v change
+out v s change h =
+    record { resolved = h; gone = resolved_gone v.start v.words s.lawful.opens v.log
+        s.lawful.enabled change h }
+
+-- a caller may take a decided change out of its slot, whatever others do meanwhile
+module _ (v : View) (s : IsSound v) (change number : ℕ) (mine : v.who ≡ Caller number)
+    (row : ChangeRow) (installed : (now v).pieces change ≡ Some (Change row)) where
+  -- the slot behind a log that may come
+  slot_behind : (log : Log) → MayCome v log
+      → (word : ℕ) × SlotHolds (state_of v.start v.words log) row.node row.index word
+  slot_behind log m =
+      let it = change_slot v.start v.words v.log s.lawful.enabled change row installed in
+      slot_later (now v) (state_of v.start v.words log)
+          (grow_between v.start v.words v.log log m.lawful.enabled (later-goes_on m.later)) row.node
+          row.index it.0 it.1
+
+  -- its place is the same
+  place_behind : (log : Log) (m : MayCome v log)
+      → place_of_slot (state_of v.start v.words log) row.node row.index
+          ≡ place_of_slot (now v) row.node row.index
+  place_behind log m =
+      let it = change_slot v.start v.words v.log s.lawful.enabled change row installed in
+      slot_place_later v.start v.words v.log log s.lawful.enabled m.lawful.enabled
+          (grow_between v.start v.words v.log log m.lawful.enabled (later-goes_on m.later)) row.node
+          row.index it.0 it.1
+
+  -- what the slot's word is once the change is decided
+  side_behind : row.decision ≢ undecided → (r : ChangeRow) → ChangeGrows row r → side_of r ≡ side_of row
+  side_behind set r g =
+      ap (λ d. if d == decided_yes then r.to else r.from) (g.decided set)
+      ∙ ap₂ (λ a b. if row.decision == decided_yes then a else b) (ap (λ x. x.to) g.others)
+          (ap (λ x. x.from) g.others)
+
+  pub can_resolve : row.decision ≢ undecided → (place old side : ℕ)
+      → place ≡ place_of_slot (now v) row.node row.index → old ≡ word_of (ChangeAt change)
+      → side ≡ side_of row → CanExchange v place old side (Resolve number change)
+  can_resolve set place old side at old_is side_is =
+      record {
+        make = record { mine = sym mine; stored = tt; allowed = tt };
+        known = λ log m.
+            let slot = slot_behind log m in
+            let u = state_of v.start v.words log in (
+              slot.0,
+              subst (λ p. IsShown u p slot.0) (place_behind log m ∙ sym at)
+                  (slot_shown v.start v.words log m.lawful.enabled row.node row.index slot.0 slot.1),
+            );
+        comes = λ log m shown.
+            let u = state_of v.start v.words log in
+            let r = row_behind v s change number mine row installed log m in
+            let slot = slot_behind log m in
+            let same : old ≡ slot.0 =
+                    shown_in_slot v.start v.words log m.lawful.enabled row.node row.index slot.0 old
+                    slot.1
+                    (subst (λ p. IsShown u p old) (at ∙ sym (place_behind log m)) shown) in
+            let holds : SlotHolds u row.node row.index (word_of (ChangeAt change)) =
+                    subst (SlotHolds u row.node row.index) (sym same ∙ old_is) slot.1 in
+            let node : r.0.node ≡ row.node = ap (λ x. x.node) r.2.others in
+            let index : r.0.index ≡ row.index = ap (λ x. x.index) r.2.others in
+            let place_is : place_of_slot u r.0.node r.0.index ≡ place =
+                    ap₂ (place_of_slot u) node index ∙ place_behind log m ∙ sym at in
+            record {
+              enabled = record {
+                known = number_low v s change number mine row installed log m;
+                change = r.0;
+                published = r.1;
+                decided = λ e. set (sym (r.2.decided set) ∙ e);
+                in_slot = subst (λ n. SlotHolds u n r.0.index (word_of (ChangeAt change)))
+                    (sym node) (subst (λ i. SlotHolds u row.node i (word_of (ChangeAt change)))
+                    (sym index) holds);
+              };
+              touches = ap (λ o. touch_of_resolve u change (as_change o)) r.1
+                  ∙ ap (λ p. Some record { place = p; found = word_of (ChangeAt change); left =
+                      side_of r.0 }) place_is
+                  ∙ ap₂ (λ f l. Some record { place = place; found = f; left = l }) (sym old_is)
+                      (side_behind set r.0 r.2 ∙ sym side_is);
+            };
+      }
+
+-- a seat that exchanged the slot helped, and the change is out
+pub resolve_tells : (v : View) (s : IsSound v) (change number place old found : ℕ) (w : View)
+    (row : ChangeRow) → (now v).pieces change ≡ Some (Change row)
+    → place ≡ place_of_slot (now v) row.node row.index → old ≡ word_of (ChangeAt change)
+    → Exchanged v (Resolve number change) place old found w
+    → Helped change v w × IsOut w change
+resolve_tells v s change number place old found w row there at old_is x =
+    ⊎_elim (λ k. hit k.1) (λ k. miss k.1) (eqb_tells found old)
+  where
+    hit : found ≡ old → Helped change v w × IsOut w change
+    hit e =
+        let l : Logged v (Resolve number change) w = x.0 e in
+        (logged_helped change v (Resolve number change) w l refl refl,
+            out w l.sound change (subst (Happened (Resolves change)) (sym (ap (λ y. y.log) l.view))
+            (inl refl)))
+
+    miss : found ≢ old → Helped change v w × IsOut w change
+    miss ne =
+        let l : Looked v place found w = x.1 ne in
+        let helped = looked_helped change v place found w l in
+        let on = helped_row change v w helped row there in
+        let node : on.0.node ≡ row.node = ap (λ y. y.node) on.2.others in
+        let index : on.0.index ≡ row.index = ap (λ y. y.index) on.2.others in
+        let was = change_slot v.start v.words v.log s.lawful.enabled change row there in
+        let moved : place_of_slot (now w) row.node row.index
+                ≡ place_of_slot (now v) row.node row.index =
+                ap (λ t. place_of_slot t row.node row.index) (helped_now change v w helped)
+                ∙ slot_place_later v.start v.words v.log w.log s.lawful.enabled
+                (helped_lawful change v w helped).enabled
+                (grow_between v.start v.words v.log w.log (helped_lawful change v w helped).enabled
+                    (later_by-goes_on helped.later))
+                row.node row.index was.0 was.1 in
+        (helped, ⊎_elim (λ h. out w l.sound change h)
+            (λ none.
+            let holds = unresolved_stands w.start w.words l.sound.lawful.opens w.log
+                    l.sound.lawful.enabled change on.0 on.1 none in
+            let shown = slot_shown w.start w.words w.log l.sound.lawful.enabled on.0.node
+                    on.0.index (word_of (ChangeAt change)) holds in
+            absurd (ne (l.stood (word_of (ChangeAt change))
+                (subst (λ p. IsShown (now w) p (word_of (ChangeAt change)))
+                (ap₂ (place_of_slot (now w)) node index ∙ moved ∙ sym at) shown) ∙ sym old_is)))
+            (resolved_or_not change w.log))
+
+-- ---- what a helper knows before the exchange
+
+-- the row is decided, its slot lies there, and this is the word that the slot gets
+pub record MayResolve (change number place side : ℕ) (v w : View) : Type 0 where
+  pub helped : Helped change v w
+  pub mine : w.who ≡ Caller number
+  pub row : ChangeRow
+  pub published : (now w).pieces change ≡ Some (Change row)
+  pub decided : row.decision ≢ undecided
+  pub at : place ≡ place_of_slot (now w) row.node row.index
+  pub side_is : side ≡ side_of row
+
+-- the word of a decision isn't undecided
+said_set : (b : Bool) → decision_word b ≢ undecided
+said_set true e = let one : ◌≡◌ {A = ℕ} 1 0 = e in omega arith
+said_set false e = let two : ◌≡◌ {A = ℕ} 2 0 = e in omega arith
+
+-- the word of a change that its decision leaves in the slot
+side_by : (v : View) (change side : ℕ) (said : Bool) → IsField v change (side_offset_of said) side
+    → (row : ChangeRow) → (now v).pieces change ≡ Some (Change row)
+    → row.decision ≡ decision_word said → side ≡ side_of row
+side_by v change side true field row there is =
+    field_now v change (side_offset_of true) side field (λ r. r.to) (λ r. refl) row there
+    ∙ sym (ap (λ d. if d == decided_yes then row.to else row.from) is)
+side_by v change side false field row there is =
+    field_now v change (side_offset_of false) side field (λ r. r.from) (λ r. refl) row there
+    ∙ sym (ap (λ d. if d == decided_yes then row.to else row.from) is)
+
+pub may_resolve : (v : View) (change : ℕ) (m : MayHelp v change) (said : Bool)
+    → IsDecided v change said → (u : View) → Helped change v u → (place : ℕ)
+    → IsSlotOf u change place → (w : View) → Helped change u w → IsSound u → (side : ℕ)
+    → IsField w change (side_offset_of said) side → MayResolve change m.number place side v w
+may_resolve v change m said d u h place slot w k s side field =
+    let all = helped_more change v u w h k in
+    let on = helped_row change v w all d.row d.published in
+    let more = helped_row change u w k slot.row slot.published in
+    let set : d.row.decision ≢ undecided = λ e. said_set said (sym d.decision ∙ e) in
+    let is : on.0.decision ≡ decision_word said = on.2.decided set ∙ d.decision in
+    let one : on.0 ≡ more.0 = same_row on.0 more.0 on.1 more.1 in
+    let node : more.0.node ≡ slot.row.node = ap (λ x. x.node) more.2.others in
+    let index : more.0.index ≡ slot.row.index = ap (λ x. x.index) more.2.others in
+    let was = change_slot u.start u.words u.log s.lawful.enabled change slot.row slot.published in
+    let moved : place_of_slot (now w) slot.row.node slot.row.index
+            ≡ place_of_slot (now u) slot.row.node slot.row.index =
+            ap (λ t. place_of_slot t slot.row.node slot.row.index) (helped_now change u w k)
+            ∙ slot_place_later u.start u.words u.log w.log s.lawful.enabled
+            (helped_lawful change u w k).enabled
+            (grow_between u.start u.words u.log w.log (helped_lawful change u w k).enabled
+                (later_by-goes_on k.later))
+            slot.row.node slot.row.index was.0 was.1 in
+    record {
+      helped = all;
+      mine = helped_who change v w all ∙ m.mine;
+      row = on.0;
+      published = on.1;
+      decided = λ e. said_set said (sym is ∙ e);
+      at = slot.at ∙ sym moved
+          ∙ sym (ap₂ (place_of_slot (now w)) (ap (λ x. x.node) one ∙ node)
+          (ap (λ x. x.index) one ∙ index));
+      side_is = side_by w change side said field on.0 on.1 is;
+    }
+  where
+    same_row : (a b : ChangeRow) → (now w).pieces change ≡ Some (Change a)
+        → (now w).pieces change ≡ Some (Change b) → a ≡ b
+    same_row a b e f = cc
+
+-- the event that the exchange of a slot names
+pub resolving_is : (v : View) (number change old : ℕ) → v.who ≡ Caller number
+    → old ≡ word_of (ChangeAt change) → resolving v (old / tag_count) ≡ Resolve number change
+resolving_is v number change old who is =
+    let number_is : old ≡ change * 8 + 3 = is in
+    let base : old / 8 ≡ change = omega arith in
+    ap₂ Resolve (ap number_of who) base
+
+-- ---- what a help tells
+
+-- a change that was decided so is so still
+pub decided_on : (change : ℕ) (v w : View) → Helped change v w → (said : Bool)
+    → IsDecided v change said → IsDecided w change said
+decided_on change v w h said d =
+    let on = helped_row change v w h d.row d.published in
+    record { row = on.0; published = on.1; decision =
+        on.2.decided (λ e. said_set said (sym d.decision ∙ e)) ∙ d.decision }
+
+-- where a change is decided yes its node was seen open
+pub yes_seen : (v : View) → IsSound v → (change : ℕ) → IsDecided v change true → WasOpen v change
+yes_seen v s change d =
+    okay_seen v.start v.words v.log s.lawful.enabled change
+        (yes_has_okay v.start v.words s.lawful.opens v.log s.lawful.enabled change d.row d.published
+        d.decision)
+
+-- where it is decided no its node was seen not to be open
+pub no_seen : (v : View) → IsSound v → (change : ℕ) → IsDecided v change false
+    → WasClosed v change
+no_seen v s change d = at (fate v.start v.words v.log s.lawful.enabled change d.row d.published)
+  where
+    at : HasFate v.start v.words v.log change d.row → WasClosed v change
+    at (inl e) = let two : ◌≡◌ {A = ℕ} 2 0 = sym d.decision ∙ e in absurd (omega arith)
+    at (inr (inl e)) = let two : ◌≡◌ {A = ℕ} 2 1 = sym d.decision ∙ e in absurd (omega arith)
+    at (inr (inr k)) = k.1

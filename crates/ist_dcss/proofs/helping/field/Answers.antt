@@ -1,0 +1,24 @@
+use Rattle.std.proofs.Common.{◌+◌, ap, arith}
+use Rattle.ist_core.specs.Pieces.{Change}
+use Rattle.ist_dcss.proofs.GoingLemmas.{looked_helped}
+use Rattle.ist_dcss.proofs.FieldLemmas.{row_low, looked_field}
+use Rattle.ist_dcss.proofs.helping.field.Goals as goal
+
+-- the row lies within the table
+pub load-requires-clause-within : goal.load-requires-clause-within
+load-requires-clause-within c =
+    let m = c.requires.may_help in
+    let low = (row_low _ c.know.ensures.sound c.args.change (Change m.row) m.installed c.args.offset
+            c.requires.within).0 in
+    let from = c.from.ensures in
+    let known = c.know.ensures.words in
+    let same = ap (λ t. t.words) c.requires.same_table in
+    omega arith
+
+pub returns-clause-helped : goal.returns-clause-helped
+returns-clause-helped c = looked_helped c.args.change _ _ _ _ c.load.ensures.looked
+
+pub returns-clause-field : goal.returns-clause-field
+returns-clause-field c =
+    looked_field _ _ _ _ c.load.ensures.looked c.args.change c.args.offset c.requires.may_help
+        c.requires.within (ap (λ n. n + c.args.offset) c.from.ensures)

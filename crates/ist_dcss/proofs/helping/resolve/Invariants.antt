@@ -1,0 +1,8 @@
+use Rattle.std.specs.Prelude.{◌/◌}
+use Rattle.ist_core.specs.References.{tag_count}
+use Rattle.ist_dcss.specs.Naming.{resolving}
+use Rattle.ist_dcss.proofs.helping.resolve.Given as goal
+
+-- the event is the Resolve of the change whose word is expected
+abbrev pub ghost-exchange : goal.ghost-exchange
+ghost-exchange a = resolving a.seat.now.view (a.old / tag_count)

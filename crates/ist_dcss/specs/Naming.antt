@@ -1,0 +1,50 @@
+-- How the exchanges of a helper are named, and what its own steps promise each other.
+use Rattle.std.specs.Prelude.{◌≡◌, ◌≢◌, ℕ, ◌==◌, Bool, true, false, if◌then◌else◌, slice_get, Some}
+use Rattle.ist_core.specs.declared.states.ChangeRow.{ChangeRow}
+use Rattle.ist_core.specs.declared.events.Event.{Event}
+use Rattle.ist_core.specs.declared.events.Event.TheVariants.{Decide, Resolve}
+use Rattle.ist_core.specs.RowLayout.{change_from_offset, change_to_offset}
+use Rattle.ist_core.specs.Statuses.{undecided, decided_yes}
+use Rattle.ist_core.specs.Pieces.{Change, words_of}
+use Rattle.ist_core.specs.Logs.{Happened, Okays}
+use Rattle.ist_core.specs.Slots.{IsOpen}
+use Rattle.ist_core.specs.Writing.{place_of_slot}
+use Rattle.ist_rule.specs.declared.view.View.{View}
+use Rattle.ist_rule.specs.Learning.{now}
+use Rattle.ist_rule.specs.Watching.{number_of}
+
+-- the Decide that an exchange of a decision is
+abbrev pub deciding : View → ℕ → ℕ → Event
+deciding v change word = Decide (number_of v.who) change (word == decided_yes)
+
+-- the Resolve that an exchange of a slot is
+abbrev pub resolving : View → ℕ → Event
+resolving v change = Resolve (number_of v.who) change
+
+-- what a Decide takes of the seat's log: that the change is decided already, or for yes an Okay,
+-- and for no that the node isn't open
+pub data IsReady (v : View) (change : ℕ) (row : ChangeRow) : Bool → Type 0 where
+  settled : {said : Bool} → row.decision ≢ undecided → IsReady v change row said
+  okayed : Happened (Okays change) v.log → IsReady v change row true
+  closed : ¬ (IsOpen (now v) row.node) → IsReady v change row false
+
+-- the place is that of the slot of a change that is installed in the seat's log
+pub record IsSlotOf (v : View) (change place : ℕ) : Type 0 where
+  pub row : ChangeRow
+  pub published : (now v).pieces change ≡ Some (Change row)
+  pub at : place ≡ place_of_slot (now v) row.node row.index
+
+-- the word stands so many places behind the base of a change that is installed in the seat's log
+pub record IsField (v : View) (change offset word : ℕ) : Type 0 where
+  pub row : ChangeRow
+  pub published : (now v).pieces change ≡ Some (Change row)
+  pub is : slice_get (words_of (Change row)) offset ≡ Some word
+
+-- the decision that stands where one was to be written, and the exchange found this word
+abbrev pub standing : ℕ → ℕ → ℕ
+standing wanted stood = if stood == undecided then wanted else stood
+
+-- which word of a change its slot gets once it is decided so
+abbrev pub side_offset_of : Bool → ℕ
+side_offset_of true = change_to_offset
+side_offset_of false = change_from_offset

@@ -1,0 +1,148 @@
+//! Deciding an installed change, and taking it out of its slot.
+ghost use Rattle.std.specs.Prelude.{◌≡◌, ◌<◌, ◌==◌};
+ghost use Rattle.ist_core.specs.RowLayout.{change_words};
+ghost use Rattle.ist_core.specs.Statuses.{open_word, decided_yes};
+ghost use Rattle.ist_core.specs.After.{decision_word};
+ghost use Rattle.ist_core.specs.Writing.{place_of_status};
+ghost use Rattle.ist_dcss.specs.declared.decisions.Decision.TheVariants.{Yes, No};
+ghost use Rattle.ist_dcss.specs.Helping.{MayHelp, Helped, is_yes, IsDecided};
+ghost use Rattle.ist_dcss.specs.Helping.{WasOpen, WasClosed, IsOut};
+ghost use Rattle.ist_dcss.specs.Naming.{standing, side_offset_of, IsField, IsSlotOf};
+
+use crate::decisions::Decision;
+use ist_layout::{
+    ANCHOR, ANCHOR_SLOT_PLACE, ANCHOR_STATUS_PLACE, CHANGE_DECISION_OFFSET, CHANGE_FROM_OFFSET,
+    CHANGE_INDEX_OFFSET, CHANGE_NODE_OFFSET, CHANGE_TO_OFFSET, DECIDED_NO, DECIDED_YES,
+    INNER_DEGREE_OFFSET, Ref, UNDECIDED, slot_place,
+};
+use ist_rule::{TreeSeat, TreeTable, exchange, know, load, load_okay};
+
+// Where the status of the node lies.
+fn status_place(node: u64) -> u64
+    ensures value { result ≡ place_of_status node }
+{
+    if node == u64::from(ANCHOR) {
+        ANCHOR_STATUS_PLACE
+    } else {
+        node
+    }
+}
+
+// How a change is to be decided where its node had this status.
+fn decision_for(status: u64) -> u64
+    ensures value { result ≡ decision_word (status == open_word) }
+{
+    if status == 0 { DECIDED_YES } else { DECIDED_NO }
+}
+
+// The decision that stands where this one was to be written, and the exchange found `stood`.
+fn decision_of(wanted: u64, stood: u64) -> Decision
+    ensures value { is_yes result ≡ (standing wanted stood == decided_yes) }
+{
+    let decision = if stood == UNDECIDED { wanted } else { stood };
+    if decision == DECIDED_YES {
+        Decision::Yes
+    } else {
+        Decision::No
+    }
+}
+
+// Which word of the change its slot gets once it is decided so.
+fn side_offset(decision: Decision) -> u64
+    ensures value { result ≡ side_offset_of (is_yes decision) }
+    ensures within { result < change_words }
+{
+    match decision {
+        Decision::Yes => CHANGE_TO_OFFSET,
+        Decision::No => CHANGE_FROM_OFFSET,
+    }
+}
+
+// A word of the change's row.
+fn field(table: &TreeTable, seat: &mut TreeSeat, change: u32, offset: u64) -> u64
+    requires same_table { seat.old.table ≡ table.now.table }
+    requires may_help { MayHelp seat.old.view change }
+    requires within { offset < change_words }
+    ensures same_table { seat.new.table ≡ seat.old.table }
+    ensures helped { Helped change seat.old.view seat.new.view }
+    ensures field { IsField seat.new.view change offset result }
+{
+    know(seat);
+    load(table, seat, u64::from(change) + offset)
+}
+
+// Looks at the node, decides the change by what it saw, and answers the decision that stands.
+fn decide(table: &TreeTable, seat: &mut TreeSeat, change: u32) -> Decision
+    requires same_table { seat.old.table ≡ table.now.table }
+    requires may_help { MayHelp seat.old.view change }
+    ensures same_table { seat.new.table ≡ seat.old.table }
+    ensures helped { Helped change seat.old.view seat.new.view }
+    ensures decided { IsDecided seat.new.view change (is_yes result) }
+{
+    let node = field(table, seat, change, CHANGE_NODE_OFFSET);
+    let status = load_okay(table, seat, change, status_place(node));
+    know(seat);
+    let wanted = decision_for(status);
+    let stood = exchange(
+        table,
+        seat,
+        u64::from(change) + CHANGE_DECISION_OFFSET,
+        UNDECIDED,
+        wanted,
+    );
+    decision_of(wanted, stood)
+}
+
+// Where the slot of the change lies.
+fn slot_of(table: &TreeTable, seat: &mut TreeSeat, change: u32) -> u64
+    requires same_table { seat.old.table ≡ table.now.table }
+    requires may_help { MayHelp seat.old.view change }
+    ensures same_table { seat.new.table ≡ seat.old.table }
+    ensures helped { Helped change seat.old.view seat.new.view }
+    ensures slot { IsSlotOf seat.new.view change result }
+{
+    let node = field(table, seat, change, CHANGE_NODE_OFFSET);
+    if node == u64::from(ANCHOR) {
+        return ANCHOR_SLOT_PLACE;
+    }
+    let index = field(table, seat, change, CHANGE_INDEX_OFFSET);
+    know(seat);
+    let degree = load(table, seat, node + INNER_DEGREE_OFFSET);
+    slot_place(node as u32, degree, index)
+}
+
+// Takes a decided change out of its slot, if no one has done so.
+fn resolve(table: &TreeTable, seat: &mut TreeSeat, change: u32, decision: Decision)
+    requires same_table { seat.old.table ≡ table.now.table }
+    requires may_help { MayHelp seat.old.view change }
+    requires decided { IsDecided seat.old.view change (is_yes decision) }
+    ensures same_table { seat.new.table ≡ seat.old.table }
+    ensures helped { Helped change seat.old.view seat.new.view }
+    ensures out { IsOut seat.new.view change }
+{
+    let place = slot_of(table, seat, change);
+    let side = field(table, seat, change, side_offset(decision));
+    know(seat);
+    let word = Ref::Change { base: change }.to_word();
+    exchange(table, seat, place, word, side);
+}
+
+/// Decides an installed change, if no one has, takes it out of its slot, and answers how it was
+/// decided.
+///
+/// Yes comes only where its node was open at a step behind the installing, and No only where the
+/// node wasn't open at one. Takes a bounded number of steps.
+pub fn help(table: &TreeTable, seat: &mut TreeSeat, change: u32) -> Decision
+    requires same_table { seat.old.table ≡ table.now.table }
+    requires may_help { MayHelp seat.old.view change }
+    ensures same_table { seat.new.table ≡ seat.old.table }
+    ensures helped { Helped change seat.old.view seat.new.view }
+    ensures decided { IsDecided seat.new.view change (is_yes result) }
+    ensures yes { result ≡ Yes → WasOpen seat.new.view change }
+    ensures no { result ≡ No → WasClosed seat.new.view change }
+    ensures out { IsOut seat.new.view change }
+{
+    let decision = decide(table, seat, change);
+    resolve(table, seat, change, decision);
+    decision
+}
