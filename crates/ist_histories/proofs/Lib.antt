@@ -34,8 +34,13 @@ pub mod WordLemmas
 pub mod RefusedExampleLemmas
 pub mod CallExampleLemmas
 pub mod SearchExampleLemmas
+pub mod HeldExampleLemmas
+pub mod ReadyExampleLemmas
 pub mod BusyExampleLemmas
+pub mod QuietExampleLemmas
 pub mod DueExampleLemmas
+pub mod LeftExampleLemmas
 pub mod RootedExampleLemmas
+pub mod TopExampleLemmas
 pub mod ParentExampleLemmas
 pub mod UnseenExampleLemmas
