@@ -44,3 +44,9 @@ pub mod RootedExampleLemmas
 pub mod TopExampleLemmas
 pub mod ParentExampleLemmas
 pub mod UnseenExampleLemmas
+pub mod EventTestLemmas
+pub mod ShareExampleLemmas
+pub mod ShareRootExampleLemmas
+pub mod ShareRowExampleLemmas
+pub mod SharePlaceExampleLemmas
+pub mod SharedExampleLemmas
