@@ -1,73 +1,18 @@
--- A row is due behind eight puts. Serves `examples.a_finish_too_late_is_refused`.
-use Rattle.std.proofs.Common.{◌≡◌, ℕ, ◌+◌, true, [], ◌∷◌, Option, Some, None, refl, inl, inr, subst, sym, arith}
-use Rattle.ist_core.specs.declared.states.ChangeRow.{ChangeRow}
-use Rattle.ist_core.specs.declared.events.Event.TheVariants.{Enter, Okay, Decide}
+-- A row is due behind eight puts. Serves `examples`.
+use Rattle.std.proofs.Common.{[], ◌∷◌, refl, arith}
+use Rattle.ist_core.specs.declared.events.Event.TheVariants.{Enter}
 use Rattle.ist_core.specs.Arithmetic.{degree, square_root, root_up_to, part_len, part_lens}
 use Rattle.ist_core.specs.Shapes.{ideal_words, ideal_words_within}
-use Rattle.ist_core.specs.References.{ChangeAt, ref_of, word_of}
-use Rattle.ist_core.specs.Elements.{Among}
-use Rattle.ist_core.specs.RowLayout.{first_row}
-use Rattle.ist_core.specs.Pieces.{Piece, Leaf, Inner, Change, Rebuild, as_change, counted, with_slot, with_decision}
-use Rattle.ist_core.specs.Snapshots.{Snapshot}
-use Rattle.ist_core.specs.StartLayout.{rows_within, rows_from}
-use Rattle.ist_core.specs.After.{resolved, side_of}
+use Rattle.ist_core.specs.References.{ref_of}
+use Rattle.ist_core.specs.StartLayout.{rows_within}
 use Rattle.ist_core.specs.Logs.{Log, state}
 use Rattle.ist_core.specs.Enabled.{CanEnter}
 use Rattle.ist_core.specs.Lawful.{EachEnabled}
-use Rattle.ist_core.proofs.PieceLemmas.{among-pieces_of}
-use Rattle.ist_core.proofs.RefusalLemmas.{NotRefused, NoneRefused, none_refused-with_row, none_refused-changed_at, slot_keeps, yes_keeps}
-use Rattle.ist_histories.specs.ExampleRebuilds.{three_pairs, again_installed, put_again, both_entered, four_puts, eight_puts}
-use Rattle.ist_histories.proofs.BusyExampleLemmas.{three, ten, again, put_enabled}
-
--- ---- no change is refused
-
--- a count refuses nothing
-count_keeps : (p : Piece) → NotRefused p → NotRefused (counted p)
-unfolding NotRefused
-count_keeps (Leaf r) h = h
-count_keeps (Inner r) h = h
-count_keeps (Change r) h = h
-count_keeps (Rebuild r) h = h
-
--- what leaves a slot refuses nothing
-pub resolve_keeps : (t : Snapshot) (o : Option ChangeRow) → NoneRefused t.pieces
-    → NoneRefused (resolved t o).pieces
-resolve_keeps t None none = none
-resolve_keeps t (Some change) none =
-    none_refused-changed_at _ change.node (with_slot change.index (side_of change))
-    (slot_keeps change.index (side_of change)) none
-
--- a put refuses nothing
-put_keeps : (log : Log) (leaf from to : ℕ) → NoneRefused (state three log).pieces
-    → NoneRefused (state three (put_again leaf (leaf + 2) from to log)).pieces
-unfolding NotRefused
-put_keeps log leaf from to none =
-    let change = leaf + 2 in
-    let with_leaf = none_refused-with_row _ leaf (Leaf ten) tt none in
-    let with_change =
-        none_refused-with_row _ change (Change (again from to 0)) (λ e. omega arith) with_leaf
-    in
-    let word = word_of (ChangeAt change) in
-    let standing = none_refused-changed_at _ 11 (with_slot 0 word) (slot_keeps 0 word) with_change in
-    let t = state three (Decide 0 change true ∷ Okay 0 change ∷ again_installed leaf change from to log) in
-    let decided = none_refused-changed_at _ change (with_decision 1) yes_keeps standing in
-    let out = resolve_keeps t (as_change (t.pieces change)) decided in
-    none_refused-changed_at _ 11 counted count_keeps out
-
--- no change is refused at the start
-at_opening : NoneRefused three.pieces
-unfolding NotRefused rows_within degree square_root root_up_to part_len part_lens ideal_words ideal_words_within
-at_opening base p e = by_row (among-pieces_of (rows_from first_row three_pairs) base p e)
-  where
-    by_row : Among (base, p) (rows_from first_row three_pairs) → NotRefused p
-    by_row (inl e) = subst (λ row. NotRefused row.1) (sym e) tt
-    by_row (inr (inl e)) = subst (λ row. NotRefused row.1) (sym e) tt
-    by_row (inr (inr (inl e))) = subst (λ row. NotRefused row.1) (sym e) tt
-    by_row (inr (inr (inr (inl e)))) = subst (λ row. NotRefused row.1) (sym e) tt
-    by_row (inr (inr (inr (inr (inl e))))) = subst (λ row. NotRefused row.1) (sym e) tt
-    by_row (inr (inr (inr (inr (inr e))))) = absurd e
-
--- ---- put by put
+use Rattle.ist_core.proofs.RefusalLemmas.{NoneRefused}
+use Rattle.ist_histories.specs.ExampleRebuilds.{put_again, both_entered, four_puts, eight_puts}
+use Rattle.ist_histories.proofs.ReadyExampleLemmas.{three}
+use Rattle.ist_histories.proofs.BusyExampleLemmas.{put_enabled}
+use Rattle.ist_histories.proofs.QuietExampleLemmas.{put_keeps, at_opening}
 
 -- caller 0 enters
 first_entered : CanEnter three 0
@@ -110,8 +55,25 @@ one_put_enabled : EachEnabled three one_put
 unfolding ref_of rows_within degree square_root root_up_to part_len part_lens ideal_words ideal_words_within
 one_put_enabled =
     put_enabled both_entered 24 145 193 18 0
-    record { callers = refl; next = refl; words = refl; held = refl; anchor = refl; top_row = refl; left_row = refl; old_is = refl; old_leaf = refl }
-    record { change = refl; row = refl; decided = refl; stands = refl; resolved = refl; callers = refl }
+    record {
+      callers = refl;
+      next = refl;
+      words = refl;
+      held = refl;
+      anchor = refl;
+      top_row = refl;
+      left_row = refl;
+      old_is = refl;
+      old_leaf = refl;
+    }
+    record {
+      change = refl;
+      row = refl;
+      decided = refl;
+      stands = refl;
+      resolved = refl;
+      callers = refl;
+    }
     (omega arith) refl at_opening entered
 
 -- and refuses nothing
@@ -123,8 +85,25 @@ two_puts_enabled : EachEnabled three two_puts
 unfolding ref_of rows_within degree square_root root_up_to part_len part_lens ideal_words ideal_words_within
 two_puts_enabled =
     put_enabled one_put 35 193 281 24 1
-    record { callers = refl; next = refl; words = refl; held = refl; anchor = refl; top_row = refl; left_row = refl; old_is = refl; old_leaf = refl }
-    record { change = refl; row = refl; decided = refl; stands = refl; resolved = refl; callers = refl }
+    record {
+      callers = refl;
+      next = refl;
+      words = refl;
+      held = refl;
+      anchor = refl;
+      top_row = refl;
+      left_row = refl;
+      old_is = refl;
+      old_leaf = refl;
+    }
+    record {
+      change = refl;
+      row = refl;
+      decided = refl;
+      stands = refl;
+      resolved = refl;
+      callers = refl;
+    }
     (omega arith) refl one_put_refuse one_put_enabled
 
 -- and refuses nothing
@@ -136,8 +115,25 @@ three_puts_enabled : EachEnabled three three_puts
 unfolding ref_of rows_within degree square_root root_up_to part_len part_lens ideal_words ideal_words_within
 three_puts_enabled =
     put_enabled two_puts 46 281 369 35 2
-    record { callers = refl; next = refl; words = refl; held = refl; anchor = refl; top_row = refl; left_row = refl; old_is = refl; old_leaf = refl }
-    record { change = refl; row = refl; decided = refl; stands = refl; resolved = refl; callers = refl }
+    record {
+      callers = refl;
+      next = refl;
+      words = refl;
+      held = refl;
+      anchor = refl;
+      top_row = refl;
+      left_row = refl;
+      old_is = refl;
+      old_leaf = refl;
+    }
+    record {
+      change = refl;
+      row = refl;
+      decided = refl;
+      stands = refl;
+      resolved = refl;
+      callers = refl;
+    }
     (omega arith) refl two_puts_refuse two_puts_enabled
 
 -- and refuses nothing
@@ -149,8 +145,25 @@ four_puts_enabled : EachEnabled three four_puts
 unfolding ref_of rows_within degree square_root root_up_to part_len part_lens ideal_words ideal_words_within
 four_puts_enabled =
     put_enabled three_puts 57 369 457 46 3
-    record { callers = refl; next = refl; words = refl; held = refl; anchor = refl; top_row = refl; left_row = refl; old_is = refl; old_leaf = refl }
-    record { change = refl; row = refl; decided = refl; stands = refl; resolved = refl; callers = refl }
+    record {
+      callers = refl;
+      next = refl;
+      words = refl;
+      held = refl;
+      anchor = refl;
+      top_row = refl;
+      left_row = refl;
+      old_is = refl;
+      old_leaf = refl;
+    }
+    record {
+      change = refl;
+      row = refl;
+      decided = refl;
+      stands = refl;
+      resolved = refl;
+      callers = refl;
+    }
     (omega arith) refl three_puts_refuse three_puts_enabled
 
 -- and refuses nothing
@@ -162,8 +175,25 @@ five_puts_enabled : EachEnabled three five_puts
 unfolding ref_of rows_within degree square_root root_up_to part_len part_lens ideal_words ideal_words_within
 five_puts_enabled =
     put_enabled four_puts 68 457 545 57 4
-    record { callers = refl; next = refl; words = refl; held = refl; anchor = refl; top_row = refl; left_row = refl; old_is = refl; old_leaf = refl }
-    record { change = refl; row = refl; decided = refl; stands = refl; resolved = refl; callers = refl }
+    record {
+      callers = refl;
+      next = refl;
+      words = refl;
+      held = refl;
+      anchor = refl;
+      top_row = refl;
+      left_row = refl;
+      old_is = refl;
+      old_leaf = refl;
+    }
+    record {
+      change = refl;
+      row = refl;
+      decided = refl;
+      stands = refl;
+      resolved = refl;
+      callers = refl;
+    }
     (omega arith) refl four_puts_refuse four_puts_enabled
 
 -- and refuses nothing
@@ -175,8 +205,25 @@ six_puts_enabled : EachEnabled three six_puts
 unfolding ref_of rows_within degree square_root root_up_to part_len part_lens ideal_words ideal_words_within
 six_puts_enabled =
     put_enabled five_puts 79 545 633 68 5
-    record { callers = refl; next = refl; words = refl; held = refl; anchor = refl; top_row = refl; left_row = refl; old_is = refl; old_leaf = refl }
-    record { change = refl; row = refl; decided = refl; stands = refl; resolved = refl; callers = refl }
+    record {
+      callers = refl;
+      next = refl;
+      words = refl;
+      held = refl;
+      anchor = refl;
+      top_row = refl;
+      left_row = refl;
+      old_is = refl;
+      old_leaf = refl;
+    }
+    record {
+      change = refl;
+      row = refl;
+      decided = refl;
+      stands = refl;
+      resolved = refl;
+      callers = refl;
+    }
     (omega arith) refl five_puts_refuse five_puts_enabled
 
 -- and refuses nothing
@@ -188,8 +235,25 @@ seven_puts_enabled : EachEnabled three seven_puts
 unfolding ref_of rows_within degree square_root root_up_to part_len part_lens ideal_words ideal_words_within
 seven_puts_enabled =
     put_enabled six_puts 90 633 721 79 6
-    record { callers = refl; next = refl; words = refl; held = refl; anchor = refl; top_row = refl; left_row = refl; old_is = refl; old_leaf = refl }
-    record { change = refl; row = refl; decided = refl; stands = refl; resolved = refl; callers = refl }
+    record {
+      callers = refl;
+      next = refl;
+      words = refl;
+      held = refl;
+      anchor = refl;
+      top_row = refl;
+      left_row = refl;
+      old_is = refl;
+      old_leaf = refl;
+    }
+    record {
+      change = refl;
+      row = refl;
+      decided = refl;
+      stands = refl;
+      resolved = refl;
+      callers = refl;
+    }
     (omega arith) refl six_puts_refuse six_puts_enabled
 
 -- and refuses nothing
@@ -201,8 +265,25 @@ pub eight_puts_enabled : EachEnabled three eight_puts
 unfolding ref_of rows_within degree square_root root_up_to part_len part_lens ideal_words ideal_words_within
 eight_puts_enabled =
     put_enabled seven_puts 101 721 809 90 7
-    record { callers = refl; next = refl; words = refl; held = refl; anchor = refl; top_row = refl; left_row = refl; old_is = refl; old_leaf = refl }
-    record { change = refl; row = refl; decided = refl; stands = refl; resolved = refl; callers = refl }
+    record {
+      callers = refl;
+      next = refl;
+      words = refl;
+      held = refl;
+      anchor = refl;
+      top_row = refl;
+      left_row = refl;
+      old_is = refl;
+      old_leaf = refl;
+    }
+    record {
+      change = refl;
+      row = refl;
+      decided = refl;
+      stands = refl;
+      resolved = refl;
+      callers = refl;
+    }
     (omega arith) refl seven_puts_refuse seven_puts_enabled
 
 -- and refuses nothing

@@ -1,147 +1,48 @@
--- The finish of a rebuild below a marked row is decided no. Serves `examples.a_finish_too_late_is_refused`.
-use Rattle.std.proofs.Common.{◌≡◌, ℕ, zero, suc, ◌≢◌, true, false, [], ◌∷◌, replicate, slice_get, Some, refl, inl, inr, ap, ◌∙◌, arith}
+-- The finish of a rebuild below a marked row is decided no. Serves `examples`.
+use Rattle.std.proofs.Common.{◌≡◌, ℕ, zero, suc, ◌≢◌, false, [], ◌∷◌, replicate, slice_get, Some, refl, inl, ap, ◌∙◌, arith}
 use Rattle.ist_core.specs.declared.commands.Command.TheVariants.{Put}
 use Rattle.ist_core.specs.declared.states.LeafRow.{LeafRow}
 use Rattle.ist_core.specs.declared.states.InnerRow.{InnerRow}
 use Rattle.ist_core.specs.declared.states.ChangeRow.{ChangeRow}
-use Rattle.ist_core.specs.declared.states.RebuildRow.{RebuildRow}
-use Rattle.ist_core.specs.declared.events.Event.{Event}
-use Rattle.ist_core.specs.declared.events.Event.TheVariants.{Reserve, Okay, Decide, Mark}
+use Rattle.ist_core.specs.declared.events.Event.TheVariants.{Decide, Mark}
 use Rattle.ist_core.specs.Arithmetic.{degree, square_root, root_up_to, part_len, part_lens}
 use Rattle.ist_core.specs.Shapes.{ideal_words, ideal_words_within}
 use Rattle.ist_core.specs.References.{InnerAt, ref_of}
-use Rattle.ist_core.specs.Statuses.{start_kind, finish_kind}
-use Rattle.ist_core.specs.Pieces.{Inner, Change, Rebuild, with_slot, with_status, with_decision, with_root}
+use Rattle.ist_core.specs.Statuses.{finish_kind}
+use Rattle.ist_core.specs.Pieces.{Inner, Change, Rebuild, with_slot, with_status, with_decision}
 use Rattle.ist_core.specs.StartLayout.{rows_within}
-use Rattle.ist_core.specs.Logs.{state, Log, Happened, Okays}
+use Rattle.ist_core.specs.Logs.{state}
 use Rattle.ist_core.specs.Slots.{SlotHolds, IsOpen, in_anchor, in_row, anchor_is, row_is}
 use Rattle.ist_core.specs.Links.{IsChild, at_anchor, below}
 use Rattle.ist_core.specs.Leaves.{leaf_here, row_here, no_slot, one_slot, HasContents}
 use Rattle.ist_core.specs.Rebuilding.{IsStarted}
-use Rattle.ist_core.specs.Installing.{CanInstall, a_start, a_finish}
-use Rattle.ist_core.specs.Deciding.{CanOkay, CanDecide, CanResolve}
-use Rattle.ist_core.specs.Marking.{CanMark, as_target}
+use Rattle.ist_core.specs.Installing.{CanInstall, a_finish}
+use Rattle.ist_core.specs.Deciding.{CanDecide, CanResolve}
 use Rattle.ist_core.specs.Enabled.{CanReserve}
 use Rattle.ist_core.specs.Changes.{changes_of}
 use Rattle.ist_core.specs.Lawful.{Lawful}
-use Rattle.ist_core.proofs.RefusalLemmas.{NotRefused, NoneRefused, none_refused-with_row, none_refused-changed_at, slot_keeps, status_keeps, yes_keeps, root_keeps}
-use Rattle.ist_histories.specs.ExampleRebuilds.{three_pairs, put_again, both_entered, four_puts, eight_puts, left_started, left_rooted, top_rows, top_installed, top_started, top_marked, left_finish_rows, left_finish_installed, left_refused}
-use Rattle.ist_histories.proofs.BusyExampleLemmas.{three, three_open, ten, left, top}
-use Rattle.ist_histories.proofs.DueExampleLemmas.{eight_puts_refuse}
-use Rattle.ist_histories.proofs.RootedExampleLemmas.{rebuild_fair, change_fair, start_fair, the_start, the_rebuild, twenty, new_left, left_rooted_enabled}
-
--- ---- the rebuild of the top row
-
--- its start, with a decision
-abbrev top_start : ℕ → ChangeRow
-top_start decision =
-    record { decision = decision; kind = start_kind; node = 2; index = 0; from = 34; to = 1068; owner = 1; key = 0; value = 0 }
-
--- the rebuild
-abbrev top_rebuild : RebuildRow
-top_rebuild = record { target = 4; parent = 2; index = 0; root = 7; draw = 0 }
-
--- no change was refused until the left rebuild has its root
-rooted_refuse : NoneRefused (state three left_rooted).pieces
-unfolding NotRefused
-rooted_refuse =
-    let with_rebuild = none_refused-with_row _ 112 (Rebuild (the_rebuild 7)) tt eight_puts_refuse in
-    let installed =
-        none_refused-with_row _ 117 (Change (the_start 0)) (λ e. omega arith) with_rebuild
-    in
-    let standing = none_refused-changed_at _ 4 (with_slot 0 939) (slot_keeps 0 939) installed in
-    let decided = none_refused-changed_at _ 117 (with_decision 1) yes_keeps standing in
-    let started = none_refused-changed_at _ 4 (with_slot 0 900) (slot_keeps 0 900) decided in
-    let marked = none_refused-changed_at _ 11 (with_status 1) (status_keeps 1) started in
-    let finished = none_refused-changed_at _ 11 (with_status 11) (status_keeps 11) marked in
-    let with_new = none_refused-with_row _ 126 (Inner new_left) tt finished in
-    none_refused-changed_at _ 112 (with_root 1010) (root_keeps 1010) with_new
-
--- the row of the rebuild may be reserved
-rebuild_reserved : CanReserve (state three left_rooted) 1 133 5
-unfolding ref_of rows_within degree square_root root_up_to part_len part_lens ideal_words ideal_words_within
-rebuild_reserved =
-    record { known = omega arith; base_is = refl; room = omega arith; fair = rebuild_fair _ }
-
--- so may the row of the start
-start_reserved : CanReserve (state three (Reserve 1 133 5 ∷ left_rooted)) 1 138 9
-unfolding ref_of rows_within degree square_root root_up_to part_len part_lens ideal_words ideal_words_within
-start_reserved =
-    record { known = omega arith; base_is = refl; room = omega arith; fair = start_fair _ }
-
--- the start is installed
-start_installed : CanInstall three (Reserve 1 138 9 ∷ Reserve 1 133 5 ∷ left_rooted) 1 138 top_rows
-unfolding NotRefused ref_of rows_within degree square_root root_up_to part_len part_lens ideal_words ideal_words_within
-start_installed =
-    record {
-      known = omega arith;
-      change = top_start 0;
-      fresh = record { base = 133; words = 4 ∷ 2 ∷ 0 ∷ 7 ∷ 0 ∷ [] } ∷ [];
-      rows_are = refl;
-      held = (inr (inl refl), (inl refl, tt));
-      owned = refl;
-      unset = refl;
-      in_slot = in_anchor refl refl refl;
-      linked = inl at_anchor;
-      unrefused = λ base earlier e _ _. rooted_refuse base (Change earlier) e;
-      fits =
-          a_start record {
-            kind = refl;
-            key = refl;
-            value = refl;
-            target = 4;
-            row = top 0 900;
-            from = refl;
-            published = refl;
-            due = inr refl;
-            rebuild = 133;
-            to = refl;
-            fresh_are = refl;
-          };
-    }
-
--- the anchor is open
-start_okayed : CanOkay (state three top_installed) 1 138
-unfolding ref_of rows_within degree square_root root_up_to part_len part_lens ideal_words ideal_words_within
-start_okayed =
-    record { known = omega arith; change = top_start 0; pending = record { published = refl; unset = refl }; node_open = anchor_is refl }
-
--- the start is decided
-start_decided : CanDecide (state three (Okay 1 138 ∷ top_installed)) (Okay 1 138 ∷ top_installed) 1 138 true
-unfolding ref_of rows_within degree square_root root_up_to part_len part_lens ideal_words ideal_words_within
-start_decided =
-    record { known = omega arith; change = top_start 0; pending = record { published = refl; unset = refl }; outcome = inl refl }
-
--- and leaves the slot
-start_resolved : CanResolve (state three (Decide 1 138 true ∷ Okay 1 138 ∷ top_installed)) 1 138
-unfolding ref_of rows_within degree square_root root_up_to part_len part_lens ideal_words ideal_words_within
-start_resolved =
-    record { known = omega arith; change = top_start 1; published = refl; decided = λ e. omega arith; in_slot = in_anchor refl refl refl }
-
--- so the rebuild of the top row is started
-top_is_started : IsStarted (state three top_started) 133
-unfolding ref_of rows_within degree square_root root_up_to part_len part_lens ideal_words ideal_words_within
-top_is_started =
-    record { base = 138; change = top_start 1; published = refl; kind = refl; decision = refl; to = refl }
-
--- and the top row may be marked
-top_is_marked : CanMark (state three top_started) top_started 1 4
-unfolding ref_of rows_within degree square_root root_up_to part_len part_lens ideal_words ideal_words_within
-top_is_marked =
-    record {
-      known = omega arith;
-      row = top 0 900;
-      published = refl;
-      row_open = refl;
-      called = as_target 133 record { row = top_rebuild; published = refl; target_is = refl } top_is_started;
-    }
-
--- ---- the finish of the left rebuild
+use Rattle.ist_core.proofs.RefusalLemmas.{NotRefused, NoneRefused, none_refused-with_row, none_refused-changed_at, slot_keeps, status_keeps, yes_keeps}
+use Rattle.ist_histories.specs.ExampleRebuilds.{three_pairs, top_started, top_marked, left_finish_rows, left_finish_installed, left_refused}
+use Rattle.ist_histories.proofs.ReadyExampleLemmas.{three, three_open, ten, left, top}
+use Rattle.ist_histories.proofs.HeldExampleLemmas.{change_fair}
+use Rattle.ist_histories.proofs.LeftExampleLemmas.{the_start, the_rebuild}
+use Rattle.ist_histories.proofs.RootedExampleLemmas.{twenty, new_left}
+use Rattle.ist_histories.proofs.TopExampleLemmas.{top_start, top_rebuild, rooted_refuse, top_enabled}
 
 -- the finish, with a decision
 abbrev the_finish : ℕ → ChangeRow
 the_finish decision =
-    record { decision = decision; kind = finish_kind; node = 4; index = 0; from = 900; to = 1010; owner = 0; key = 0; value = 0 }
+    record {
+      decision = decision;
+      kind = finish_kind;
+      node = 4;
+      index = 0;
+      from = 900;
+      to = 1010;
+      owner = 0;
+      key = 0;
+      value = 0;
+    }
 
 -- its row may be reserved
 finish_reserved : CanReserve (state three (Mark 1 4 ∷ top_started)) 0 147 9
@@ -155,7 +56,7 @@ unfolding NotRefused
 marked_refuse =
     let with_rebuild = none_refused-with_row _ 133 (Rebuild top_rebuild) tt rooted_refuse in
     let installed =
-        none_refused-with_row _ 138 (Change (top_start 0)) (λ e. omega arith) with_rebuild
+    none_refused-with_row _ 138 (Change (top_start 0)) (λ e. omega arith) with_rebuild
     in
     let standing = none_refused-changed_at _ 2 (with_slot 0 1107) (slot_keeps 0 1107) installed in
     let decided = none_refused-changed_at _ 138 (with_decision 1) yes_keeps standing in
@@ -166,7 +67,14 @@ marked_refuse =
 left_is_started : IsStarted (state three top_marked) 112
 unfolding ref_of rows_within degree square_root root_up_to part_len part_lens ideal_words ideal_words_within
 left_is_started =
-    record { base = 117; change = the_start 1; published = refl; kind = refl; decision = refl; to = refl }
+    record {
+      base = 117;
+      change = the_start 1;
+      published = refl;
+      kind = refl;
+      decision = refl;
+      to = refl;
+    }
 
 -- no slot of its root is Unset
 none_unset : (i word : ℕ) → slice_get (809 ∷ 161 ∷ []) i ≡ Some word → word ≢ 7
@@ -183,7 +91,7 @@ root_whole base i word e (in_anchor at _ _) =
 root_whole base i word e (in_row r published holds) =
     let is : ◌≡◌ {A = ℕ} 126 base = cc in
     let there : (state three top_marked).pieces 126 ≡ Some (Inner r) =
-        ap (state three top_marked).pieces is ∙ published
+    ap (state three top_marked).pieces is ∙ published
     in
     let same : new_left ≡ r = cc in
     none_unset i word (ap (λ y. slice_get y.slots i) same ∙ holds)
@@ -240,18 +148,32 @@ not_open (row_is r e s) = let one : ◌≡◌ {A = ℕ} 1 r.status = status_is r
 refused : CanDecide (state three left_finish_installed) left_finish_installed 0 147 false
 unfolding ref_of rows_within degree square_root root_up_to part_len part_lens ideal_words ideal_words_within
 refused =
-    record { known = omega arith; change = the_finish 0; pending = record { published = refl; unset = refl }; outcome = not_open }
+    record {
+      known = omega arith;
+      change = the_finish 0;
+      pending = record { published = refl; unset = refl };
+      outcome = not_open;
+    }
 
 -- and leaves the slot
 resolved : CanResolve (state three (Decide 0 147 false ∷ left_finish_installed)) 0 147
 unfolding ref_of rows_within degree square_root root_up_to part_len part_lens ideal_words ideal_words_within
 resolved =
-    record { known = omega arith; change = the_finish 2; published = refl; decided = λ e. omega arith; in_slot = in_row (top 1 1179) refl refl }
+    record {
+      known = omega arith;
+      change = the_finish 2;
+      published = refl;
+      decided = λ e. omega arith;
+      in_slot = in_row (top 1 1179) refl refl;
+    }
 
 -- the log is lawful
 pub left_refused_is_lawful : Lawful three_pairs 200 left_refused
 left_refused_is_lawful =
-    record { opens = three_open; enabled = (((((((((((left_rooted_enabled, rebuild_reserved), start_reserved), start_installed), start_okayed), start_decided), start_resolved), top_is_marked), finish_reserved), finish_installed), refused), resolved) }
+    record {
+      opens = three_open;
+      enabled = ((((top_enabled, finish_reserved), finish_installed), refused), resolved);
+    }
 
 -- the leaf of the key 30
 abbrev thirty : LeafRow
@@ -263,7 +185,9 @@ unfolding ref_of rows_within degree square_root root_up_to part_len part_lens id
 left_refused_contents =
     let low = one_slot (leaf_here ten refl) (one_slot (leaf_here twenty refl) no_slot) in
     record {
-      leaves = record { base = 101; row = ten } ∷ record { base = 20; row = twenty } ∷ record { base = 22; row = thirty } ∷ [];
+      leaves =
+          record { base = 101; row = ten } ∷ record { base = 20; row = twenty }
+          ∷ record { base = 22; row = thirty } ∷ [];
       reached =
           row_here (top 1 900) refl
           (one_slot (row_here (left 11 8 809) refl low) (one_slot (leaf_here thirty refl) no_slot));

@@ -6,13 +6,15 @@ use Rattle.ist_core.specs.declared.events.Event.TheVariants.{Enter, Reserve, Ins
 use Rattle.ist_core.specs.Logs.{Log}
 use Rattle.ist_core.specs.ExampleTables.{pair}
 
--- three pairs: the top row at 4 has the left row at 11, over the leaves at 18 and 20, and the leaf at 22
+-- three pairs: the top row at 4 leads to the left row at 11, over the leaves at 18 and 20, and to
+-- the leaf at 22
 abbrev pub three_pairs : List Pair
 three_pairs = pair 10 1 ∷ pair 20 2 ∷ pair 30 3 ∷ []
 
 -- ---- puts that make the left row due
 
--- the rows of a put of (10, 1), with the value that the key has: a change, and a leaf whose word is `to`
+-- the rows of a put of (10, 1), which is the value that the key has: a change, and a leaf with the
+-- word `to`
 abbrev pub again_rows : ℕ → ℕ → ℕ → ℕ → List Row
 again_rows leaf change from to =
     record { base = change; words = 0 ∷ 1 ∷ 11 ∷ 0 ∷ from ∷ to ∷ 0 ∷ 10 ∷ 1 ∷ [] }
@@ -28,11 +30,18 @@ abbrev pub again_installed : ℕ → ℕ → ℕ → ℕ → Log → Log
 again_installed leaf change from to log =
     Install 0 change (again_rows leaf change from to) ∷ again_reserved leaf change log
 
--- it is decided yes and leaves the slot
+-- the left row is seen open
+abbrev pub again_okayed : ℕ → ℕ → ℕ → ℕ → Log → Log
+again_okayed leaf change from to log = Okay 0 change ∷ again_installed leaf change from to log
+
+-- the change is decided yes
+abbrev pub again_decided : ℕ → ℕ → ℕ → ℕ → Log → Log
+again_decided leaf change from to log =
+    Decide 0 change true ∷ again_okayed leaf change from to log
+
+-- it leaves the slot
 abbrev pub again_resolved : ℕ → ℕ → ℕ → ℕ → Log → Log
-again_resolved leaf change from to log =
-    Resolve 0 change ∷ Decide 0 change true ∷ Okay 0 change
-    ∷ again_installed leaf change from to log
+again_resolved leaf change from to log = Resolve 0 change ∷ again_decided leaf change from to log
 
 -- it is counted at the left row
 abbrev pub put_again : ℕ → ℕ → ℕ → ℕ → Log → Log
@@ -77,7 +86,8 @@ left_finished = Finish 0 11 2 ∷ Pass 0 11 1 161 ∷ Pass 0 11 0 809 ∷ Mark 0
 
 -- the new row at 126, over the same leaves
 abbrev pub new_left_rows : List Row
-new_left_rows = record { base = 126; words = 0 ∷ 0 ∷ 2 ∷ 2 ∷ 20 ∷ 809 ∷ 161 ∷ [] } ∷ []
+new_left_rows =
+    record { base = 126; words = 0 ∷ 0 ∷ 2 ∷ 2 ∷ 20 ∷ 809 ∷ 161 ∷ [] } ∷ []
 
 -- the new row becomes the root
 abbrev pub left_rooted : Log
@@ -107,7 +117,8 @@ top_marked = Reserve 0 147 9 ∷ Mark 1 4 ∷ top_started
 -- the row of the finish of the left rebuild: the change at 147
 abbrev pub left_finish_rows : List Row
 left_finish_rows =
-    record { base = 147; words = 0 ∷ 4 ∷ 4 ∷ 0 ∷ 900 ∷ 1010 ∷ 0 ∷ 0 ∷ 0 ∷ [] } ∷ []
+    record { base = 147; words = 0 ∷ 4 ∷ 4 ∷ 0 ∷ 900 ∷ 1010 ∷ 0 ∷ 0 ∷ 0 ∷ [] }
+    ∷ []
 
 -- the finish is installed
 abbrev pub left_finish_installed : Log

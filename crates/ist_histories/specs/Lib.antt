@@ -8,3 +8,4 @@ pub mod Loads
 pub mod Searching
 pub mod ExampleCalls
 pub mod ExampleRebuilds
+pub mod ExampleShares

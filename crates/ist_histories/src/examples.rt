@@ -2,8 +2,9 @@
 ghost use Rattle.std.specs.Prelude.{◌≡◌, [], ◌∷◌, replicate, Some, None};
 ghost use Rattle.ist_core.specs.declared.commands.Command.TheVariants.{Put};
 ghost use Rattle.ist_core.specs.Map.{map_of};
-ghost use Rattle.ist_core.specs.References.{RebuildAt, word_of};
+ghost use Rattle.ist_core.specs.References.{InnerAt, RebuildAt, word_of, unset_word};
 ghost use Rattle.ist_core.specs.Slots.{SlotHolds};
+ghost use Rattle.ist_core.specs.Rebuilding.{IsBuilt};
 ghost use Rattle.ist_core.specs.Leaves.{HasContents};
 ghost use Rattle.ist_core.specs.Changes.{changes_of};
 ghost use Rattle.ist_core.specs.Lawful.{Lawful, state_of};
@@ -17,6 +18,7 @@ ghost use Rattle.ist_histories.specs.Searching.{Searched};
 ghost use Rattle.ist_histories.specs.ExampleCalls.{refused, early_find, late_find, writer, reader};
 ghost use Rattle.ist_histories.specs.ExampleCalls.{one_history};
 ghost use Rattle.ist_histories.specs.ExampleRebuilds.{three_pairs, left_refused, left_too_late};
+ghost use Rattle.ist_histories.specs.ExampleShares.{many_pairs, share_placed};
 
 /// A put of (1, 1) into an empty table is its one change, and the contents are this pair.
 pub fn a_put_moves_the_map()
@@ -70,4 +72,16 @@ pub fn a_finish_too_late_is_refused()
     ensures changes { changes_of three_pairs 200 left_refused
         ≡ replicate 8 record { owner = 0; command = Put 10 1; reply = Some 1 } }
     ensures too_late { ¬ (Lawful three_pairs 200 left_too_late) }
+{}
+
+/// The rebuild of a tree of 256 pairs gets a shared root, whose first part is drawn, built and
+/// placed. The root has that part in its first slot and Unset in the others, so that it isn't built
+/// yet. The contents stay.
+pub fn a_shared_root_is_lawful()
+    ensures lawful { Lawful many_pairs 3000 share_placed }
+    ensures next { (state_of many_pairs 3000 share_placed).next ≡ 2215 }
+    ensures part { SlotHolds (state_of many_pairs 3000 share_placed) 2085 0 (word_of (InnerAt 2120)) }
+    ensures unset { SlotHolds (state_of many_pairs 3000 share_placed) 2085 1 unset_word }
+    ensures unbuilt { ¬ (IsBuilt (state_of many_pairs 3000 share_placed) (word_of (InnerAt 2085))) }
+    ensures contents { HasContents (state_of many_pairs 3000 share_placed) many_pairs }
 {}
