@@ -69,8 +69,8 @@ module _ (v : View) (s : IsSound v) (change number : ℕ) (mine : v.who ≡ Call
       × ((state_of v.start v.words log).pieces change ≡ Some (Change r)) × ChangeGrows row r
   row_behind log m =
       change_there (now v).pieces (state_of v.start v.words log).pieces
-          (grow_between v.start v.words v.log log m.lawful.enabled (later-goes_on m.later)) change
-          row installed
+      (grow_between v.start v.words v.log log m.lawful.enabled (later-goes_on m.later)) change
+      row installed
 
   -- the caller is one of the table
   pub number_low : (log : Log) → MayCome v log → number < (state_of v.start v.words log).callers
@@ -89,9 +89,9 @@ module _ (v : View) (s : IsSound v) (change number : ℕ) (mine : v.who ≡ Call
   outcome _ (closed shut) log m r g unset =
       let u = state_of v.start v.words log in
       λ opened. shut (open_before (now v) u
-          (grow_between v.start v.words v.log log m.lawful.enabled (later-goes_on m.later)) row.node
-          (change_node v.start v.words v.log s.lawful.enabled change row installed)
-          (subst (IsOpen u) (ap (λ x. x.node) g.others) opened))
+      (grow_between v.start v.words v.log log m.lawful.enabled (later-goes_on m.later)) row.node
+      (change_node v.start v.words v.log s.lawful.enabled change row installed)
+      (subst (IsOpen u) (ap (λ x. x.node) g.others) opened))
 
   -- a caller may decide a change by what it knows of it
   pub can_decide : (said : Bool) → IsReady v change row said → (place new : ℕ)
@@ -109,8 +109,8 @@ module _ (v : View) (s : IsSound v) (change number : ℕ) (mine : v.who ≡ Call
         comes = λ log m shown.
             let r = row_behind log m in
             let unset : r.0.decision ≡ undecided =
-                    sym (shown_in_row v.start v.words log m.lawful.enabled change (Change r.0) 0
-                    r.0.decision r.1 refl place undecided shown at) in
+            sym (shown_in_row v.start v.words log m.lawful.enabled change (Change r.0) 0
+            r.0.decision r.1 refl place undecided shown at) in
             record {
               enabled = record {
                 known = number_low log m;
@@ -132,8 +132,8 @@ open_shown v s node (anchor_is e) =
     subst (λ p. IsShown (now v) p open_word) (sym (status_place_anchor node e)) shown_status
 open_shown v s node (row_is q e o) =
     subst (λ p. IsShown (now v) p open_word)
-        (sym (status_place_inner node (no_anchor v.start v.words v.log s.lawful.enabled node q e)))
-        (shown_row node (Inner q) 0 e (ap Some o))
+    (sym (status_place_inner node (no_anchor v.start v.words v.log s.lawful.enabled node q e)))
+    (shown_row node (Inner q) 0 e (ap Some o))
 
 -- where a test names an event and it is named none, the test fails
 not_named : {A : Type 0} (b : Bool) (x : A) → (if b then Some x else None) ≡ None → b ≡ false
@@ -145,10 +145,10 @@ pub okay_helped : (v : View) (change place word : ℕ) (w : View)
     → LoadedAs v (okay_of v change) place word w → Helped change v w
 okay_helped v change place word w (as_event event l named) =
     let it = if_some ((word == open_word)
-            && waits (as_change ((state_of v.start v.words l.before).pieces change)))
-            (Okay (number_of v.who) change) event named in
+    && waits (as_change ((state_of v.start v.words l.before).pieces change)))
+    (Okay (number_of v.who) change) event named in
     logged_load_helped change v event place word w l (subst (Serves change) it.1 refl)
-        (subst (λ e. made_behind e v.made ≡ v.made) it.1 refl)
+    (subst (λ e. made_behind e v.made ≡ v.made) it.1 refl)
 okay_helped v change place word w (as_load l none) = looked_helped change v place word w l
 
 -- the change is ready for a yes where the load gave an open node, and for a no otherwise
@@ -159,11 +159,11 @@ okay_ready : (v : View) (change place word : ℕ) (w : View) (node : ℕ) (r : C
 okay_ready v change place word w node r at (as_event event l named) here same =
     let t = state_of v.start v.words l.before in
     let it = if_some ((word == open_word) && waits (as_change (t.pieces change)))
-            (Okay (number_of v.who) change) event named in
+    (Okay (number_of v.who) change) event named in
     let both = both_true (word == open_word) (waits (as_change (t.pieces change))) it.0 in
     let happened : Happened (Okays change) w.log =
-            subst (Happened (Okays change)) (sym (ap (λ x. x.log) l.view))
-            (inl (subst (Okays change) it.1 refl)) in
+    subst (Happened (Okays change)) (sym (ap (λ x. x.log) l.view))
+    (inl (subst (Okays change) it.1 refl)) in
     subst (IsReady w change r) (sym both.0) (okayed happened)
 okay_ready v change place word w node r at (as_load l none) here same =
     by_word (eqb_tells word open_word)
@@ -182,17 +182,17 @@ okay_ready v change place word w node r at (as_load l none) here same =
         let is = helped_now change v w (looked_helped change v place word w l) in
         let piece : t.pieces change ≡ Some (Change r) = ap (λ u. u.pieces change) (sym is) ∙ here in
         let off : ((word == open_word) && waits (as_change (t.pieces change))) ≡ false =
-                not_named ((word == open_word) && waits (as_change (t.pieces change)))
-                (Okay (number_of v.who) change) none in
+        not_named ((word == open_word) && waits (as_change (t.pieces change)))
+        (Okay (number_of v.who) change) none in
         let rest : (r.decision == undecided) ≡ false =
-                ap (λ o. waits (as_change o)) (sym piece)
-                ∙ ap (λ b. b && waits (as_change (t.pieces change))) (sym k.0) ∙ off in
+        ap (λ o. waits (as_change o)) (sym piece)
+        ∙ ap (λ b. b && waits (as_change (t.pieces change))) (sym k.0) ∙ off in
         settled (set_when rest)
     by_word (inr k) =
         subst (IsReady w change r) (sym k.0)
         (closed (λ is. k.1 (l.stood open_word
-            (subst (λ p. IsShown (now w) p open_word) (ap place_of_status same ∙ sym at)
-            (open_shown w l.sound r.node is)))))
+        (subst (λ p. IsShown (now w) p open_word) (ap place_of_status same ∙ sym at)
+        (open_shown w l.sound r.node is)))))
 
 -- what a helper knows once it loaded the status of the node
 pub record MayDecide (change number : ℕ) (said : Bool) (v w : View) : Type 0 where
@@ -213,7 +213,7 @@ may_decide v change m u h node field place at word w l =
     let all = helped_more change v u w h more in
     let on = helped_row change u w more field.row field.published in
     let same : node ≡ field.row.node = field_now u change change_node_offset node field
-            (λ r. r.node) (λ r. refl) field.row field.published in
+    (λ r. r.node) (λ r. refl) field.row field.published in
     record {
       helped = all;
       mine = helped_who change v w all ∙ m.mine;
@@ -243,7 +243,7 @@ pub decide_tells : (v : View) (change number : ℕ) (said : Bool) (place stood :
     → place ≡ change + change_decision_offset
     → Exchanged v (Decide number change said) place undecided stood w
     → Helped change v w × ((r : ChangeRow) × ((now w).pieces change ≡ Some (Change r))
-        × (r.decision ≡ standing (decision_word said) stood) × (r.decision ≢ undecided))
+    × (r.decision ≡ standing (decision_word said) stood) × (r.decision ≢ undecided))
 decide_tells v change number said place stood w row there at x =
     by_word (eqb_tells stood undecided)
   where
@@ -261,24 +261,36 @@ decide_tells v change number said place stood w row there at x =
         let t = state_of v.start v.words l.before in
         let can = (subst IsSound l.view l.sound).lawful.enabled.1 in
         let is : now w ≡ state_of v.start v.words (Decide number change said ∷ l.before) =
-                helped_now change v w helped ∙ ap (λ y. state_of v.start v.words y.log) l.view in
+        helped_now change v w helped ∙ ap (λ y. state_of v.start v.words y.log) l.view in
         let piece : (now w).pieces change
-                ≡ Some (Change record (can.change) { decision = decision_word said }) =
-                ap (λ u. u.pieces change) is
-                ∙ changed_at-same t.pieces change (with_decision (decision_word said))
-                ∙ ap (option_map (with_decision (decision_word said))) can.pending.published in
-        (helped, (record (can.change) { decision = decision_word said }, piece,
-            ap (λ b. if b then decision_word said else stood) (sym k.0), said_set said))
+        ≡ Some (Change record (can.change) { decision = decision_word said }) =
+        ap (λ u. u.pieces change) is
+        ∙ changed_at-same t.pieces change (with_decision (decision_word said))
+        ∙ ap (option_map (with_decision (decision_word said))) can.pending.published in (
+          helped,
+          (
+            record (can.change) { decision = decision_word said },
+            piece,
+            ap (λ b. if b then decision_word said else stood) (sym k.0),
+            said_set said,
+          ),
+        )
     by_word (inr k) =
         let l : Looked v place stood w = x.1 k.1 in
         let helped = looked_helped change v place stood w l in
         let on = helped_row change v w helped row there in
         let same : stood ≡ on.0.decision = l.stood on.0.decision
-                (subst (λ p. IsShown (now w) p on.0.decision) (sym at)
-                (shown_row change (Change on.0) 0 on.1 refl)) in
-        (helped, (on.0, on.1, sym same
-            ∙ ap (λ b. if b then decision_word said else stood) (sym k.0),
-            (λ e. k.1 (same ∙ e))))
+        (subst (λ p. IsShown (now w) p on.0.decision) (sym at)
+        (shown_row change (Change on.0) 0 on.1 refl)) in (
+          helped,
+          (
+            on.0,
+            on.1,
+            sym same
+                ∙ ap (λ b. if b then decision_word said else stood) (sym k.0),
+            (λ e. k.1 (same ∙ e)),
+          ),
+        )
 
 -- ---- the answer
 
@@ -287,8 +299,13 @@ pub decided_as : (v : View) → IsSound v → (change : ℕ) (row : ChangeRow)
     → (now v).pieces change ≡ Some (Change row) → row.decision ≢ undecided
     → (said : Bool) → said ≡ (row.decision == decided_yes) → IsDecided v change said
 decided_as v s change row there set said is =
-    record { row = row; published = there; decision =
-        at (fate v.start v.words v.log s.lawful.enabled change row there) ∙ ap decision_word (sym is) }
+    record {
+      row = row;
+      published = there;
+      decision =
+          at (fate v.start v.words v.log s.lawful.enabled change row there) ∙ ap decision_word
+          (sym is);
+    }
   where
     at : HasFate v.start v.words v.log change row
         → row.decision ≡ decision_word (row.decision == decided_yes)

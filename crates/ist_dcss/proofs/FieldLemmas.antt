@@ -1,5 +1,5 @@
 -- Loads of words of published rows. Serves `field` and `slot_of`.
-use Rattle.std.proofs.Common.{◌≡◌, ◌≢◌, ℕ, ◌+◌, ◌<◌, ◌≤◌, length, slice_get, Some, refl, sym, ap, ◌∙◌, subst, arith}
+use Rattle.std.proofs.Common.{◌≡◌, ◌≢◌, ℕ, ◌+◌, ◌<◌, ◌≤◌, length, slice_get, Some, refl, sym, ap, ap₂, ◌∙◌, subst, arith}
 use Rattle.std.proofs.lemmas.Option.{slice_get-get_or}
 use Rattle.std.specs.Prelude.{get_or}
 use Rattle.ist_core.specs.declared.states.InnerRow.{InnerRow}
@@ -17,11 +17,11 @@ use Rattle.ist_core.proofs.RoomLemmas.{next_within, words_same}
 use Rattle.ist_rule.specs.declared.view.View.{View}
 use Rattle.ist_rule.specs.Shown.{IsShown, shown_row}
 use Rattle.ist_rule.specs.Rule.{IsSound}
-use Rattle.ist_rule.specs.Learning.{now, Looked}
+use Rattle.ist_rule.specs.Learning.{now, GoesOnTo, Looked}
 use Rattle.ist_rule.proofs.WatchLemmas.{place_inner}
 use Rattle.ist_dcss.specs.Helping.{MayHelp, Helped}
-use Rattle.ist_dcss.specs.Naming.{IsField, IsSlotOf}
-use Rattle.ist_dcss.proofs.GoingLemmas.{looked_helped, helped_row, helped_grow}
+use Rattle.ist_dcss.specs.Naming.{IsField, IsSlot, IsSlotOf}
+use Rattle.ist_dcss.proofs.GoingLemmas.{goes_on_helped, looked_helped, helped_row, helped_grow}
 use Rattle.ist_dcss.proofs.SlotPlaceLemmas.{change_slot, has_degree, no_anchor}
 
 -- a word of a published row lies within the table, which is small
@@ -29,7 +29,7 @@ pub row_low : (v : View) → IsSound v → (base : ℕ) (p : Piece) → (now v).
     → (k : ℕ) → k < size_of p → (base + k < v.words) × (v.words ≤ place_limit)
 row_low v s base p there k less =
     let high = (claimed_within v.start v.words v.log base (size_of p) s.lawful.enabled
-            ((placed v.start v.words v.log s.lawful.enabled).published base p there)).below_next in
+    ((placed v.start v.words v.log s.lawful.enabled).published base p there)).below_next in
     let low = next_within v.start v.words s.lawful.opens v.log s.lawful.enabled in
     let all = words_same v.start v.words s.lawful.opens v.log in
     (omega arith, s.lawful.opens.within)
@@ -49,12 +49,13 @@ looked_field v place word w l change offset m less at =
     let on = helped_row change v w (looked_helped change v place word w l) m.row m.installed in
     let words = words_of (Change on.0) in
     let got : slice_get words offset ≡ Some (get_or words offset 0) =
-            slice_get-get_or words offset 0 less in
+    slice_get-get_or words offset 0 less in
     let same = looked_row v place word w l change (Change on.0) offset (get_or words offset 0) on.1
-            got at in
+    got at in
     record { row = on.0; published = on.1; is = got ∙ ap Some (sym same) }
 
-some_word : (a b : ℕ) → Some a ≡ Some b → a ≡ b
+-- two words that are given are one
+pub some_word : (a b : ℕ) → Some a ≡ Some b → a ≡ b
 some_word a b e = cc
 
 one_change : (p q : ChangeRow) → Change p ≡ Change q → p ≡ q
@@ -66,7 +67,7 @@ pub field_now : (v : View) (change offset word : ℕ) → IsField v change offse
     → (row : ChangeRow) → (now v).pieces change ≡ Some (Change row) → word ≡ f row
 field_now v change offset word i f at row there =
     let same : i.row ≡ row = one_change i.row row
-            (one_piece ((now v).pieces change) (Change i.row) (Change row) i.published there) in
+    (one_piece ((now v).pieces change) (Change i.row) (Change row) i.published there) in
     some_word word (f i.row) (sym i.is ∙ at i.row) ∙ ap f same
 
 -- a word of the change that doesn't change is the same in each later view
@@ -77,39 +78,39 @@ pub field_is : (v : View) (change offset word : ℕ) → IsField v change offset
 field_is v change offset word i f at stays w h row there =
     let on = helped_row change v w h i.row i.published in
     let same : on.0 ≡ row = one_change on.0 row
-            (one_piece ((now w).pieces change) (Change on.0) (Change row) on.1 there) in
+    (one_piece ((now w).pieces change) (Change on.0) (Change row) on.1 there) in
     some_word word (f i.row) (sym i.is ∙ at i.row) ∙ sym (stays i.row on.0 on.2) ∙ ap f same
 
--- what a helper needs of the row in which the slot of a change lies
-pub record HasPlace (v : View) (row : ChangeRow) : Type 0 where
-  pub node : InnerRow
-  pub published : (now v).pieces row.node ≡ Some (Inner node)
-  pub index : row.index < node.degree
-  pub degree : node.degree < place_limit
-  pub low : row.node + 2 < v.words
+-- ---- where a slot lies
+
+-- what a seat needs of the inner row in which a slot lies
+pub record HasPlace (v : View) (node i : ℕ) : Type 0 where
+  pub row : InnerRow
+  pub published : (now v).pieces node ≡ Some (Inner row)
+  pub index : i < row.degree
+  pub degree : row.degree < place_limit
+  pub low : node + 2 < v.words
   pub small : v.words ≤ place_limit
 
--- the slot of a change lies in an inner row, or is the anchor's
-pub has_place : (v : View) → IsSound v → (change : ℕ) (row : ChangeRow)
-    → (now v).pieces change ≡ Some (Change row) → row.node ≢ anchor → HasPlace v row
-has_place v s change row there ne =
-    at (change_slot v.start v.words v.log s.lawful.enabled change row there).0
-        (change_slot v.start v.words v.log s.lawful.enabled change row there).1
+-- a slot that isn't the anchor's lies in an inner row
+pub has_place : (v : View) → IsSound v → (node i : ℕ) → IsSlot v node i → node ≢ anchor
+    → HasPlace v node i
+has_place v s node i slot ne = at slot.word slot.holds
   where
-    at : (word : ℕ) → SlotHolds (now v) row.node row.index word → HasPlace v row
+    at : (word : ℕ) → SlotHolds (now v) node i word → HasPlace v node i
     at word (in_anchor e f g) = absurd (ne e)
     at word (in_row r e got) =
-        let d = has_degree v.start v.words v.log s.lawful.enabled row.node r e in
+        let d = has_degree v.start v.words v.log s.lawful.enabled node r e in
         let keys = d.keys in
         let slots = d.slots in
-        let less = get_below r.slots row.index word got in
-        let far = get_below (words_of (Inner r)) (4 + length r.keys + row.index) word
-                (get-words_of_slot r row.index ∙ got) in
-        let low = row_low v s row.node (Inner r) e (4 + length r.keys + row.index) far in
+        let less = get_below r.slots i word got in
+        let far = get_below (words_of (Inner r)) (4 + length r.keys + i) word
+        (get-words_of_slot r i ∙ got) in
+        let low = row_low v s node (Inner r) e (4 + length r.keys + i) far in
         let place = low.0 in
         let all = low.1 in
         record {
-          node = r;
+          row = r;
           published = e;
           index = omega arith;
           degree = omega arith;
@@ -117,68 +118,77 @@ has_place v s change row there ne =
           small = all;
         }
 
--- ---- where the slot of a change lies
+-- what the load of the degree tells
+pub record TellsSlot (v : View) (node i degree : ℕ) : Type 0 where
+  pub index_low : i < degree
+  pub degree_low : degree < place_limit
+  pub place : slot_place node degree i ≡ place_of_slot (now v) node i
 
--- what a helper knows once it loaded the node and the index, and the node is an inner row
-pub record KnowsSlot (v : View) (change node index : ℕ) : Type 0 where
+pub tells_slot : (v : View) (node i : ℕ) → HasPlace v node i → (degree : ℕ) (w : View)
+    → Looked v (node + inner_degree_offset) degree w → TellsSlot w node i degree
+tells_slot v node i k degree w l =
+    let h = looked_helped 0 v (node + inner_degree_offset) degree w l in
+    let r = inner_there (now v).pieces (now w).pieces (helped_grow 0 v w h) node k.row k.published
+    in
+    let is : degree ≡ r.0.degree = looked_row v (node + inner_degree_offset) degree w l node
+    (Inner r.0) 2 r.0.degree r.1 refl refl in
+    let same : r.0.degree ≡ k.row.degree = r.2.degree in
+    let less = k.index in
+    let low = k.degree in
+    record {
+      index_low = omega arith;
+      degree_low = omega arith;
+      place = ap (λ d. slot_place node d i) is
+          ∙ sym (place_inner (now w) node i r.0 r.1
+          (no_anchor w.start w.words w.log l.sound.lawful.enabled node r.0 r.1));
+    }
+
+-- the words of an installed change name its slot
+pub record NamesSlot (v : View) (change node index : ℕ) : Type 0 where
   pub row : ChangeRow
   pub published : (now v).pieces change ≡ Some (Change row)
   pub node_is : node ≡ row.node
   pub index_is : index ≡ row.index
-  pub place : HasPlace v row
+  pub slot : IsSlot v node index
 
-pub knows_slot : (u : View) (change node : ℕ) → IsField u change change_node_offset node → (v : View)
-    → Helped change u v → IsSound v → (index : ℕ) → IsField v change change_index_offset index
-    → node ≢ anchor → KnowsSlot v change node index
-knows_slot u change node first v h s index second ne =
+-- the words of a change that name its slot name one
+pub names_slot : (u : View) (change node : ℕ) → IsField u change change_node_offset node
+    → (v : View)
+    → Helped change u v → (index : ℕ) → IsField v change change_index_offset index
+    → NamesSlot v change node index
+names_slot u change node first v h index second =
     let row = second.row in
+    let s = h.sound in
     let node_is : node ≡ row.node = field_is u change change_node_offset node first (λ r. r.node)
-            (λ r. refl) (λ a b g. ap (λ x. x.node) g.others) v h row second.published in
+    (λ r. refl) (λ a b g. ap (λ x. x.node) g.others) v h row second.published in
+    let index_is = field_now v change change_index_offset index second (λ r. r.index) (λ r. refl)
+    row
+    second.published in
+    let slot = change_slot v.start v.words v.log s.lawful.enabled change row second.published in
     record {
       row = row;
       published = second.published;
       node_is = node_is;
-      index_is = field_now v change change_index_offset index second (λ r. r.index) (λ r. refl) row
-          second.published;
-      place = has_place v s change row second.published (λ e. ne (node_is ∙ e));
+      index_is = index_is;
+      slot = record {
+        word = slot.0;
+        holds = subst (λ n. SlotHolds (now v) n index slot.0)
+            (sym node_is) (subst (λ i. SlotHolds (now v) row.node i slot.0) (sym index_is) slot.1);
+      };
     }
 
--- what the load of the degree tells
-pub record TellsSlot (v : View) (change node index degree : ℕ) : Type 0 where
-  pub index_low : index < degree
-  pub degree_low : degree < place_limit
-  pub slot : IsSlotOf v change (slot_place node degree index)
-
-pub tells_slot : (v : View) (change node index : ℕ) → KnowsSlot v change node index
-    → (place degree : ℕ) (w : View) → place ≡ node + inner_degree_offset
-    → Looked v place degree w → TellsSlot w change node index degree
-tells_slot v change node index k place degree w at l =
-    let h = looked_helped change v place degree w l in
-    let on = helped_row change v w h k.row k.published in
-    let r = inner_there (now v).pieces (now w).pieces (helped_grow change v w h) k.row.node
-            k.place.node k.place.published in
-    let is : degree ≡ r.0.degree = looked_row v place degree w l k.row.node (Inner r.0) 2 r.0.degree
-            r.1 refl (at ∙ ap (λ n. n + inner_degree_offset) k.node_is) in
-    let same : r.0.degree ≡ k.place.node.degree = r.2.degree in
-    let less = k.place.index in
-    let low = k.place.degree in
-    let index_is = k.index_is in
-    let node' : on.0.node ≡ k.row.node = ap (λ x. x.node) on.2.others in
-    let index' : on.0.index ≡ k.row.index = ap (λ x. x.index) on.2.others in
+-- behind more loads, the place of that slot is the place of the change's slot
+pub place_of_change : (v : View) (change node index : ℕ) → NamesSlot v change node index
+    → (w : View)
+    → GoesOnTo v w → (place : ℕ) → place ≡ place_of_slot (now w) node index
+    → IsSlotOf w change place
+place_of_change v change node index k w g place at =
+    let on = helped_row change v w (goes_on_helped change v w g) k.row k.published in
     record {
-      index_low = omega arith;
-      degree_low = omega arith;
-      slot = record {
-        row = on.0;
-        published = on.1;
-        at = ap (λ n. slot_place n degree index) k.node_is
-            ∙ ap (λ d. slot_place k.row.node d index) is
-            ∙ ap (λ i. slot_place k.row.node r.0.degree i) k.index_is
-            ∙ sym (place_inner (now w) k.row.node k.row.index r.0 r.1
-            (no_anchor w.start w.words w.log l.sound.lawful.enabled k.row.node r.0 r.1))
-            ∙ sym (ap (λ n. place_of_slot (now w) n k.row.index) node')
-            ∙ sym (ap (λ i. place_of_slot (now w) on.0.node i) index');
-      };
+      row = on.0;
+      published = on.1;
+      at = at ∙ ap₂ (place_of_slot (now w)) (k.node_is ∙ sym (ap (λ x. x.node) on.2.others))
+          (k.index_is ∙ sym (ap (λ x. x.index) on.2.others));
     }
 
 -- a published row lies at a good base
@@ -186,7 +196,7 @@ pub good_base : (v : View) → IsSound v → (base : ℕ) (p : Piece) → (now v
     → 0 < size_of p → IsGoodBase base
 good_base v s base p there some =
     let claim = claimed_within v.start v.words v.log base (size_of p) s.lawful.enabled
-            ((placed v.start v.words v.log s.lawful.enabled).published base p there) in
+    ((placed v.start v.words v.log s.lawful.enabled).published base p there) in
     let low = row_low v s base p there 0 some in
     let place = low.0 in
     let all = low.1 in

@@ -64,7 +64,7 @@ pub logged_helped : (change : ℕ) (v : View) (event : Event) (w : View) → Log
 logged_helped change v event w l serves made =
     let log_is : w.log ≡ event ∷ l.before = ap (λ x. x.log) l.view in
     let same : logging v l.before event ≡ record v { log = event ∷ l.before } =
-            ap {B = View} (λ n. record v { log = event ∷ l.before; made = n }) made in
+    ap {B = View} (λ n. record v { log = event ∷ l.before; made = n }) made in
     record {
       later = subst (LaterBy v.who (Serves change) v.log) (sym log_is)
           (of_own event (later_by l.later) serves);
@@ -84,9 +84,9 @@ pub logged_load_helped : (change : ℕ) (v : View) (event : Event) (place word :
 logged_load_helped change v event place word w l serves made =
     let log_is : w.log ≡ event ∷ l.before = ap (λ x. x.log) l.view in
     let same : logging_load v l.before event
-            ≡ record v { log = event ∷ l.before; loaded = v.loaded + 1 } =
-            ap {B = View}
-            (λ n. record v { log = event ∷ l.before; made = n; loaded = v.loaded + 1 }) made in
+    ≡ record v { log = event ∷ l.before; loaded = v.loaded + 1 } =
+    ap {B = View}
+    (λ n. record v { log = event ∷ l.before; made = n; loaded = v.loaded + 1 }) made in
     record {
       later = subst (LaterBy v.who (Serves change) v.log) (sym log_is)
           (of_own event (later_by l.later) serves);
@@ -111,8 +111,12 @@ helped_more change u v w a b =
       later = later_by_more a.later
           (subst (λ x. LaterBy x (Serves change) v.log w.log) (helped_who change u v a) b.later);
       sound = b.sound;
-      same = b.same ∙ ap {B = View} (λ (x : View). record x { log = w.log; loads = w.loads; loaded =
-          w.loaded }) a.same;
+      same = b.same ∙ ap {B = View} (λ (x : View). record x {
+        log = w.log;
+        loads = w.loads;
+        loaded =
+            w.loaded;
+      }) a.same;
       since = b.since ∙ a.since;
       more = b.more ++ a.more;
       loads = b.loads ∙ ap (λ xs. b.more ++ xs) a.loads ∙ sym
@@ -138,7 +142,7 @@ pub helped_grow : (change : ℕ) (v w : View) → Helped change v w
 helped_grow change v w h =
     subst (λ t. AllGrow (now v).pieces t.pieces) (sym (helped_now change v w h))
     (grow_between v.start v.words v.log w.log (helped_lawful change v w h).enabled
-        (later_by-goes_on h.later))
+    (later_by-goes_on h.later))
 
 -- an installed change is installed still
 pub helped_row : (change : ℕ) (v w : View) → Helped change v w → (row : ChangeRow)
@@ -152,5 +156,10 @@ pub may_help_on : (change : ℕ) (v w : View) → Helped change v w → MayHelp 
     → MayHelp w change
 may_help_on change v w h m =
     let on = helped_row change v w h m.row m.installed in
-    record { number = m.number; mine = helped_who change v w h ∙ m.mine; row = on.0; installed =
-        on.1 }
+    record {
+      number = m.number;
+      mine = helped_who change v w h ∙ m.mine;
+      row = on.0;
+      installed =
+          on.1;
+    }

@@ -4,3 +4,8 @@ pub mod SlotPlaceLemmas
 pub mod FieldLemmas
 pub mod DecideLemmas
 pub mod ResolveLemmas
+pub mod SetSlotLemmas
+pub mod FitsLemmas
+pub mod InstallLemmas
+pub mod InstalledLemmas
+pub mod CallingLemmas

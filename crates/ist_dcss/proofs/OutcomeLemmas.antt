@@ -18,11 +18,18 @@ use Rattle.ist_links.proofs.InductionLemmas.{changes_by}
 use Rattle.ist_dcss.specs.Helping.{WasSeen}
 
 -- what was seen was seen
-pub seen_on : (P : Snapshot → ℕ → Type 0) (pairs : List Pair) (words : ℕ) (log : Log) (event : Event)
+pub seen_on : (P : Snapshot → ℕ → Type 0) (pairs : List Pair) (words : ℕ) (log : Log)
+    (event : Event)
     (change : ℕ) → WasSeen P pairs words log change → WasSeen P pairs words (event ∷ log) change
 seen_on P pairs words log event change s =
-    record { prefix = s.prefix; goes_on = one_event event s.goes_on; row = s.row; installed =
-        s.installed; node = s.node }
+    record {
+      prefix = s.prefix;
+      goes_on = one_event event s.goes_on;
+      row = s.row;
+      installed =
+          s.installed;
+      node = s.node;
+    }
 
 -- the node is not open
 abbrev pub IsShut : Snapshot → ℕ → Type 0
@@ -32,7 +39,7 @@ IsShut t node = ¬ (IsOpen t node)
 abbrev pub HasFate : List Pair → ℕ → Log → ℕ → ChangeRow → Type 0
 HasFate pairs words log base x =
     (x.decision ≡ undecided) ⊎ ((x.decision ≡ decided_yes) ⊎ ((x.decision ≡ decided_no)
-        × WasSeen IsShut pairs words log base))
+    × WasSeen IsShut pairs words log base))
 
 module _ (pairs : List Pair) (words : ℕ) where
   fate_kept : (log : Log) (event : Event) (base : ℕ) (x : ChangeRow)
@@ -45,11 +52,20 @@ module _ (pairs : List Pair) (words : ℕ) where
   fate_decided : (log : Log) (caller base : ℕ) (said : Bool)
       → (h : CanDecide (state_of pairs words log) log caller base said)
       → HasFate pairs words (Decide caller base said ∷ log) base
-          (record (h.change) { decision = decision_word said })
+      (record (h.change) { decision = decision_word said })
   fate_decided log caller base true h = inr (inl refl)
   fate_decided log caller base false h =
-      inr (inr (refl, record { prefix = log; goes_on = one_event (Decide caller base false) same_log;
-          row = h.change; installed = h.pending.published; node = h.outcome }))
+      inr (inr (
+        refl,
+        record {
+          prefix = log;
+          goes_on = one_event (Decide caller base false)
+              same_log;
+          row = h.change;
+          installed = h.pending.published;
+          node = h.outcome;
+        },
+      ))
 
   -- each change has a fate
   pub fate : (log : Log) → EachEnabled (start pairs words) log → (base : ℕ) (x : ChangeRow)
@@ -65,9 +81,14 @@ module _ (pairs : List Pair) (words : ℕ) where
   okay_now : (log : Log) (event : Event) (base : ℕ) → Enabled (start pairs words) log event
       → Okays base event → WasSeen IsOpen pairs words (event ∷ log) base
   okay_now log (Okay caller change) base h is =
-      record { prefix = log; goes_on = one_event (Okay caller change) same_log; row = h.change;
-          installed = subst (λ b. (state_of pairs words log).pieces b ≡ Some (Change h.change)) is
-          h.pending.published; node = h.node_open }
+      record {
+        prefix = log;
+        goes_on = one_event (Okay caller change) same_log;
+        row = h.change;
+        installed = subst (λ b. (state_of pairs words log).pieces b ≡ Some (Change h.change)) is
+            h.pending.published;
+        node = h.node_open;
+      }
   okay_now log (Enter caller) base h is = absurd is
   okay_now log (Reserve caller b size) base h is = absurd is
   okay_now log (Install caller change rows) base h is = absurd is

@@ -57,14 +57,17 @@ resolved_or_not base [] = inr (λ e. e)
 resolved_or_not base (event ∷ log) =
     ⊎_elim (λ k. inl (inl k))
     (λ no. ⊎_elim (λ k. inl (inr k)) (λ none. inr (λ h. ⊎_elim no none h))
-        (resolved_or_not base log))
+    (resolved_or_not base log))
     (resolves_now base event)
 
 -- a change that was resolved is out
 out : (v : View) → IsSound v → (change : ℕ) → Happened (Resolves change) v.log → IsOut v change
 out v s change h =
-    record { resolved = h; gone = resolved_gone v.start v.words s.lawful.opens v.log
-        s.lawful.enabled change h }
+    record {
+      resolved = h;
+      gone = resolved_gone v.start v.words s.lawful.opens v.log
+          s.lawful.enabled change h;
+    }
 
 -- a caller may take a decided change out of its slot, whatever others do meanwhile
 module _ (v : View) (s : IsSound v) (change number : ℕ) (mine : v.who ≡ Caller number)
@@ -75,25 +78,26 @@ module _ (v : View) (s : IsSound v) (change number : ℕ) (mine : v.who ≡ Call
   slot_behind log m =
       let it = change_slot v.start v.words v.log s.lawful.enabled change row installed in
       slot_later (now v) (state_of v.start v.words log)
-          (grow_between v.start v.words v.log log m.lawful.enabled (later-goes_on m.later)) row.node
-          row.index it.0 it.1
+      (grow_between v.start v.words v.log log m.lawful.enabled (later-goes_on m.later)) row.node
+      row.index it.0 it.1
 
   -- its place is the same
   place_behind : (log : Log) (m : MayCome v log)
       → place_of_slot (state_of v.start v.words log) row.node row.index
-          ≡ place_of_slot (now v) row.node row.index
+      ≡ place_of_slot (now v) row.node row.index
   place_behind log m =
       let it = change_slot v.start v.words v.log s.lawful.enabled change row installed in
       slot_place_later v.start v.words v.log log s.lawful.enabled m.lawful.enabled
-          (grow_between v.start v.words v.log log m.lawful.enabled (later-goes_on m.later)) row.node
-          row.index it.0 it.1
+      (grow_between v.start v.words v.log log m.lawful.enabled (later-goes_on m.later)) row.node
+      row.index it.0 it.1
 
   -- what the slot's word is once the change is decided
-  side_behind : row.decision ≢ undecided → (r : ChangeRow) → ChangeGrows row r → side_of r ≡ side_of row
+  side_behind : row.decision ≢ undecided → (r : ChangeRow) → ChangeGrows row r
+      → side_of r ≡ side_of row
   side_behind set r g =
       ap (λ d. if d == decided_yes then r.to else r.from) (g.decided set)
       ∙ ap₂ (λ a b. if row.decision == decided_yes then a else b) (ap (λ x. x.to) g.others)
-          (ap (λ x. x.from) g.others)
+      (ap (λ x. x.from) g.others)
 
   pub can_resolve : row.decision ≢ undecided → (place old side : ℕ)
       → place ≡ place_of_slot (now v) row.node row.index → old ≡ word_of (ChangeAt change)
@@ -106,22 +110,23 @@ module _ (v : View) (s : IsSound v) (change number : ℕ) (mine : v.who ≡ Call
             let u = state_of v.start v.words log in (
               slot.0,
               subst (λ p. IsShown u p slot.0) (place_behind log m ∙ sym at)
-                  (slot_shown v.start v.words log m.lawful.enabled row.node row.index slot.0 slot.1),
+                  (slot_shown v.start v.words log m.lawful.enabled row.node row.index slot.0
+                  slot.1),
             );
         comes = λ log m shown.
             let u = state_of v.start v.words log in
             let r = row_behind v s change number mine row installed log m in
             let slot = slot_behind log m in
             let same : old ≡ slot.0 =
-                    shown_in_slot v.start v.words log m.lawful.enabled row.node row.index slot.0 old
-                    slot.1
-                    (subst (λ p. IsShown u p old) (at ∙ sym (place_behind log m)) shown) in
+            shown_in_slot v.start v.words log m.lawful.enabled row.node row.index slot.0 old
+            slot.1
+            (subst (λ p. IsShown u p old) (at ∙ sym (place_behind log m)) shown) in
             let holds : SlotHolds u row.node row.index (word_of (ChangeAt change)) =
-                    subst (SlotHolds u row.node row.index) (sym same ∙ old_is) slot.1 in
+            subst (SlotHolds u row.node row.index) (sym same ∙ old_is) slot.1 in
             let node : r.0.node ≡ row.node = ap (λ x. x.node) r.2.others in
             let index : r.0.index ≡ row.index = ap (λ x. x.index) r.2.others in
             let place_is : place_of_slot u r.0.node r.0.index ≡ place =
-                    ap₂ (place_of_slot u) node index ∙ place_behind log m ∙ sym at in
+            ap₂ (place_of_slot u) node index ∙ place_behind log m ∙ sym at in
             record {
               enabled = record {
                 known = number_low v s change number mine row installed log m;
@@ -133,10 +138,14 @@ module _ (v : View) (s : IsSound v) (change number : ℕ) (mine : v.who ≡ Call
                     (sym index) holds);
               };
               touches = ap (λ o. touch_of_resolve u change (as_change o)) r.1
-                  ∙ ap (λ p. Some record { place = p; found = word_of (ChangeAt change); left =
-                      side_of r.0 }) place_is
+                  ∙ ap (λ p. Some record {
+                    place = p;
+                    found = word_of (ChangeAt change);
+                    left =
+                        side_of r.0;
+                  }) place_is
                   ∙ ap₂ (λ f l. Some record { place = place; found = f; left = l }) (sym old_is)
-                      (side_behind set r.0 r.2 ∙ sym side_is);
+                  (side_behind set r.0 r.2 ∙ sym side_is);
             };
       }
 
@@ -151,10 +160,11 @@ resolve_tells v s change number place old found w row there at old_is x =
   where
     hit : found ≡ old → Helped change v w × IsOut w change
     hit e =
-        let l : Logged v (Resolve number change) w = x.0 e in
-        (logged_helped change v (Resolve number change) w l refl refl,
-            out w l.sound change (subst (Happened (Resolves change)) (sym (ap (λ y. y.log) l.view))
-            (inl refl)))
+        let l : Logged v (Resolve number change) w = x.0 e in (
+          logged_helped change v (Resolve number change) w l refl refl,
+          out w l.sound change (subst (Happened (Resolves change)) (sym (ap (λ y. y.log) l.view))
+              (inl refl)),
+        )
 
     miss : found ≢ old → Helped change v w × IsOut w change
     miss ne =
@@ -165,23 +175,25 @@ resolve_tells v s change number place old found w row there at old_is x =
         let index : on.0.index ≡ row.index = ap (λ y. y.index) on.2.others in
         let was = change_slot v.start v.words v.log s.lawful.enabled change row there in
         let moved : place_of_slot (now w) row.node row.index
-                ≡ place_of_slot (now v) row.node row.index =
-                ap (λ t. place_of_slot t row.node row.index) (helped_now change v w helped)
-                ∙ slot_place_later v.start v.words v.log w.log s.lawful.enabled
-                (helped_lawful change v w helped).enabled
-                (grow_between v.start v.words v.log w.log (helped_lawful change v w helped).enabled
-                    (later_by-goes_on helped.later))
-                row.node row.index was.0 was.1 in
-        (helped, ⊎_elim (λ h. out w l.sound change h)
-            (λ none.
-            let holds = unresolved_stands w.start w.words l.sound.lawful.opens w.log
-                    l.sound.lawful.enabled change on.0 on.1 none in
-            let shown = slot_shown w.start w.words w.log l.sound.lawful.enabled on.0.node
-                    on.0.index (word_of (ChangeAt change)) holds in
-            absurd (ne (l.stood (word_of (ChangeAt change))
-                (subst (λ p. IsShown (now w) p (word_of (ChangeAt change)))
-                (ap₂ (place_of_slot (now w)) node index ∙ moved ∙ sym at) shown) ∙ sym old_is)))
-            (resolved_or_not change w.log))
+        ≡ place_of_slot (now v) row.node row.index =
+        ap (λ t. place_of_slot t row.node row.index) (helped_now change v w helped)
+        ∙ slot_place_later v.start v.words v.log w.log s.lawful.enabled
+        (helped_lawful change v w helped).enabled
+        (grow_between v.start v.words v.log w.log (helped_lawful change v w helped).enabled
+        (later_by-goes_on helped.later))
+        row.node row.index was.0 was.1 in (
+          helped,
+          ⊎_elim (λ h. out w l.sound change h)
+              (λ none.
+              let holds = unresolved_stands w.start w.words l.sound.lawful.opens w.log
+              l.sound.lawful.enabled change on.0 on.1 none in
+              let shown = slot_shown w.start w.words w.log l.sound.lawful.enabled on.0.node
+              on.0.index (word_of (ChangeAt change)) holds in
+              absurd (ne (l.stood (word_of (ChangeAt change))
+              (subst (λ p. IsShown (now w) p (word_of (ChangeAt change)))
+              (ap₂ (place_of_slot (now w)) node index ∙ moved ∙ sym at) shown) ∙ sym old_is)))
+              (resolved_or_not change w.log),
+        )
 
 -- ---- what a helper knows before the exchange
 
@@ -226,13 +238,13 @@ may_resolve v change m said d u h place slot w k s side field =
     let index : more.0.index ≡ slot.row.index = ap (λ x. x.index) more.2.others in
     let was = change_slot u.start u.words u.log s.lawful.enabled change slot.row slot.published in
     let moved : place_of_slot (now w) slot.row.node slot.row.index
-            ≡ place_of_slot (now u) slot.row.node slot.row.index =
-            ap (λ t. place_of_slot t slot.row.node slot.row.index) (helped_now change u w k)
-            ∙ slot_place_later u.start u.words u.log w.log s.lawful.enabled
-            (helped_lawful change u w k).enabled
-            (grow_between u.start u.words u.log w.log (helped_lawful change u w k).enabled
-                (later_by-goes_on k.later))
-            slot.row.node slot.row.index was.0 was.1 in
+    ≡ place_of_slot (now u) slot.row.node slot.row.index =
+    ap (λ t. place_of_slot t slot.row.node slot.row.index) (helped_now change u w k)
+    ∙ slot_place_later u.start u.words u.log w.log s.lawful.enabled
+    (helped_lawful change u w k).enabled
+    (grow_between u.start u.words u.log w.log (helped_lawful change u w k).enabled
+    (later_by-goes_on k.later))
+    slot.row.node slot.row.index was.0 was.1 in
     record {
       helped = all;
       mine = helped_who change v w all ∙ m.mine;
@@ -264,15 +276,19 @@ pub decided_on : (change : ℕ) (v w : View) → Helped change v w → (said : B
     → IsDecided v change said → IsDecided w change said
 decided_on change v w h said d =
     let on = helped_row change v w h d.row d.published in
-    record { row = on.0; published = on.1; decision =
-        on.2.decided (λ e. said_set said (sym d.decision ∙ e)) ∙ d.decision }
+    record {
+      row = on.0;
+      published = on.1;
+      decision =
+          on.2.decided (λ e. said_set said (sym d.decision ∙ e)) ∙ d.decision;
+    }
 
 -- where a change is decided yes its node was seen open
 pub yes_seen : (v : View) → IsSound v → (change : ℕ) → IsDecided v change true → WasOpen v change
 yes_seen v s change d =
     okay_seen v.start v.words v.log s.lawful.enabled change
-        (yes_has_okay v.start v.words s.lawful.opens v.log s.lawful.enabled change d.row d.published
-        d.decision)
+    (yes_has_okay v.start v.words s.lawful.opens v.log s.lawful.enabled change d.row d.published
+    d.decision)
 
 -- where it is decided no its node was seen not to be open
 pub no_seen : (v : View) → IsSound v → (change : ℕ) → IsDecided v change false

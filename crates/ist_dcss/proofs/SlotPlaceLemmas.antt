@@ -26,7 +26,7 @@ use Rattle.ist_rule.specs.Shown.{IsShown, shown_next, shown_callers, shown_statu
 use Rattle.ist_rule.proofs.WatchLemmas.{shown_in_row, place_inner}
 
 -- a word stands in each place of a list
-word_in : (xs : List ℕ) (k : ℕ) → k < length xs → (word : ℕ) × (slice_get xs k ≡ Some word)
+pub word_in : (xs : List ℕ) (k : ℕ) → k < length xs → (word : ℕ) × (slice_get xs k ≡ Some word)
 word_in xs k low = (get_or xs k 0, slice_get-get_or xs k 0 low)
 
 -- a slot is one still where rows grow
@@ -49,88 +49,90 @@ change_slot pairs words =
     (λ log base x. (word : ℕ) × SlotHolds (state_of pairs words log) x.node x.index word)
     (λ log event h base x old there was. on log event h x.node x.index was)
     (λ log caller base rows h can.
-        on log (Install caller base rows) h can.change.node can.change.index
-            (can.change.from, can.in_slot))
+    on log (Install caller base rows) h can.change.node can.change.index
+    (can.change.from, can.in_slot))
     (λ log caller base said h can was.
-        on log (Decide caller base said) h can.change.node can.change.index was)
+    on log (Decide caller base said) h can.change.node can.change.index was)
   where
-    on : (log : Log) (event : Event) (h : EachEnabled (start pairs words) (event ∷ log)) (node i : ℕ)
+    on : (log : Log) (event : Event) (h : EachEnabled (start pairs words) (event ∷ log))
+        (node i : ℕ)
         → (word : ℕ) × SlotHolds (state_of pairs words log) node i word
         → (word : ℕ) × SlotHolds (state_of pairs words (event ∷ log)) node i word
     on log event h node i was =
         slot_later (state_of pairs words log) (state_of pairs words (event ∷ log))
-            (grow_behind pairs words log event h) node i was.0 was.1
+        (grow_behind pairs words log event h) node i was.0 was.1
 
 module _ (pairs : List Pair) (words : ℕ) (log : Log) (enabled : EachEnabled (start pairs words) log)
-    where
-  abbrev t : Snapshot
-  t = state_of pairs words log
+  where
+    abbrev t : Snapshot
+    t = state_of pairs words log
 
-  -- an inner row isn't the anchor
-  pub no_anchor : (node : ℕ) (r : InnerRow) → t.pieces node ≡ Some (Inner r) → node ≢ anchor
-  no_anchor node r e is = clash (sym (anchor_free pairs words log enabled) ∙ subst
-      (λ n. t.pieces n ≡ Some (Inner r)) is e)
-    where
-      clash : None ≡ Some (Inner r) → ⊥
-      clash f = cc
+    -- an inner row isn't the anchor
+    pub no_anchor : (node : ℕ) (r : InnerRow) → t.pieces node ≡ Some (Inner r) → node ≢ anchor
+    no_anchor node r e is = clash (sym (anchor_free pairs words log enabled) ∙ subst
+        (λ n. t.pieces n ≡ Some (Inner r)) is e)
+      where
+        clash : None ≡ Some (Inner r) → ⊥
+        clash f = cc
 
-  -- an inner row has as many slots as its degree says
-  pub has_degree : (node : ℕ) (r : InnerRow) → t.pieces node ≡ Some (Inner r) → HasDegree r
-  has_degree node r e = shaped pairs words log enabled node (Inner r) e
+    -- an inner row has as many slots as its degree says
+    pub has_degree : (node : ℕ) (r : InnerRow) → t.pieces node ≡ Some (Inner r) → HasDegree r
+    has_degree node r e = shaped pairs words log enabled node (Inner r) e
 
-  -- where slot i of an inner row lies among its words
-  slot_at : (node i word : ℕ) (r : InnerRow) → t.pieces node ≡ Some (Inner r)
-      → place_of_slot t node i ≡ node + (4 + length r.keys + i)
-  slot_at node i word r e =
-      let keys = (has_degree node r e).keys in
-      let same : slot_place node r.degree i ≡ node + (4 + length r.keys + i) = omega arith in
-      place_inner t node i r e (no_anchor node r e) ∙ same
+    -- where slot i of an inner row lies among its words
+    slot_at : (node i word : ℕ) (r : InnerRow) → t.pieces node ≡ Some (Inner r)
+        → place_of_slot t node i ≡ node + (4 + length r.keys + i)
+    slot_at node i word r e =
+        let keys = (has_degree node r e).keys in
+        let same : slot_place node r.degree i ≡ node + (4 + length r.keys + i) = omega arith in
+        place_inner t node i r e (no_anchor node r e) ∙ same
 
-  -- the anchor's slot lies at its place
-  anchor_at : (node i : ℕ) → node ≡ anchor → place_of_slot t node i ≡ anchor_slot_place
-  anchor_at node i e = ap (λ n. place_of_slot t n i) e
+    -- the anchor's slot lies at its place
+    anchor_at : (node i : ℕ) → node ≡ anchor → place_of_slot t node i ≡ anchor_slot_place
+    anchor_at node i e = ap (λ n. place_of_slot t n i) e
 
-  row_above : (base : ℕ) (p : Piece) → t.pieces base ≡ Some p → first_row ≤ base
-  row_above base p e = (claimed_within pairs words log base (size_of p) enabled
-      ((placed pairs words log enabled).published base p e)).behind_fixed
+    row_above : (base : ℕ) (p : Piece) → t.pieces base ≡ Some p → first_row ≤ base
+    row_above base p e = (claimed_within pairs words log base (size_of p) enabled
+        ((placed pairs words log enabled).published base p e)).behind_fixed
 
-  -- what is shown at the place of the anchor's slot stands there
-  shown_anchor : (place word : ℕ) → IsShown t place word → place ≡ anchor_slot_place
-      → word ≡ t.anchor
-  shown_anchor _ _ shown_next e = absurd (omega arith)
-  shown_anchor _ _ shown_callers e = absurd (omega arith)
-  shown_anchor _ _ shown_status e = absurd (omega arith)
-  shown_anchor _ _ shown_slot e = refl
-  shown_anchor _ _ (shown_row base p k there at) e =
-      let low = row_above base p there in absurd (omega arith)
-  shown_anchor _ _ (shown_free far in_it) e =
-      let low = next_behind_fixed pairs words log enabled in absurd (omega arith)
+    -- what is shown at the place of the anchor's slot stands there
+    shown_anchor : (place word : ℕ) → IsShown t place word → place ≡ anchor_slot_place
+        → word ≡ t.anchor
+    shown_anchor _ _ shown_next e = absurd (omega arith)
+    shown_anchor _ _ shown_callers e = absurd (omega arith)
+    shown_anchor _ _ shown_status e = absurd (omega arith)
+    shown_anchor _ _ shown_slot e = refl
+    shown_anchor _ _ (shown_row base p k there at) e =
+        let low = row_above base p there in absurd (omega arith)
+    shown_anchor _ _ (shown_free far in_it) e =
+        let low = next_behind_fixed pairs words log enabled in absurd (omega arith)
 
-  -- the word in a slot is shown at its place
-  pub slot_shown : (node i word : ℕ) → SlotHolds t node i word
-      → IsShown t (place_of_slot t node i) word
-  slot_shown node i word (in_anchor e f is) =
-      subst (λ p. IsShown t p word) (sym (anchor_at node i e))
-          (subst (IsShown t anchor_slot_place) is shown_slot)
-  slot_shown node i word (in_row r e at) =
-      subst (λ p. IsShown t p word) (sym (slot_at node i word r e))
-          (shown_row node (Inner r) (4 + length r.keys + i) e (get-words_of_slot r i ∙ at))
+    -- the word in a slot is shown at its place
+    pub slot_shown : (node i word : ℕ) → SlotHolds t node i word
+        → IsShown t (place_of_slot t node i) word
+    slot_shown node i word (in_anchor e f is) =
+        subst (λ p. IsShown t p word) (sym (anchor_at node i e))
+        (subst (IsShown t anchor_slot_place) is shown_slot)
+    slot_shown node i word (in_row r e at) =
+        subst (λ p. IsShown t p word) (sym (slot_at node i word r e))
+        (shown_row node (Inner r) (4 + length r.keys + i) e (get-words_of_slot r i ∙ at))
 
-  -- and no other is
-  pub shown_in_slot : (node i word shown : ℕ) → SlotHolds t node i word
-      → IsShown t (place_of_slot t node i) shown → shown ≡ word
-  shown_in_slot node i word shown (in_anchor e f is) s =
-      shown_anchor (place_of_slot t node i) shown s (anchor_at node i e) ∙ is
-  shown_in_slot node i word shown (in_row r e at) s =
-      shown_in_row pairs words log enabled node (Inner r) (4 + length r.keys + i) word e
-          (get-words_of_slot r i ∙ at) (place_of_slot t node i) shown s (slot_at node i word r e)
+    -- and no other is
+    pub shown_in_slot : (node i word shown : ℕ) → SlotHolds t node i word
+        → IsShown t (place_of_slot t node i) shown → shown ≡ word
+    shown_in_slot node i word shown (in_anchor e f is) s =
+        shown_anchor (place_of_slot t node i) shown s (anchor_at node i e) ∙ is
+    shown_in_slot node i word shown (in_row r e at) s =
+        shown_in_row pairs words log enabled node (Inner r) (4 + length r.keys + i) word e
+        (get-words_of_slot r i ∙ at) (place_of_slot t node i) shown s (slot_at node i word r e)
 
 -- the place of a slot stays where rows grow
 pub slot_place_later : (pairs : List Pair) (words : ℕ) (old log : Log)
     (before : EachEnabled (start pairs words) old) (enabled : EachEnabled (start pairs words) log)
     → AllGrow (state_of pairs words old).pieces (state_of pairs words log).pieces
     → (node i word : ℕ) → SlotHolds (state_of pairs words old) node i word
-    → place_of_slot (state_of pairs words log) node i ≡ place_of_slot (state_of pairs words old) node i
+    → place_of_slot (state_of pairs words log) node i ≡ place_of_slot (state_of pairs words old)
+    node i
 slot_place_later pairs words old log before enabled g node i word (in_anchor e f is) =
     ap (λ n. place_of_slot (state_of pairs words log) n i) e
     ∙ sym (ap (λ n. place_of_slot (state_of pairs words old) n i) e)

@@ -1,4 +1,5 @@
 -- what the public contracts rest on, in the order to read them
 pub mod Helping
+pub mod Installing
 -- what the functions inside this crate promise each other
 pub mod Naming

@@ -1,13 +1,17 @@
 -- How the exchanges of a helper are named, and what its own steps promise each other.
-use Rattle.std.specs.Prelude.{◌≡◌, ◌≢◌, ℕ, ◌==◌, Bool, true, false, if◌then◌else◌, slice_get, Some}
+use Rattle.std.specs.Prelude.{◌≡◌, ◌≢◌, ℕ, ◌+◌, ◌<◌, ◌==◌, List, length, Bool, true, false, if◌then◌else◌, slice_get, Some}
 use Rattle.ist_core.specs.declared.states.ChangeRow.{ChangeRow}
 use Rattle.ist_core.specs.declared.events.Event.{Event}
-use Rattle.ist_core.specs.declared.events.Event.TheVariants.{Decide, Resolve}
+use Rattle.ist_core.specs.declared.events.Event.TheVariants.{Install, Decide, Resolve}
+use Rattle.ist_core.specs.Snapshots.{HoldsRow}
+use Rattle.ist_rule.specs.declared.view.Who.TheVariants.{Caller}
+use Rattle.ist_rule.specs.Rule.{own_at}
+use Rattle.ist_dcss.specs.Installing.{Filling, rows_of}
 use Rattle.ist_core.specs.RowLayout.{change_from_offset, change_to_offset}
 use Rattle.ist_core.specs.Statuses.{undecided, decided_yes}
 use Rattle.ist_core.specs.Pieces.{Change, words_of}
 use Rattle.ist_core.specs.Logs.{Happened, Okays}
-use Rattle.ist_core.specs.Slots.{IsOpen}
+use Rattle.ist_core.specs.Slots.{SlotHolds, IsOpen}
 use Rattle.ist_core.specs.Writing.{place_of_slot}
 use Rattle.ist_rule.specs.declared.view.View.{View}
 use Rattle.ist_rule.specs.Learning.{now}
@@ -27,6 +31,11 @@ pub data IsReady (v : View) (change : ℕ) (row : ChangeRow) : Bool → Type 0 w
   settled : {said : Bool} → row.decision ≢ undecided → IsReady v change row said
   okayed : Happened (Okays change) v.log → IsReady v change row true
   closed : ¬ (IsOpen (now v) row.node) → IsReady v change row false
+
+-- the node has a slot of this number
+pub record IsSlot (v : View) (node i : ℕ) : Type 0 where
+  pub word : ℕ
+  pub holds : SlotHolds (now v) node i word
 
 -- the place is that of the slot of a change that is installed in the seat's log
 pub record IsSlotOf (v : View) (change place : ℕ) : Type 0 where
@@ -48,3 +57,17 @@ standing wanted stood = if stood == undecided then wanted else stood
 abbrev pub side_offset_of : Bool → ℕ
 side_offset_of true = change_to_offset
 side_offset_of false = change_from_offset
+
+-- ---- installing
+
+-- the seat's caller holds a row of so many words at the base, and has stored these words there
+pub record IsFilled (v : View) (base : ℕ) (words : List ℕ) : Type 0 where
+  pub number : ℕ
+  pub mine : v.who ≡ Caller number
+  pub held : HoldsRow (now v) number base (length words)
+  pub stored : (k : ℕ) → k < length words
+      → slice_get words k ≡ Some (own_at v.own (base + k))
+
+-- the Install that an exchange of a slot for the change's word is
+abbrev pub installing : View → Filling → ℕ → Event
+installing v f base = Install (number_of v.who) base (rows_of f base)

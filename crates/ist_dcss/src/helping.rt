@@ -10,10 +10,10 @@ ghost use Rattle.ist_dcss.specs.Helping.{WasOpen, WasClosed, IsOut};
 ghost use Rattle.ist_dcss.specs.Naming.{standing, side_offset_of, IsField, IsSlotOf};
 
 use crate::decisions::Decision;
+use crate::slots::slot_at;
 use ist_layout::{
-    ANCHOR, ANCHOR_SLOT_PLACE, ANCHOR_STATUS_PLACE, CHANGE_DECISION_OFFSET, CHANGE_FROM_OFFSET,
-    CHANGE_INDEX_OFFSET, CHANGE_NODE_OFFSET, CHANGE_TO_OFFSET, DECIDED_NO, DECIDED_YES,
-    INNER_DEGREE_OFFSET, Ref, UNDECIDED, slot_place,
+    ANCHOR, ANCHOR_STATUS_PLACE, CHANGE_DECISION_OFFSET, CHANGE_FROM_OFFSET, CHANGE_INDEX_OFFSET,
+    CHANGE_NODE_OFFSET, CHANGE_TO_OFFSET, DECIDED_NO, DECIDED_YES, Ref, UNDECIDED,
 };
 use ist_rule::{TreeSeat, TreeTable, exchange, know, load, load_okay};
 
@@ -102,13 +102,8 @@ fn slot_of(table: &TreeTable, seat: &mut TreeSeat, change: u32) -> u64
     ensures slot { IsSlotOf seat.new.view change result }
 {
     let node = field(table, seat, change, CHANGE_NODE_OFFSET);
-    if node == u64::from(ANCHOR) {
-        return ANCHOR_SLOT_PLACE;
-    }
     let index = field(table, seat, change, CHANGE_INDEX_OFFSET);
-    know(seat);
-    let degree = load(table, seat, node + INNER_DEGREE_OFFSET);
-    slot_place(node as u32, degree, index)
+    slot_at(table, seat, node, index)
 }
 
 // Takes a decided change out of its slot, if no one has done so.

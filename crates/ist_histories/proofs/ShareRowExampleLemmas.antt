@@ -62,10 +62,11 @@ one_held = Reserve 0 2120 11 ∷ share_drawn
 -- which is enabled
 one_held_enabled : EachEnabled many one_held
 unfolding finish_of ref_of rows_within degree square_root root_up_to part_len part_lens ideal_words ideal_words_within
-one_held_enabled =
-    (share_drawn_enabled,
-    next_reserved share_drawn 2120 11 ([]) (7 ∷ 7 ∷ 7 ∷ 7 ∷ 7 ∷ 7 ∷ 7 ∷ 7 ∷ 7 ∷ 7 ∷ 7 ∷ 7 ∷ [])
-    refl refl refl (omega arith) refl refl record { rebuild = refl; change = refl; target = refl })
+one_held_enabled = (
+  share_drawn_enabled,
+  next_reserved share_drawn 2120 11 ([]) (7 ∷ 7 ∷ 7 ∷ 7 ∷ 7 ∷ 7 ∷ 7 ∷ 7 ∷ 7 ∷ 7 ∷ 7 ∷ 7 ∷ [])
+      refl refl refl (omega arith) refl refl record { rebuild = refl; change = refl; target = refl },
+)
 
 -- row 2 of the part is reserved
 abbrev two_held : Log
@@ -74,10 +75,11 @@ two_held = Reserve 0 2131 7 ∷ one_held
 -- which is enabled
 two_held_enabled : EachEnabled many two_held
 unfolding finish_of ref_of rows_within degree square_root root_up_to part_len part_lens ideal_words ideal_words_within
-two_held_enabled =
-    (one_held_enabled,
-    next_reserved one_held 2131 7 (11 ∷ []) (7 ∷ 7 ∷ 7 ∷ 7 ∷ 7 ∷ 7 ∷ 7 ∷ 7 ∷ 7 ∷ 7 ∷ 7 ∷ [])
-    refl refl refl (omega arith) refl refl record { rebuild = refl; change = refl; target = refl })
+two_held_enabled = (
+  one_held_enabled,
+  next_reserved one_held 2131 7 (11 ∷ []) (7 ∷ 7 ∷ 7 ∷ 7 ∷ 7 ∷ 7 ∷ 7 ∷ 7 ∷ 7 ∷ 7 ∷ 7 ∷ [])
+      refl refl refl (omega arith) refl refl record { rebuild = refl; change = refl; target = refl },
+)
 
 -- row 3 of the part is reserved
 abbrev three_held : Log
@@ -86,10 +88,11 @@ three_held = Reserve 0 2138 7 ∷ two_held
 -- which is enabled
 three_held_enabled : EachEnabled many three_held
 unfolding finish_of ref_of rows_within degree square_root root_up_to part_len part_lens ideal_words ideal_words_within
-three_held_enabled =
-    (two_held_enabled,
-    next_reserved two_held 2138 7 (11 ∷ 7 ∷ []) (7 ∷ 7 ∷ 7 ∷ 7 ∷ 7 ∷ 7 ∷ 7 ∷ 7 ∷ 7 ∷ 7 ∷ [])
-    refl refl refl (omega arith) refl refl record { rebuild = refl; change = refl; target = refl })
+three_held_enabled = (
+  two_held_enabled,
+  next_reserved two_held 2138 7 (11 ∷ 7 ∷ []) (7 ∷ 7 ∷ 7 ∷ 7 ∷ 7 ∷ 7 ∷ 7 ∷ 7 ∷ 7 ∷ 7 ∷ [])
+      refl refl refl (omega arith) refl refl record { rebuild = refl; change = refl; target = refl },
+)
 
 -- row 4 of the part is reserved
 abbrev four_held : Log
@@ -98,10 +101,11 @@ four_held = Reserve 0 2145 7 ∷ three_held
 -- which is enabled
 four_held_enabled : EachEnabled many four_held
 unfolding finish_of ref_of rows_within degree square_root root_up_to part_len part_lens ideal_words ideal_words_within
-four_held_enabled =
-    (three_held_enabled,
-    next_reserved three_held 2145 7 (11 ∷ 7 ∷ 7 ∷ []) (7 ∷ 7 ∷ 7 ∷ 7 ∷ 7 ∷ 7 ∷ 7 ∷ 7 ∷ 7 ∷ [])
-    refl refl refl (omega arith) refl refl record { rebuild = refl; change = refl; target = refl })
+four_held_enabled = (
+  three_held_enabled,
+  next_reserved three_held 2145 7 (11 ∷ 7 ∷ 7 ∷ []) (7 ∷ 7 ∷ 7 ∷ 7 ∷ 7 ∷ 7 ∷ 7 ∷ 7 ∷ 7 ∷ [])
+      refl refl refl (omega arith) refl refl record { rebuild = refl; change = refl; target = refl },
+)
 
 -- row 5 of the part is reserved
 abbrev five_held : Log
@@ -110,10 +114,11 @@ five_held = Reserve 0 2152 7 ∷ four_held
 -- which is enabled
 five_held_enabled : EachEnabled many five_held
 unfolding finish_of ref_of rows_within degree square_root root_up_to part_len part_lens ideal_words ideal_words_within
-five_held_enabled =
-    (four_held_enabled,
-    next_reserved four_held 2152 7 (11 ∷ 7 ∷ 7 ∷ 7 ∷ []) (7 ∷ 7 ∷ 7 ∷ 7 ∷ 7 ∷ 7 ∷ 7 ∷ 7 ∷ [])
-    refl refl refl (omega arith) refl refl record { rebuild = refl; change = refl; target = refl })
+five_held_enabled = (
+  four_held_enabled,
+  next_reserved four_held 2152 7 (11 ∷ 7 ∷ 7 ∷ 7 ∷ []) (7 ∷ 7 ∷ 7 ∷ 7 ∷ 7 ∷ 7 ∷ 7 ∷ 7 ∷ [])
+      refl refl refl (omega arith) refl refl record { rebuild = refl; change = refl; target = refl },
+)
 
 -- row 6 of the part is reserved
 abbrev six_held : Log
@@ -122,10 +127,11 @@ six_held = Reserve 0 2159 7 ∷ five_held
 -- which is enabled
 six_held_enabled : EachEnabled many six_held
 unfolding finish_of ref_of rows_within degree square_root root_up_to part_len part_lens ideal_words ideal_words_within
-six_held_enabled =
-    (five_held_enabled,
-    next_reserved five_held 2159 7 (11 ∷ 7 ∷ 7 ∷ 7 ∷ 7 ∷ []) (7 ∷ 7 ∷ 7 ∷ 7 ∷ 7 ∷ 7 ∷ 7 ∷ [])
-    refl refl refl (omega arith) refl refl record { rebuild = refl; change = refl; target = refl })
+six_held_enabled = (
+  five_held_enabled,
+  next_reserved five_held 2159 7 (11 ∷ 7 ∷ 7 ∷ 7 ∷ 7 ∷ []) (7 ∷ 7 ∷ 7 ∷ 7 ∷ 7 ∷ 7 ∷ 7 ∷ [])
+      refl refl refl (omega arith) refl refl record { rebuild = refl; change = refl; target = refl },
+)
 
 -- row 7 of the part is reserved
 abbrev seven_held : Log
@@ -134,10 +140,11 @@ seven_held = Reserve 0 2166 7 ∷ six_held
 -- which is enabled
 seven_held_enabled : EachEnabled many seven_held
 unfolding finish_of ref_of rows_within degree square_root root_up_to part_len part_lens ideal_words ideal_words_within
-seven_held_enabled =
-    (six_held_enabled,
-    next_reserved six_held 2166 7 (11 ∷ 7 ∷ 7 ∷ 7 ∷ 7 ∷ 7 ∷ []) (7 ∷ 7 ∷ 7 ∷ 7 ∷ 7 ∷ 7 ∷ [])
-    refl refl refl (omega arith) refl refl record { rebuild = refl; change = refl; target = refl })
+seven_held_enabled = (
+  six_held_enabled,
+  next_reserved six_held 2166 7 (11 ∷ 7 ∷ 7 ∷ 7 ∷ 7 ∷ 7 ∷ []) (7 ∷ 7 ∷ 7 ∷ 7 ∷ 7 ∷ 7 ∷ [])
+      refl refl refl (omega arith) refl refl record { rebuild = refl; change = refl; target = refl },
+)
 
 -- row 8 of the part is reserved
 abbrev eight_held : Log
@@ -146,10 +153,11 @@ eight_held = Reserve 0 2173 7 ∷ seven_held
 -- which is enabled
 eight_held_enabled : EachEnabled many eight_held
 unfolding finish_of ref_of rows_within degree square_root root_up_to part_len part_lens ideal_words ideal_words_within
-eight_held_enabled =
-    (seven_held_enabled,
-    next_reserved seven_held 2173 7 (11 ∷ 7 ∷ 7 ∷ 7 ∷ 7 ∷ 7 ∷ 7 ∷ []) (7 ∷ 7 ∷ 7 ∷ 7 ∷ 7 ∷ [])
-    refl refl refl (omega arith) refl refl record { rebuild = refl; change = refl; target = refl })
+eight_held_enabled = (
+  seven_held_enabled,
+  next_reserved seven_held 2173 7 (11 ∷ 7 ∷ 7 ∷ 7 ∷ 7 ∷ 7 ∷ 7 ∷ []) (7 ∷ 7 ∷ 7 ∷ 7 ∷ 7 ∷ [])
+      refl refl refl (omega arith) refl refl record { rebuild = refl; change = refl; target = refl },
+)
 
 -- row 9 of the part is reserved
 abbrev nine_held : Log
@@ -158,10 +166,11 @@ nine_held = Reserve 0 2180 7 ∷ eight_held
 -- which is enabled
 nine_held_enabled : EachEnabled many nine_held
 unfolding finish_of ref_of rows_within degree square_root root_up_to part_len part_lens ideal_words ideal_words_within
-nine_held_enabled =
-    (eight_held_enabled,
-    next_reserved eight_held 2180 7 (11 ∷ 7 ∷ 7 ∷ 7 ∷ 7 ∷ 7 ∷ 7 ∷ 7 ∷ []) (7 ∷ 7 ∷ 7 ∷ 7 ∷ [])
-    refl refl refl (omega arith) refl refl record { rebuild = refl; change = refl; target = refl })
+nine_held_enabled = (
+  eight_held_enabled,
+  next_reserved eight_held 2180 7 (11 ∷ 7 ∷ 7 ∷ 7 ∷ 7 ∷ 7 ∷ 7 ∷ 7 ∷ []) (7 ∷ 7 ∷ 7 ∷ 7 ∷ [])
+      refl refl refl (omega arith) refl refl record { rebuild = refl; change = refl; target = refl },
+)
 
 -- row 10 of the part is reserved
 abbrev ten_held : Log
@@ -170,10 +179,11 @@ ten_held = Reserve 0 2187 7 ∷ nine_held
 -- which is enabled
 ten_held_enabled : EachEnabled many ten_held
 unfolding finish_of ref_of rows_within degree square_root root_up_to part_len part_lens ideal_words ideal_words_within
-ten_held_enabled =
-    (nine_held_enabled,
-    next_reserved nine_held 2187 7 (11 ∷ 7 ∷ 7 ∷ 7 ∷ 7 ∷ 7 ∷ 7 ∷ 7 ∷ 7 ∷ []) (7 ∷ 7 ∷ 7 ∷ [])
-    refl refl refl (omega arith) refl refl record { rebuild = refl; change = refl; target = refl })
+ten_held_enabled = (
+  nine_held_enabled,
+  next_reserved nine_held 2187 7 (11 ∷ 7 ∷ 7 ∷ 7 ∷ 7 ∷ 7 ∷ 7 ∷ 7 ∷ 7 ∷ []) (7 ∷ 7 ∷ 7 ∷ [])
+      refl refl refl (omega arith) refl refl record { rebuild = refl; change = refl; target = refl },
+)
 
 -- row 11 of the part is reserved
 abbrev eleven_held : Log
@@ -182,10 +192,11 @@ eleven_held = Reserve 0 2194 7 ∷ ten_held
 -- which is enabled
 eleven_held_enabled : EachEnabled many eleven_held
 unfolding finish_of ref_of rows_within degree square_root root_up_to part_len part_lens ideal_words ideal_words_within
-eleven_held_enabled =
-    (ten_held_enabled,
-    next_reserved ten_held 2194 7 (11 ∷ 7 ∷ 7 ∷ 7 ∷ 7 ∷ 7 ∷ 7 ∷ 7 ∷ 7 ∷ 7 ∷ []) (7 ∷ 7 ∷ [])
-    refl refl refl (omega arith) refl refl record { rebuild = refl; change = refl; target = refl })
+eleven_held_enabled = (
+  ten_held_enabled,
+  next_reserved ten_held 2194 7 (11 ∷ 7 ∷ 7 ∷ 7 ∷ 7 ∷ 7 ∷ 7 ∷ 7 ∷ 7 ∷ 7 ∷ []) (7 ∷ 7 ∷ [])
+      refl refl refl (omega arith) refl refl record { rebuild = refl; change = refl; target = refl },
+)
 
 -- row 12 of the part is reserved
 abbrev twelve_held : Log
@@ -194,15 +205,17 @@ twelve_held = Reserve 0 2201 7 ∷ eleven_held
 -- which is enabled
 twelve_held_enabled : EachEnabled many twelve_held
 unfolding finish_of ref_of rows_within degree square_root root_up_to part_len part_lens ideal_words ideal_words_within
-twelve_held_enabled =
-    (eleven_held_enabled,
-    next_reserved eleven_held 2201 7 (11 ∷ 7 ∷ 7 ∷ 7 ∷ 7 ∷ 7 ∷ 7 ∷ 7 ∷ 7 ∷ 7 ∷ 7 ∷ []) (7 ∷ [])
-    refl refl refl (omega arith) refl refl record { rebuild = refl; change = refl; target = refl })
+twelve_held_enabled = (
+  eleven_held_enabled,
+  next_reserved eleven_held 2201 7 (11 ∷ 7 ∷ 7 ∷ 7 ∷ 7 ∷ 7 ∷ 7 ∷ 7 ∷ 7 ∷ 7 ∷ 7 ∷ []) (7 ∷ [])
+      refl refl refl (omega arith) refl refl record { rebuild = refl; change = refl; target = refl },
+)
 
 -- which is enabled
 pub share_held_enabled : EachEnabled many share_held
 unfolding finish_of ref_of rows_within degree square_root root_up_to part_len part_lens ideal_words ideal_words_within
-share_held_enabled =
-    (twelve_held_enabled,
-    next_reserved twelve_held 2208 7 (11 ∷ 7 ∷ 7 ∷ 7 ∷ 7 ∷ 7 ∷ 7 ∷ 7 ∷ 7 ∷ 7 ∷ 7 ∷ 7 ∷ []) ([])
-    refl refl refl (omega arith) refl refl record { rebuild = refl; change = refl; target = refl })
+share_held_enabled = (
+  twelve_held_enabled,
+  next_reserved twelve_held 2208 7 (11 ∷ 7 ∷ 7 ∷ 7 ∷ 7 ∷ 7 ∷ 7 ∷ 7 ∷ 7 ∷ 7 ∷ 7 ∷ 7 ∷ []) ([])
+      refl refl refl (omega arith) refl refl record { rebuild = refl; change = refl; target = refl },
+)

@@ -11,7 +11,6 @@ use Rattle.ist_rule.specs.Rule.{IsSound}
 use Rattle.ist_rule.specs.Learning.{now}
 use Rattle.ist_rule.specs.Conditions.{IsKnown}
 
-
 -- a place that is known lies within the table
 pub known_low : (v : View) (place : ℕ) → IsSound v → IsKnown v place → place < v.words
 known_low v place s known =

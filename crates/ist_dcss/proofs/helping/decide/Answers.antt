@@ -15,16 +15,16 @@ pub exchange-stood-requires : goal.exchange-stood-requires
 exchange-stood-requires c =
     let v = c.load_okay-status.new.seat.view in
     let it = may_decide _ c.args.change c.requires.may_help _ c.field-node.ensures.helped _
-            c.field-node.ensures.field _ c.status_place.ensures.value _ v
-            c.load_okay-status.ensures.seen in
+    c.field-node.ensures.field _ c.status_place.ensures.value _ v
+    c.load_okay-status.ensures.seen in
     let place = c.from.ensures in
     let at : c.from.result + 0 ≡ c.args.change + 0 = omega arith in
     let base : c.from.result + 0 ≡ c.args.change = omega arith in
     let low = (row_low v c.know.ensures.sound c.args.change (Change it.row) it.published 0
-            (omega arith)).0 in
+    (omega arith)).0 in
     let known = c.know.ensures.words in
     let here = c.load_okay-status.ensures.same_table ∙ c.field-node.ensures.same_table
-            ∙ c.requires.same_table in
+    ∙ c.requires.same_table in
     let same = ap (λ t. t.words) here in
     let wanted = c.decision_for-wanted.ensures.value in (
       here,
@@ -44,17 +44,17 @@ pub returns-clause-helped : goal.returns-clause-helped
 returns-clause-helped c =
     let v = c.load_okay-status.new.seat.view in
     let it = may_decide _ c.args.change c.requires.may_help _ c.field-node.ensures.helped _
-            c.field-node.ensures.field _ c.status_place.ensures.value _ v
-            c.load_okay-status.ensures.seen in
+    c.field-node.ensures.field _ c.status_place.ensures.value _ v
+    c.load_okay-status.ensures.seen in
     let place = c.from.ensures in
     let at : c.from.result + 0 ≡ c.args.change + 0 = omega arith in
     let base : c.from.result + 0 ≡ c.args.change = omega arith in
     let tells = decide_tells v c.args.change c.requires.may_help.number _ (c.from.result + 0) _ _
-            it.row it.published at
-            (subst (λ (e : Event). Exchanged v e (c.from.result + 0) undecided
-            c.exchange-stood.result c.exchange-stood.new.seat.view)
-            (deciding_is v c.requires.may_help.number c.args.change (c.from.result + 0) _ _ it.mine
-            base c.decision_for-wanted.ensures.value) c.exchange-stood.ensures.exchanged) in
+    it.row it.published at
+    (subst (λ (e : Event). Exchanged v e (c.from.result + 0) undecided
+    c.exchange-stood.result c.exchange-stood.new.seat.view)
+    (deciding_is v c.requires.may_help.number c.args.change (c.from.result + 0) _ _ it.mine
+    base c.decision_for-wanted.ensures.value) c.exchange-stood.ensures.exchanged) in
     helped_more c.args.change _ v _ it.helped tells.0
 
 -- and the change is decided as the answer says
@@ -62,20 +62,20 @@ pub returns-clause-decided : goal.returns-clause-decided
 returns-clause-decided c =
     let v = c.load_okay-status.new.seat.view in
     let it = may_decide _ c.args.change c.requires.may_help _ c.field-node.ensures.helped _
-            c.field-node.ensures.field _ c.status_place.ensures.value _ v
-            c.load_okay-status.ensures.seen in
+    c.field-node.ensures.field _ c.status_place.ensures.value _ v
+    c.load_okay-status.ensures.seen in
     let place = c.from.ensures in
     let at : c.from.result + 0 ≡ c.args.change + 0 = omega arith in
     let base : c.from.result + 0 ≡ c.args.change = omega arith in
     let tells = decide_tells v c.args.change c.requires.may_help.number _ (c.from.result + 0) _ _
-            it.row it.published at
-            (subst (λ (e : Event). Exchanged v e (c.from.result + 0) undecided
-            c.exchange-stood.result c.exchange-stood.new.seat.view)
-            (deciding_is v c.requires.may_help.number c.args.change (c.from.result + 0) _ _ it.mine
-            base c.decision_for-wanted.ensures.value) c.exchange-stood.ensures.exchanged) in
+    it.row it.published at
+    (subst (λ (e : Event). Exchanged v e (c.from.result + 0) undecided
+    c.exchange-stood.result c.exchange-stood.new.seat.view)
+    (deciding_is v c.requires.may_help.number c.args.change (c.from.result + 0) _ _ it.mine
+    base c.decision_for-wanted.ensures.value) c.exchange-stood.ensures.exchanged) in
     let r = tells.1 in
     decided_as _ tells.0.sound c.args.change r.0 r.1 r.3 _
-        (c.decision_of.ensures.value
-        ∙ ap (λ w. standing w c.exchange-stood.result == decided_yes)
-            c.decision_for-wanted.ensures.value
-        ∙ ap (λ d. d == decided_yes) (sym r.2))
+    (c.decision_of.ensures.value
+    ∙ ap (λ w. standing w c.exchange-stood.result == decided_yes)
+    c.decision_for-wanted.ensures.value
+    ∙ ap (λ d. d == decided_yes) (sym r.2))

@@ -9,7 +9,7 @@ pub load-requires-clause-within : goal.load-requires-clause-within
 load-requires-clause-within c =
     let m = c.requires.may_help in
     let low = (row_low _ c.know.ensures.sound c.args.change (Change m.row) m.installed c.args.offset
-            c.requires.within).0 in
+    c.requires.within).0 in
     let from = c.from.ensures in
     let known = c.know.ensures.words in
     let same = ap (λ t. t.words) c.requires.same_table in
@@ -21,4 +21,4 @@ returns-clause-helped c = looked_helped c.args.change _ _ _ _ c.load.ensures.loo
 pub returns-clause-field : goal.returns-clause-field
 returns-clause-field c =
     looked_field _ _ _ _ c.load.ensures.looked c.args.change c.args.offset c.requires.may_help
-        c.requires.within (ap (λ n. n + c.args.offset) c.from.ensures)
+    c.requires.within (ap (λ n. n + c.args.offset) c.from.ensures)

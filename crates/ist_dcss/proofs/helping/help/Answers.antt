@@ -18,14 +18,14 @@ returns-clause-decided c =
 pub returns-clause-yes : goal.returns-clause-yes
 returns-clause-yes c is =
     yes_seen _ c.resolve.ensures.helped.sound c.args.change
-        (decided_on c.args.change _ _ c.resolve.ensures.helped true
-        (subst (λ d. IsDecided c.decide-decision.new.seat.view c.args.change (is_yes d)) is
-        c.decide-decision.ensures.decided))
+    (decided_on c.args.change _ _ c.resolve.ensures.helped true
+    (subst (λ d. IsDecided c.decide-decision.new.seat.view c.args.change (is_yes d)) is
+    c.decide-decision.ensures.decided))
 
 -- and no of a node that isn't open
 pub returns-clause-no : goal.returns-clause-no
 returns-clause-no c is =
     no_seen _ c.resolve.ensures.helped.sound c.args.change
-        (decided_on c.args.change _ _ c.resolve.ensures.helped false
-        (subst (λ d. IsDecided c.decide-decision.new.seat.view c.args.change (is_yes d)) is
-        c.decide-decision.ensures.decided))
+    (decided_on c.args.change _ _ c.resolve.ensures.helped false
+    (subst (λ d. IsDecided c.decide-decision.new.seat.view c.args.change (is_yes d)) is
+    c.decide-decision.ensures.decided))

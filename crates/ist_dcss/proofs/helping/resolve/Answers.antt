@@ -15,24 +15,26 @@ use Rattle.ist_dcss.proofs.helping.resolve.Goals as goal
 pub to_word-word-requires : goal.to_word-word-requires
 to_word-word-requires c =
     let i = c.field-side.ensures.field in
-    record { good = good_base _ c.know.ensures.sound c.args.change (Change i.row) i.published
-        (omega arith) }
+    record {
+      good = good_base _ c.know.ensures.sound c.args.change (Change i.row) i.published
+          (omega arith);
+    }
 
 -- the change may leave its slot
 pub exchange-requires : goal.exchange-requires
 exchange-requires c =
     let v = c.field-side.new.seat.view in
     let it = may_resolve _ c.args.change c.requires.may_help (is_yes c.args.decision)
-            c.requires.decided _ c.slot_of-place.ensures.helped _ c.slot_of-place.ensures.slot v
-            c.field-side.ensures.helped c.slot_of-place.ensures.helped.sound _
-            (subst (λ n. IsField v c.args.change n c.field-side.result) c.side_offset.ensures.value
-            c.field-side.ensures.field) in
+    c.requires.decided _ c.slot_of-place.ensures.helped _ c.slot_of-place.ensures.slot v
+    c.field-side.ensures.helped c.slot_of-place.ensures.helped.sound _
+    (subst (λ n. IsField v c.args.change n c.field-side.result) c.side_offset.ensures.value
+    c.field-side.ensures.field) in
     let can = can_resolve v c.know.ensures.sound c.args.change c.requires.may_help.number it.mine
-            it.row it.published it.decided _ _ _ it.at c.to_word-word.ensures.value it.side_is in
+    it.row it.published it.decided _ _ _ it.at c.to_word-word.ensures.value it.side_is in
     let low = known_low v c.slot_of-place.result c.know.ensures.sound can.known in
     let known = c.know.ensures.words in
     let here = c.field-side.ensures.same_table ∙ c.slot_of-place.ensures.same_table
-            ∙ c.requires.same_table in
+    ∙ c.requires.same_table in
     let same = ap (λ t. t.words) here in (
       here,
       (
@@ -49,30 +51,31 @@ pub returns-clause-helped : goal.returns-clause-helped
 returns-clause-helped c =
     let v = c.field-side.new.seat.view in
     let it = may_resolve _ c.args.change c.requires.may_help (is_yes c.args.decision)
-            c.requires.decided _ c.slot_of-place.ensures.helped _ c.slot_of-place.ensures.slot v
-            c.field-side.ensures.helped c.slot_of-place.ensures.helped.sound _
-            (subst (λ n. IsField v c.args.change n c.field-side.result) c.side_offset.ensures.value
-            c.field-side.ensures.field) in
+    c.requires.decided _ c.slot_of-place.ensures.helped _ c.slot_of-place.ensures.slot v
+    c.field-side.ensures.helped c.slot_of-place.ensures.helped.sound _
+    (subst (λ n. IsField v c.args.change n c.field-side.result) c.side_offset.ensures.value
+    c.field-side.ensures.field) in
     helped_more c.args.change _ v _ it.helped
-        (resolve_tells v c.know.ensures.sound c.args.change c.requires.may_help.number _ _ _ _ it.row
-        it.published it.at c.to_word-word.ensures.value
-        (subst (λ (e : Event). Exchanged v e c.slot_of-place.result c.to_word-word.result
-        c.exchange.result c.exchange.new.seat.view)
-        (resolving_is v c.requires.may_help.number c.args.change c.to_word-word.result it.mine
-        c.to_word-word.ensures.value) c.exchange.ensures.exchanged)).0
+    (resolve_tells v c.know.ensures.sound c.args.change c.requires.may_help.number _ _ _ _
+    it.row
+    it.published it.at c.to_word-word.ensures.value
+    (subst (λ (e : Event). Exchanged v e c.slot_of-place.result c.to_word-word.result
+    c.exchange.result c.exchange.new.seat.view)
+    (resolving_is v c.requires.may_help.number c.args.change c.to_word-word.result it.mine
+    c.to_word-word.ensures.value) c.exchange.ensures.exchanged)).0
 
 -- and the change is out of its slot
 pub returns-clause-out : goal.returns-clause-out
 returns-clause-out c =
     let v = c.field-side.new.seat.view in
     let it = may_resolve _ c.args.change c.requires.may_help (is_yes c.args.decision)
-            c.requires.decided _ c.slot_of-place.ensures.helped _ c.slot_of-place.ensures.slot v
-            c.field-side.ensures.helped c.slot_of-place.ensures.helped.sound _
-            (subst (λ n. IsField v c.args.change n c.field-side.result) c.side_offset.ensures.value
-            c.field-side.ensures.field) in
+    c.requires.decided _ c.slot_of-place.ensures.helped _ c.slot_of-place.ensures.slot v
+    c.field-side.ensures.helped c.slot_of-place.ensures.helped.sound _
+    (subst (λ n. IsField v c.args.change n c.field-side.result) c.side_offset.ensures.value
+    c.field-side.ensures.field) in
     (resolve_tells v c.know.ensures.sound c.args.change c.requires.may_help.number _ _ _ _ it.row
-        it.published it.at c.to_word-word.ensures.value
-        (subst (λ (e : Event). Exchanged v e c.slot_of-place.result c.to_word-word.result
-        c.exchange.result c.exchange.new.seat.view)
-        (resolving_is v c.requires.may_help.number c.args.change c.to_word-word.result it.mine
-        c.to_word-word.ensures.value) c.exchange.ensures.exchanged)).1
+    it.published it.at c.to_word-word.ensures.value
+    (subst (λ (e : Event). Exchanged v e c.slot_of-place.result c.to_word-word.result
+    c.exchange.result c.exchange.new.seat.view)
+    (resolving_is v c.requires.may_help.number c.args.change c.to_word-word.result it.mine
+    c.to_word-word.ensures.value) c.exchange.ensures.exchanged)).1

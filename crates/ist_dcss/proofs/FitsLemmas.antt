@@ -1,0 +1,229 @@
+-- What an Install asks of the log is so behind each longer one. Serves `install`.
+use Rattle.std.proofs.Common.{◌≡◌, ◌≢◌, ℕ, List, length, Some, refl, sym, ap, ◌∙◌, subst, inl, inr, ⊎_elim, arith}
+use Rattle.ist_core.specs.declared.pairs.Pair.{Pair}
+use Rattle.ist_core.specs.declared.lists.Row.{Row}
+use Rattle.ist_core.specs.declared.states.InnerRow.{InnerRow}
+use Rattle.ist_core.specs.declared.states.ChangeRow.{ChangeRow}
+use Rattle.ist_core.specs.Arithmetic.{limit, child_count}
+use Rattle.ist_core.specs.References.{ref_of, InnerAt}
+use Rattle.ist_core.specs.Pieces.{Inner, Rebuild}
+use Rattle.ist_core.specs.Snapshots.{Snapshot}
+use Rattle.ist_core.specs.StartLayout.{start}
+use Rattle.ist_core.specs.Growing.{AllGrow}
+use Rattle.ist_core.specs.Logs.{Log, GoesOn, same_log, one_event, Ever}
+use Rattle.ist_core.specs.Slots.{SlotHolds, in_anchor, in_row, IsChildFor, of_anchor, of_row}
+use Rattle.ist_core.specs.Links.{Leads}
+use Rattle.ist_core.specs.Rebuilding.{IsDue, IsStarted, IsBuilt}
+use Rattle.ist_core.specs.Installing.{IsLeafOf, HasRoomFor, nothing, same_key, ComesByKey, FitsKind, a_put, a_pair, a_remove, a_start, a_finish}
+use Rattle.ist_core.specs.Lawful.{EachEnabled, CanOpen, state_of}
+use Rattle.ist_core.proofs.GrowingLemmas.{leaf_there, inner_there, change_there, rebuild_there}
+use Rattle.ist_core.proofs.FateLemmas.{grow_between, enabled_before}
+use Rattle.ist_core.proofs.ImageLemmas.{get_below}
+use Rattle.ist_core.proofs.SlotLemmas.{same_inner}
+use Rattle.ist_core.proofs.NamingLemmas.{RootNames}
+use Rattle.ist_core.proofs.OrderLemmas.{names}
+use Rattle.ist_core.specs.declared.states.RebuildRow.{RebuildRow}
+use Rattle.ist_dcss.proofs.SlotPlaceLemmas.{word_in}
+use Rattle.ist_dcss.proofs.SetSlotLemmas.{set_later}
+
+-- what was once true was once true
+pub ever_later : (first : Snapshot) (P : Snapshot → Type 0) (a b : Log) → GoesOn a b
+    → Ever first P a → Ever first P b
+ever_later first P a _ same_log e = e
+ever_later first P a _ (one_event {log = log} event g) e = inr (ever_later first P a log g e)
+
+module _ (t u : Snapshot) (g : AllGrow t.pieces u.pieces) where
+  -- a leaf of a key stays one
+  leaf_later : (base key : ℕ) → IsLeafOf t base key → IsLeafOf u base key
+  leaf_later base key l =
+      record {
+        row = l.row;
+        published = leaf_there t.pieces u.pieces g base l.row l.published;
+        key_is = l.key_is;
+      }
+
+  -- a word that leaves room for a key does still
+  room_later : (key word : ℕ) → HasRoomFor t key word → HasRoomFor u key word
+  room_later key word (nothing e) = nothing e
+  room_later key word (same_key leaf e l) = same_key leaf e (leaf_later leaf key l)
+
+  -- the child for a key stays
+  child_later : (node key i : ℕ) → IsChildFor t node key i → IsChildFor u node key i
+  child_later node key i (of_anchor e f) = of_anchor e f
+  child_later node key i (of_row r e f) =
+      let on = inner_there t.pieces u.pieces g node r e in
+      of_row on.0 on.1 (f ∙ ap (λ ks. child_count ks key) (sym on.2.keys))
+
+  -- a started rebuild is started
+  started_later : (rebuild : ℕ) → IsStarted t rebuild → IsStarted u rebuild
+  started_later rebuild s =
+      let on = change_there t.pieces u.pieces g s.base s.change s.published in
+      let set : s.change.decision ≢ 0 =
+      λ e. let one : ◌≡◌ {A = ℕ} 1 0 = sym s.decision ∙ e in omega arith in
+      record {
+        base = s.base;
+        change = on.0;
+        published = on.1;
+        kind = ap (λ r. r.kind) on.2.others ∙ s.kind;
+        decision = on.2.decided set ∙ s.decision;
+        to = ap (λ r. ref_of r.to) on.2.others ∙ s.to;
+      }
+
+  -- a row that is due is due
+  due_later : (node : ℕ) (r : InnerRow) → t.pieces node ≡ Some (Inner r) → IsDue r
+      → (s : InnerRow) × (u.pieces node ≡ Some (Inner s)) × IsDue s
+  due_later node r e due =
+      let on = inner_there t.pieces u.pieces g node r e in
+      let more = on.2.count in
+      let same : limit on.0.size ≡ limit r.size = ap limit on.2.size in
+      (on.0, on.1, omega arith)
+
+module _ (pairs : List Pair) (words : ℕ) (opens : CanOpen pairs words) (old log : Log)
+    (enabled : EachEnabled (start pairs words) log) (on : GoesOn old log) where
+  abbrev t : Snapshot
+  t = state_of pairs words old
+
+  abbrev u : Snapshot
+  u = state_of pairs words log
+
+  grow : AllGrow t.pieces u.pieces
+  grow = grow_between pairs words old log enabled on
+
+  comes_later : (change : ChangeRow) → ComesByKey (start pairs words) old change
+      → ComesByKey (start pairs words) log change
+  comes_later change c =
+      record {
+        led = ever_later (start pairs words) (λ t. Leads t change.key change.node) old log on c.led;
+        index = child_later t u grow change.node change.key change.index c.index;
+      }
+
+  -- a built root is built
+  built_later : (root : ℕ) → ((base : ℕ) → ref_of root ≡ Some (InnerAt base)
+      → (r : InnerRow) × (t.pieces base ≡ Some (Inner r))) → IsBuilt t root → IsBuilt u root
+  built_later root stands b =
+      record {
+        set = b.set;
+        whole = λ base i word is slot.
+            set_later pairs words old log on enabled base i
+            (λ w s. b.whole base i w is s)
+            (slot_before base i word (stands base is) slot) word slot;
+      }
+    where
+      slot_before : (base i word : ℕ) → (r : InnerRow) × (t.pieces base ≡ Some (Inner r))
+          → SlotHolds u base i word → (w : ℕ) × SlotHolds t base i w
+      slot_before base i word r (in_anchor e f is) = (t.anchor, in_anchor e f refl)
+      slot_before base i word r (in_row s e at) =
+          let it = inner_there t.pieces u.pieces grow base r.0 r.1 in
+          let same : it.0 ≡ s = same_inner (u.pieces base) it.0 s it.1 e in
+          let less = get_below s.slots i word at in
+          let slots : length it.0.slots ≡ length r.0.slots = it.2.slots in
+          let here : length it.0.slots ≡ length s.slots = ap (λ x. length x.slots) same in
+          let got = word_in r.0.slots i (omega arith) in
+          (got.0, in_row r.0 r.1 got.1)
+
+  -- the root of a published rebuild is published
+  root_stands : (rebuild : ℕ) (r : RebuildRow) → t.pieces rebuild ≡ Some (Rebuild r) → (base : ℕ)
+      → ref_of r.root ≡ Some (InnerAt base) → (s : InnerRow) × (t.pieces base ≡ Some (Inner s))
+  root_stands rebuild r e base is =
+      let row = (names pairs words opens old (enabled_before (start pairs words) old log on
+      enabled)).rows rebuild (Rebuild r) e in
+      (subst (RootNames t.pieces r.target) is row.2).1
+
+  -- a change that fits its kind fits it
+  pub fits_later : (change : ChangeRow) (fresh : List Row)
+      → FitsKind (start pairs words) old change fresh → FitsKind (start pairs words) log change
+      fresh
+  fits_later change fresh (a_put h) =
+      a_put record {
+        kind = h.kind;
+        by_key = comes_later change h.by_key;
+        from =
+            room_later t u grow change.key change.from h.from;
+        leaf = h.leaf;
+        to = h.to;
+        fresh_are =
+            h.fresh_are;
+      }
+  fits_later change fresh (a_pair h) =
+      a_pair record {
+        kind = h.kind;
+        by_key = comes_later change h.by_key;
+        other = h.other;
+        other_key = h.other_key;
+        from = h.from;
+        stands =
+            leaf_later t u grow h.other h.other_key h.stands;
+        differs = h.differs;
+        pair = h.pair;
+        leaf = h.leaf;
+        to = h.to;
+        above = h.above;
+        fresh_are = h.fresh_are;
+      }
+  fits_later change fresh (a_remove h) =
+      a_remove record {
+        kind = h.kind;
+        by_key = comes_later change h.by_key;
+        leaf = h.leaf;
+        from =
+            h.from;
+        stands = leaf_later t u grow h.leaf change.key h.stands;
+        to = h.to;
+        value =
+            h.value;
+        fresh_are = h.fresh_are;
+      }
+  fits_later change fresh (a_start h) =
+      ⊎_elim
+      (λ due.
+      let it = due_later t u grow h.target h.row h.published due in
+      a_start record {
+        kind = h.kind;
+        key = h.key;
+        value = h.value;
+        target = h.target;
+        row = it.0;
+        from = h.from;
+        published = it.1;
+        due = inl it.2;
+        rebuild = h.rebuild;
+        to = h.to;
+        fresh_are = h.fresh_are;
+      })
+      (λ anchor.
+      let it = inner_there t.pieces u.pieces grow h.target h.row h.published in
+      a_start record {
+        kind = h.kind;
+        key = h.key;
+        value = h.value;
+        target = h.target;
+        row = it.0;
+        from = h.from;
+        published = it.1;
+        due = inr anchor;
+        rebuild = h.rebuild;
+        to = h.to;
+        fresh_are = h.fresh_are;
+      })
+      h.due
+  fits_later change fresh (a_finish h) =
+      let it = rebuild_there t.pieces u.pieces grow h.rebuild h.row h.published in
+      let root : it.0.root ≡ h.row.root = it.2.rooted h.built.set in
+      a_finish record {
+        kind = h.kind;
+        key = h.key;
+        value = h.value;
+        rebuild = h.rebuild;
+        row =
+            it.0;
+        from = h.from;
+        published = it.1;
+        started = started_later t u grow h.rebuild h.started;
+        parent = it.2.parent ∙ h.parent;
+        index = it.2.index ∙ h.index;
+        to = h.to ∙ sym root;
+        built = subst (IsBuilt u) (sym root) (built_later h.row.root
+            (root_stands h.rebuild h.row h.published) h.built);
+        fresh_are =
+            h.fresh_are;
+      }

@@ -1,0 +1,54 @@
+//! Installing a change in its slot.
+ghost use Rattle.std.specs.Prelude.{◌≡◌, ◌<◌, ℕ, List, length, slice_get, Some};
+ghost use Rattle.ist_dcss.specs.declared.decisions.Installed.TheVariants.{Yes, Other};
+ghost use Rattle.ist_rule.specs.Learning.{GoesOnTo};
+ghost use Rattle.ist_dcss.specs.Installing.{Filling, IsInstallable, IsInstalled, IsOther};
+ghost use Rattle.ist_dcss.specs.Naming.{IsFilled};
+
+use crate::decisions::Installed;
+use crate::slots::slot_at;
+use ist_layout::{CHANGE_FROM_OFFSET, CHANGE_INDEX_OFFSET, CHANGE_NODE_OFFSET, Ref};
+use ist_rule::{TreeSeat, TreeTable, exchange, know, load};
+
+// A word of a row that the seat's caller holds and has filled.
+fn own_word(table: &TreeTable, seat: &mut TreeSeat, base: u32, offset: u64) -> u64
+    ghost words: { List ℕ }
+    requires same_table { seat.old.table ≡ table.now.table }
+    requires filled { IsFilled seat.old.view base words }
+    requires within { offset < length words }
+    ensures same_table { seat.new.table ≡ seat.old.table }
+    ensures seen { GoesOnTo seat.old.view seat.new.view }
+    ensures value { slice_get words offset ≡ Some result }
+{
+    know(seat);
+    load(table, seat, u64::from(base) + offset)
+}
+
+/// Installs a change whose row is filled, where its slot holds the word that it expects.
+///
+/// Yes comes exactly where the slot held that word at the last step of the call: the slot then
+/// holds the change, and none of its rows is held any more. Otherwise the answer is the word that
+/// the slot held, no word changes, and the rows stay held.
+pub fn install(table: &TreeTable, seat: &mut TreeSeat, change: u32) -> Installed
+    ghost filling: { Filling }
+    requires same_table { seat.old.table ≡ table.now.table }
+    requires may_install { IsInstallable seat.old.view change filling }
+    ensures same_table { seat.new.table ≡ seat.old.table }
+    ensures yes { result ≡ Yes → IsInstalled seat.old.view change filling seat.new.view }
+    ensures other { (word : ℕ) → result ≡ Other word
+        → IsOther seat.old.view change filling word seat.new.view }
+{
+    know(seat);
+    let node = own_word(table, seat, change, CHANGE_NODE_OFFSET);
+    let index = own_word(table, seat, change, CHANGE_INDEX_OFFSET);
+    let from = own_word(table, seat, change, CHANGE_FROM_OFFSET);
+    let place = slot_at(table, seat, node, index);
+    know(seat);
+    let word = Ref::Change { base: change }.to_word();
+    let found = exchange(table, seat, place, from, word);
+    if found == from {
+        Installed::Yes
+    } else {
+        Installed::Other(found)
+    }
+}

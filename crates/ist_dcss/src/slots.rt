@@ -1,0 +1,24 @@
+//! Where a slot lies.
+ghost use Rattle.std.specs.Prelude.{◌≡◌};
+ghost use Rattle.ist_core.specs.Writing.{place_of_slot};
+ghost use Rattle.ist_rule.specs.Learning.{now, GoesOnTo};
+ghost use Rattle.ist_dcss.specs.Naming.{IsSlot};
+
+use ist_layout::{ANCHOR, ANCHOR_SLOT_PLACE, INNER_DEGREE_OFFSET, slot_place};
+use ist_rule::{TreeSeat, TreeTable, know, load};
+
+/// Where slot `index` of the node lies.
+pub(crate) fn slot_at(table: &TreeTable, seat: &mut TreeSeat, node: u64, index: u64) -> u64
+    requires same_table { seat.old.table ≡ table.now.table }
+    requires slot { IsSlot seat.old.view node index }
+    ensures same_table { seat.new.table ≡ seat.old.table }
+    ensures seen { GoesOnTo seat.old.view seat.new.view }
+    ensures place { result ≡ place_of_slot (now seat.new.view) node index }
+{
+    know(seat);
+    if node == u64::from(ANCHOR) {
+        return ANCHOR_SLOT_PLACE;
+    }
+    let degree = load(table, seat, node + INNER_DEGREE_OFFSET);
+    slot_place(node as u32, degree, index)
+}
