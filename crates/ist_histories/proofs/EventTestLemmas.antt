@@ -1,7 +1,6 @@
--- Marks, passes and finishes of a closed log are found to be enabled by a computation. Serves `examples`.
-use Rattle.std.proofs.Common.{◌≡◌, ℕ, zero, suc, ◌+◌, ◌*◌, ◌/◌, ◌<◌, ◌==◌, nat_lt, Bool, true, false, List, [], ◌∷◌, ◌++◌, slice_get, Option, Some, None, is_some, refl, inl, inr, subst, sym, ap, ◌∙◌, ◌≢◌, arith}
+-- Marks, passes and finishes are found to be enabled by a computation. Serves `examples`.
+use Rattle.std.proofs.Common.{◌≡◌, ℕ, ◌+◌, ◌/◌, ◌<◌, ◌==◌, nat_lt, Bool, true, false, List, [], ◌∷◌, ◌++◌, slice_get, Option, Some, None, is_some, refl, inl, inr, subst, ap, ◌∙◌, ◌≢◌, arith}
 use Rattle.std.proofs.lemmas.Bool.Decides.{nat_tests}
-use Rattle.ist_core.specs.declared.states.InnerRow.{InnerRow}
 use Rattle.ist_core.specs.declared.events.Event.{Event}
 use Rattle.ist_core.specs.declared.events.Event.TheVariants.{Pass, Mark, Finish}
 use Rattle.ist_core.specs.References.{Ref, Empty, LeafAt, InnerAt, ChangeAt, ref_of, unset_word}
@@ -10,7 +9,7 @@ use Rattle.ist_core.specs.Pieces.{Piece, Inner}
 use Rattle.ist_core.specs.Snapshots.{Snapshot}
 use Rattle.ist_core.specs.Logs.{Log, state, Happened, Passes}
 use Rattle.ist_core.specs.Rebuilding.{IsFinishedWith}
-use Rattle.ist_core.specs.Marking.{IsCalled, as_child, CanMark, CanPass, CountsFor, no_key, one_key, of_child, ArePassed, past_end, one_passed, CanFinish}
+use Rattle.ist_core.specs.Marking.{as_child, CanMark, CanPass, CountsFor, no_key, one_key, of_child, ArePassed, past_end, one_passed, CanFinish}
 use Rattle.ist_core.specs.Enabled.{Enabled}
 use Rattle.ist_core.specs.Lawful.{EachEnabled}
 
@@ -61,7 +60,8 @@ pass_here node i (Pass c n j w) =
 pass_here node i _ = None
 
 -- some event of the log does
-abbrev pub pass_in : (node i : ℕ) (log : Log) → Option ((word : ℕ) × Happened (Passes node i word) log)
+abbrev pub pass_in : (node i : ℕ) (log : Log)
+    → Option ((word : ℕ) × Happened (Passes node i word) log)
 pass_in node i [] = None
 pass_in node i (event ∷ log) =
     either (then (pass_here node i event) (λ p. Some (p.0, inl p.1)))
@@ -69,19 +69,22 @@ pass_in node i (event ∷ log) =
 
 -- the reference is the row
 abbrev pub is_row : (node : ℕ) (o : Option Ref) → Option (o ≡ Some (InnerAt node))
-is_row node (Some (InnerAt base)) = then (equal base node) (λ e. Some (ap (λ n. Some (InnerAt n)) e))
+is_row node (Some (InnerAt base)) =
+    then (equal base node) (λ e. Some (ap (λ n. Some (InnerAt n)) e))
 is_row node _ = None
 
 -- an event passes the row in some slot
 abbrev pub call_here : (node : ℕ) (event : Event)
-    → Option ((above : ℕ) × (i : ℕ) × (word : ℕ) × Passes above i word event × (ref_of word ≡ Some (InnerAt node)))
+    → Option ((above : ℕ) × (i : ℕ) × (word : ℕ) × Passes above i word event
+    × (ref_of word ≡ Some (InnerAt node)))
 call_here node (Pass c n j w) =
     then (is_row node (ref_of w)) (λ e. Some (n, j, w, (refl, refl, refl), e))
 call_here node _ = None
 
 -- some event of the log does
 abbrev pub call_in : (t : Snapshot) (node : ℕ) (log : Log)
-    → Option ((above : ℕ) × (i : ℕ) × (word : ℕ) × Happened (Passes above i word) log × (ref_of word ≡ Some (InnerAt node)))
+    → Option ((above : ℕ) × (i : ℕ) × (word : ℕ) × Happened (Passes above i word) log
+    × (ref_of word ≡ Some (InnerAt node)))
 call_in t node [] = None
 call_in t node (event ∷ log) =
     either (then (call_here node event) (λ p. Some (p.0, p.1, p.2, inl p.3, p.4)))
@@ -90,11 +93,19 @@ call_in t node (event ∷ log) =
 -- ---- Mark
 
 -- the row that stands there may be marked
-abbrev pub mark_by : (t : Snapshot) (log : Log) (caller node : ℕ) (o : Option Piece) → t.pieces node ≡ o
+abbrev pub mark_by : (t : Snapshot) (log : Log) (caller node : ℕ) (o : Option Piece)
+    → t.pieces node ≡ o
     → Option (CanMark t log caller node)
 mark_by t log caller node (Some (Inner r)) e =
-    then (less caller t.callers) (λ known. then (equal r.status 0) (λ row_open. then (call_in t node log) (λ p.
-    Some record { known = known; row = r; published = e; row_open = row_open; called = as_child p.0 p.1 p.2 p.3 p.4 })))
+    then (less caller t.callers) (λ known. then (equal r.status 0) (λ row_open.
+    then (call_in t node log) (λ p.
+    Some record {
+      known = known;
+      row = r;
+      published = e;
+      row_open = row_open;
+      called = as_child p.0 p.1 p.2 p.3 p.4;
+    })))
 mark_by t log caller node _ e = None
 
 -- ---- Pass
@@ -108,13 +119,27 @@ pub record IsPlain (word : ℕ) : Type 0 where
 pub plain_leaf : (word base : ℕ) → ref_of word ≡ Some (LeafAt base) → IsPlain word
 unfolding ref_of
 plain_leaf word base e =
-    record { no_change = λ change k. cc; set = λ k. let at : ref_of 7 ≡ Some (LeafAt base) = subst (λ w. ref_of w ≡ Some (LeafAt base)) k e in cc }
+    record {
+      no_change = λ change k. cc;
+      set = λ k.
+          let at : ref_of 7 ≡ Some (LeafAt base) =
+          subst (λ w. ref_of w ≡ Some (LeafAt base)) k e
+          in
+          cc;
+    }
 
 -- nor is a row
 pub plain_row : (word base : ℕ) → ref_of word ≡ Some (InnerAt base) → IsPlain word
 unfolding ref_of
 plain_row word base e =
-    record { no_change = λ change k. cc; set = λ k. let at : ref_of 7 ≡ Some (InnerAt base) = subst (λ w. ref_of w ≡ Some (InnerAt base)) k e in cc }
+    record {
+      no_change = λ change k. cc;
+      set = λ k.
+          let at : ref_of 7 ≡ Some (InnerAt base) =
+          subst (λ w. ref_of w ≡ Some (InnerAt base)) k e
+          in
+          cc;
+    }
 
 -- the word is plain, or nothing is said
 abbrev pub plain_by : (word : ℕ) (o : Option Ref) → ref_of word ≡ o → Option (IsPlain word)
@@ -135,7 +160,15 @@ pass_by t caller node i word (Some (Inner r)) e =
     then (less caller t.callers) (λ known. then (equal r.status 1) (λ marked.
     then (slot_by r.slots i word (slice_get r.slots i) refl) (λ in_slot.
     then (plain_by word (ref_of word) refl) (λ plain.
-    Some record { known = known; row = r; published = e; marked = marked; in_slot = in_slot; no_change = plain.no_change; set = plain.set }))))
+    Some record {
+      known = known;
+      row = r;
+      published = e;
+      marked = marked;
+      in_slot = in_slot;
+      no_change = plain.no_change;
+      set = plain.set;
+    }))))
 pass_by t caller node i word _ e = None
 
 -- ---- Finish
@@ -166,18 +199,26 @@ counts_by t log node i (slot ∷ slots) =
     Some (here.0 + rest.0, one_passed p.0 p.1 here.1 rest.1))))
 
 -- the row may be finished
-abbrev pub finish_by : (t : Snapshot) (log : Log) (caller node k : ℕ) (o : Option Piece) → t.pieces node ≡ o
+abbrev pub finish_by : (t : Snapshot) (log : Log) (caller node k : ℕ) (o : Option Piece)
+    → t.pieces node ≡ o
     → Option (CanFinish t log caller node k)
 finish_by t log caller node k (Some (Inner r)) e =
     then (less caller t.callers) (λ known. then (equal r.status 1) (λ marked.
     then (counts_by t log node 0 r.slots) (λ p. then (equal p.0 k) (λ same.
-    Some record { known = known; row = r; published = e; marked = marked; passed = subst (λ n. ArePassed t log node 0 r.slots n) same p.1 }))))
+    Some record {
+      known = known;
+      row = r;
+      published = e;
+      marked = marked;
+      passed = subst (λ n. ArePassed t log node 0 r.slots n) same p.1;
+    }))))
 finish_by t log caller node k _ e = None
 
 -- ---- logs
 
 -- the event is enabled, or nothing is said
-abbrev pub enabled_by : (first : Snapshot) (log : Log) (event : Event) → Option (Enabled first log event)
+abbrev pub enabled_by : (first : Snapshot) (log : Log) (event : Event)
+    → Option (Enabled first log event)
 enabled_by first log (Mark c n) =
     let t = state first log in mark_by t log c n (t.pieces n) refl
 enabled_by first log (Pass c n i w) =

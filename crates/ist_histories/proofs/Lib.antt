@@ -48,5 +48,6 @@ pub mod EventTestLemmas
 pub mod ShareExampleLemmas
 pub mod ShareRootExampleLemmas
 pub mod ShareRowExampleLemmas
+pub mod SharePartExampleLemmas
 pub mod SharePlaceExampleLemmas
 pub mod SharedExampleLemmas

@@ -1,6 +1,5 @@
 -- The rebuild of a tree of 256 keys is started, and its target is finished. Serves `examples`.
-use Rattle.std.proofs.Common.{◌≡◌, ℕ, zero, suc, ◌+◌, ◌<◌, ◌≤◌, ◌⊎◌, Bool, true, false, List, [], ◌∷◌, ◌++◌, map, Some, is_some, refl, inl, inr, subst, sym, arith}
-use Rattle.std.specs.List.Sorted.{IsStrictlyIncreasing}
+use Rattle.std.proofs.Common.{◌≡◌, ℕ, Bool, true, false, List, [], ◌∷◌, Some, refl, inl, inr, subst, arith}
 use Rattle.ist_core.specs.declared.states.InnerRow.{InnerRow}
 use Rattle.ist_core.specs.declared.states.ChangeRow.{ChangeRow}
 use Rattle.ist_core.specs.declared.states.RebuildRow.{RebuildRow}
@@ -9,11 +8,11 @@ use Rattle.ist_core.specs.Arithmetic.{degree, square_root, root_up_to, part_len,
 use Rattle.ist_core.specs.Shapes.{ideal_words, ideal_words_within}
 use Rattle.ist_core.specs.References.{ref_of}
 use Rattle.ist_core.specs.Statuses.{start_kind}
-use Rattle.ist_core.specs.Pieces.{Pieces, Piece, Leaf, Inner, Change, Rebuild}
+use Rattle.ist_core.specs.Pieces.{Piece, Leaf, Inner, Change, Rebuild}
 use Rattle.ist_core.specs.Snapshots.{Snapshot}
 use Rattle.ist_core.specs.RowLayout.{first_row}
 use Rattle.ist_core.specs.StartLayout.{start, rows_within, rows_from}
-use Rattle.ist_core.specs.Logs.{state, Log}
+use Rattle.ist_core.specs.Logs.{state}
 use Rattle.ist_core.specs.Slots.{in_anchor, anchor_is}
 use Rattle.ist_core.specs.Links.{at_anchor}
 use Rattle.ist_core.specs.Rebuilding.{IsStarted}
@@ -21,7 +20,7 @@ use Rattle.ist_core.specs.Installing.{CanInstall, a_start}
 use Rattle.ist_core.specs.Deciding.{CanOkay, CanDecide, CanResolve}
 use Rattle.ist_core.specs.Marking.{CanMark, as_target}
 use Rattle.ist_core.specs.Enabled.{CanEnter, CanReserve}
-use Rattle.ist_core.specs.Lawful.{CanOpen, EachEnabled}
+use Rattle.ist_core.specs.Lawful.{EachEnabled}
 use Rattle.ist_core.specs.Elements.{Among}
 use Rattle.ist_core.proofs.PieceLemmas.{among-pieces_of}
 use Rattle.ist_histories.specs.ExampleShares.{many_pairs, top_keys, share_rows, share_installed, share_started, share_marked, finish_of, share_finished}
@@ -72,7 +71,14 @@ top_slots =
 -- the top row, with a status
 abbrev pub big_top : ℕ → InnerRow
 big_top status =
-    record { status = status; count = 0; degree = 16; size = 256; keys = top_keys; slots = top_slots }
+    record {
+      status = status;
+      count = 0;
+      degree = 16;
+      size = 256;
+      keys = top_keys;
+      slots = top_slots;
+    }
 
 -- the row is a change
 IsChange : Piece → Type 0
@@ -164,7 +170,8 @@ okayed =
     }
 
 -- the start is decided
-decided : CanDecide (state many (Okay 0 2076 ∷ share_installed)) (Okay 0 2076 ∷ share_installed) 0 2076 true
+decided : CanDecide (state many (Okay 0 2076 ∷ share_installed))
+    (Okay 0 2076 ∷ share_installed) 0 2076 true
 unfolding ref_of rows_within degree square_root root_up_to part_len part_lens ideal_words ideal_words_within
 decided =
     record {
@@ -219,10 +226,16 @@ marked =
 
 -- the log is enabled until then
 marked_enabled : EachEnabled many share_marked
-marked_enabled =
-    ((((((((tt, entered), rebuild_reserved), start_reserved), installed), okayed), decided), resolved), marked)
+marked_enabled = (
+  (
+    ((((((tt, entered), rebuild_reserved), start_reserved), installed), okayed), decided),
+    resolved,
+  ),
+  marked,
+)
 
 -- and until the whole tree is finished
 pub share_finished_enabled : EachEnabled many share_finished
 unfolding finish_of ref_of rows_within degree square_root root_up_to part_len part_lens ideal_words ideal_words_within
-share_finished_enabled = known (each_by many (finish_of 4 4 many_pairs) share_marked marked_enabled) refl
+share_finished_enabled =
+    known (each_by many (finish_of 4 4 many_pairs) share_marked marked_enabled) refl

@@ -1,14 +1,11 @@
--- The rebuild of a tree of 256 keys gets a shared root, and a part of it is drawn. Serves `examples`.
-use Rattle.std.proofs.Common.{◌≡◌, ℕ, zero, suc, ◌+◌, ◌<◌, ◌≤◌, ◌≢◌, ◌⊎◌, true, List, [], ◌∷◌, ◌++◌, length, replicate, Option, Some, None, is_some, refl, inl, inr, subst, sym, arith}
-use Rattle.ist_core.specs.declared.states.LeafRow.{LeafRow}
+-- A rebuild of 256 keys gets a shared root, and a part of it is drawn. Serves `examples`.
+use Rattle.std.proofs.Common.{◌≡◌, ℕ, zero, suc, ◌≤◌, ◌⊎◌, List, [], ◌∷◌, ◌++◌, length, replicate, Option, Some, None, refl, inl, inr, arith}
 use Rattle.ist_core.specs.declared.states.InnerRow.{InnerRow}
-use Rattle.ist_core.specs.declared.events.Event.{Event}
 use Rattle.ist_core.specs.declared.events.Event.TheVariants.{Enter, Reserve, Install, Okay, Decide, Resolve, Count, Mark, Pass, Finish, Root, Draw, Place, Lose}
 use Rattle.ist_core.specs.Arithmetic.{degree, square_root, root_up_to, part_len, part_lens}
-use Rattle.ist_core.specs.RowLayout.{inner_words}
 use Rattle.ist_core.specs.Shapes.{ideal_words, ideal_words_within, share_from, share_from_is}
 use Rattle.ist_core.specs.References.{Ref, Empty, LeafAt, InnerAt, ref_of}
-use Rattle.ist_core.specs.Pieces.{Pieces, Piece, Leaf, Inner, Change, Rebuild, with_inners}
+use Rattle.ist_core.specs.Pieces.{Pieces, Piece, Leaf, Inner, with_inners}
 use Rattle.ist_core.specs.Snapshots.{Snapshot}
 use Rattle.ist_core.specs.StartLayout.{rows_within}
 use Rattle.ist_core.specs.Slots.{logical}
@@ -20,7 +17,7 @@ use Rattle.ist_core.specs.Fairness.{IsBuild, build_top, IsBuilding, IsMerge, IsF
 use Rattle.ist_core.specs.Building.{CanRoot, root_top, CanDraw}
 use Rattle.ist_core.specs.Enabled.{CanReserve}
 use Rattle.ist_core.specs.Lawful.{EachEnabled}
-use Rattle.ist_histories.specs.ExampleShares.{many_pairs, top_keys, finish_of, share_started, share_marked, share_finished, share_root_rows, share_rooted, share_drawn}
+use Rattle.ist_histories.specs.ExampleShares.{top_keys, finish_of, share_finished, share_root_rows, share_rooted, share_drawn}
 use Rattle.ist_histories.proofs.EventTestLemmas.{then, known}
 use Rattle.ist_histories.proofs.ShareExampleLemmas.{many, share_start, share_rebuild, big_top, share_finished_enabled}
 
@@ -144,7 +141,8 @@ held_started =
     }
 
 -- the leaves of the target
-root_leaves : (leaves : List PlacedLeaf) × HasLeaves (state many root_held).pieces (Some (InnerAt 4)) leaves
+root_leaves : (leaves : List PlacedLeaf)
+    × HasLeaves (state many root_held).pieces (Some (InnerAt 4)) leaves
 unfolding finish_of ref_of rows_within degree square_root root_up_to part_len part_lens ideal_words ideal_words_within
 root_leaves = known (leaves_by 6 (state many root_held).pieces (Some (InnerAt 4))) refl
 
@@ -154,7 +152,8 @@ new_top slots =
     record { status = 0; count = 0; degree = 16; size = 256; keys = top_keys; slots = slots }
 
 -- it is the top of an ideal subtree
-is_top : IsTop (with_inners (state many root_held).pieces share_root_rows) 2085 (new_top (replicate 16 7)) root_leaves.0 4
+is_top : IsTop (with_inners (state many root_held).pieces share_root_rows) 2085
+    (new_top (replicate 16 7)) root_leaves.0 4
 unfolding root_leaves finish_of ref_of rows_within degree square_root root_up_to part_len part_lens ideal_words ideal_words_within
 is_top =
     let many_leaves : length root_leaves.0 ≡ 256 = refl in
@@ -201,23 +200,28 @@ only_later : (part : ℕ) (log : Log) → (Happened (Draws 0 2071 part) log → 
 only_later part log before (inl k) = k
 only_later part log before (inr k) = before k
 
+-- nor was there a draw behind an event that is none
+abbrev none_later : (log : Log) → Option ((part : ℕ) → Happened (Draws 0 2071 part) log → ⊥)
+    → Option ((part : ℕ) → ⊥ ⊎ Happened (Draws 0 2071 part) log → ⊥)
+none_later log before = then before (λ none. Some (λ part h. only_later part log (none part) h))
+
 -- the log has no draw, or nothing is said
 abbrev no_draw : (log : Log) → Option ((part : ℕ) → Happened (Draws 0 2071 part) log → ⊥)
 no_draw [] = Some (λ part h. h)
 no_draw (Draw c o p ∷ log) = None
-no_draw (Enter a ∷ log) = then (no_draw log) (λ before. Some (λ part h. only_later part log (before part) h))
-no_draw (Reserve a b z ∷ log) = then (no_draw log) (λ before. Some (λ part h. only_later part log (before part) h))
-no_draw (Install a b rows ∷ log) = then (no_draw log) (λ before. Some (λ part h. only_later part log (before part) h))
-no_draw (Okay a b ∷ log) = then (no_draw log) (λ before. Some (λ part h. only_later part log (before part) h))
-no_draw (Decide a b said ∷ log) = then (no_draw log) (λ before. Some (λ part h. only_later part log (before part) h))
-no_draw (Resolve a b ∷ log) = then (no_draw log) (λ before. Some (λ part h. only_later part log (before part) h))
-no_draw (Count a n ∷ log) = then (no_draw log) (λ before. Some (λ part h. only_later part log (before part) h))
-no_draw (Mark a n ∷ log) = then (no_draw log) (λ before. Some (λ part h. only_later part log (before part) h))
-no_draw (Pass a n i w ∷ log) = then (no_draw log) (λ before. Some (λ part h. only_later part log (before part) h))
-no_draw (Finish a n k ∷ log) = then (no_draw log) (λ before. Some (λ part h. only_later part log (before part) h))
-no_draw (Root a o w rows ∷ log) = then (no_draw log) (λ before. Some (λ part h. only_later part log (before part) h))
-no_draw (Place a o p w rows ∷ log) = then (no_draw log) (λ before. Some (λ part h. only_later part log (before part) h))
-no_draw (Lose a bases ∷ log) = then (no_draw log) (λ before. Some (λ part h. only_later part log (before part) h))
+no_draw (Enter a ∷ log) = none_later log (no_draw log)
+no_draw (Reserve a b z ∷ log) = none_later log (no_draw log)
+no_draw (Install a b rows ∷ log) = none_later log (no_draw log)
+no_draw (Okay a b ∷ log) = none_later log (no_draw log)
+no_draw (Decide a b said ∷ log) = none_later log (no_draw log)
+no_draw (Resolve a b ∷ log) = none_later log (no_draw log)
+no_draw (Count a n ∷ log) = none_later log (no_draw log)
+no_draw (Mark a n ∷ log) = none_later log (no_draw log)
+no_draw (Pass a n i w ∷ log) = none_later log (no_draw log)
+no_draw (Finish a n k ∷ log) = none_later log (no_draw log)
+no_draw (Root a o w rows ∷ log) = none_later log (no_draw log)
+no_draw (Place a o p w rows ∷ log) = none_later log (no_draw log)
+no_draw (Lose a bases ∷ log) = none_later log (no_draw log)
 
 -- no part was drawn before
 none_drawn : (part : ℕ) → Happened (Draws 0 2071 part) share_rooted → ⊥

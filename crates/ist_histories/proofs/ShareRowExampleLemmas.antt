@@ -41,14 +41,24 @@ next_reserved log base size before rest callers next words room held all is =
     record {
       known = subst (λ n. 0 < n) (sym callers) (omega arith);
       base_is = sym next;
-      room = subst (λ n. n + size ≤ (state many log).words) (sym next) (subst (λ n. base + size ≤ n) (sym words) room);
+      room =
+          subst (λ n. n + size ≤ (state many log).words) (sym next)
+          (subst (λ n. base + size ≤ n) (sym words) room);
       fair =
           subst (λ sizes. IsFair (state many log) (sizes ++ size ∷ [])) (sym held)
           (build_fair (state many log) (before ++ size ∷ []) rest record {
             rebuild = 2071;
             row = share_rebuild 16682 1;
             published = is.rebuild;
-            started = record { base = 2076; change = share_start 1; published = is.change; kind = refl; decision = refl; to = refl };
+            started =
+                record {
+                  base = 2076;
+                  change = share_start 1;
+                  published = is.change;
+                  kind = refl;
+                  decision = refl;
+                  to = refl;
+                };
             k = 256;
             finished = record { row = big_top 1027; published = is.target; status = refl };
             build = subst (λ sizes. IsBuild 256 sizes) (sym all) part_builds;

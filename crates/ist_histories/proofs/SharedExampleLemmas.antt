@@ -1,12 +1,11 @@
--- The log of a shared root is lawful, and what it leaves. Serves `examples.a_shared_root_is_lawful`.
-use Rattle.std.proofs.Common.{◌≡◌, ℕ, ◌+◌, ◌<◌, List, [], ◌∷◌, map, replicate, Option, Some, is_some, refl, arith}
+-- The log of a shared root is lawful, and what it leaves. Serves `examples`.
+use Rattle.std.proofs.Common.{◌≡◌, ℕ, ◌<◌, List, [], ◌∷◌, map, replicate, Option, Some, refl, arith}
 use Rattle.std.specs.List.Sorted.{IsStrictlyIncreasing}
 use Rattle.ist_core.specs.declared.states.InnerRow.{InnerRow}
 use Rattle.ist_core.specs.Arithmetic.{degree, square_root, root_up_to, part_len, part_lens}
 use Rattle.ist_core.specs.Shapes.{ideal_words, ideal_words_within}
 use Rattle.ist_core.specs.References.{InnerAt, ref_of}
 use Rattle.ist_core.specs.Elements.{Each}
-use Rattle.ist_core.specs.Pieces.{Inner}
 use Rattle.ist_core.specs.StartLayout.{rows_within}
 use Rattle.ist_core.specs.Logs.{state}
 use Rattle.ist_core.specs.Slots.{SlotHolds, in_row}

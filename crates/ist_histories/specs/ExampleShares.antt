@@ -44,8 +44,8 @@ mark_of base [] = []
 mark_of base (one ∷ []) = []
 mark_of base (one ∷ two ∷ pairs) = Mark 0 base ∷ []
 
--- a marked tree is passed and finished, down so many levels: each slot of its top row is passed, each part is marked and
--- finished in the same way, and then the row is
+-- a marked tree is passed and finished, down so many levels: each slot of its top row is passed,
+-- each part is marked and finished in the same way, and then the row is
 unfoldable pub finish_of : ℕ → ℕ → List Pair → Log
 finish_of fuel base [] = []
 finish_of fuel base (one ∷ []) = []
@@ -53,8 +53,8 @@ finish_of zero base (one ∷ two ∷ pairs) = []
 finish_of (suc fuel) base (one ∷ two ∷ pairs) =
     let all = one ∷ two ∷ pairs in
     let parts = placed_parts base all in
-    Finish 0 base (length all)
-    ∷ (flat_map (λ part. finish_of fuel part.0 part.1 ++ mark_of part.0 part.1) parts ++ passes_of base 0 parts)
+    let below = flat_map (λ part. finish_of fuel part.0 part.1 ++ mark_of part.0 part.1) parts in
+    Finish 0 base (length all) ∷ (below ++ passes_of base 0 parts)
 
 -- the whole tree is finished
 abbrev pub share_finished : Log

@@ -80,8 +80,10 @@ pub fn a_finish_too_late_is_refused()
 pub fn a_shared_root_is_lawful()
     ensures lawful { Lawful many_pairs 3000 share_placed }
     ensures next { (state_of many_pairs 3000 share_placed).next ≡ 2215 }
-    ensures part { SlotHolds (state_of many_pairs 3000 share_placed) 2085 0 (word_of (InnerAt 2120)) }
+    ensures part { let t = state_of many_pairs 3000 share_placed in
+        SlotHolds t 2085 0 (word_of (InnerAt 2120)) }
     ensures unset { SlotHolds (state_of many_pairs 3000 share_placed) 2085 1 unset_word }
-    ensures unbuilt { ¬ (IsBuilt (state_of many_pairs 3000 share_placed) (word_of (InnerAt 2085))) }
+    ensures unbuilt { let t = state_of many_pairs 3000 share_placed in
+        ¬ (IsBuilt t (word_of (InnerAt 2085))) }
     ensures contents { HasContents (state_of many_pairs 3000 share_placed) many_pairs }
 {}
