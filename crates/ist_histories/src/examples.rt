@@ -75,7 +75,7 @@ pub fn a_finish_too_late_is_refused()
 {}
 
 /// The rebuild of a tree of 256 pairs gets a shared root, whose first part is drawn, built and
-/// placed. The root has that part in its first slot and Unset in the others, so that it isn't built
+/// placed. The root has that part in its first slot and Unset in its second, so that it isn't built
 /// yet. The contents stay.
 pub fn a_shared_root_is_lawful()
     ensures lawful { Lawful many_pairs 3000 share_placed }
