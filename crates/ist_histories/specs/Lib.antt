@@ -7,3 +7,5 @@ pub mod Placing
 pub mod Loads
 pub mod Searching
 pub mod ExampleCalls
+pub mod ExampleRebuilds
+pub mod ExampleShares

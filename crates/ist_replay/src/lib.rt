@@ -8,10 +8,14 @@ mod advancing;
 mod holding;
 mod installing;
 mod publishing;
+mod remembering;
+mod starting;
 mod writes;
 
 pub use advancing::advance;
 pub use holding::{give_up, give_up_rows};
 pub use installing::install;
 pub use publishing::{put_as_inner, put_as_leaf, put_as_rebuild, put_change, put_inners};
+pub use remembering::{remember_build, remember_draw, remember_okay, remember_pass};
+pub use starting::{remember_refusal, remember_start};
 pub use writes::{count_at, decide, draw, set_root, set_row_slot, set_slot, set_status};

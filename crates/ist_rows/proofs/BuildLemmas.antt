@@ -43,8 +43,12 @@ module _ (t u : Snapshot) (b : ComesBehind t u) where
   finished_on : (node k : ℕ) → IsFinishedWith t node k → IsFinishedWith u node k
   finished_on node k f =
       let it = inner_there t.pieces u.pieces b.grow node f.row f.published in
-      record { row = it.0; published = it.1; status =
-          finished_stays f.row.status it.0.status k it.2.status f.status }
+      record {
+        row = it.0;
+        published = it.1;
+        status =
+            finished_stays f.row.status it.0.status k it.2.status f.status;
+      }
 
   -- a building list stays one
   pub building_on : (sizes : List ℕ) → IsBuilding t sizes → IsBuilding u sizes
@@ -70,8 +74,13 @@ module _ (t u : Snapshot) (b : ComesBehind t u) where
       let more_used = b.next in
       let short = s.no_room in
       stuck_build
-      record { next_size = s.next_size; rest = s.rest; building =
-          building_on (sizes ++ s.next_size ∷ s.rest) s.building; no_room = omega arith }
+      record {
+        next_size = s.next_size;
+        rest = s.rest;
+        building =
+            building_on (sizes ++ s.next_size ∷ s.rest) s.building;
+        no_room = omega arith;
+      }
       (builds_on more a)
 
 -- ---- merging
@@ -87,13 +96,13 @@ merge_filter f p (x ∷ xs) = at (merge_filter f p xs) (p x) refl
         (map f (filter p (x ∷ xs)))
     at rest true e =
         subst (λ v. IsMerge (map f (x ∷ xs))
-            (map f (if not v then x ∷ filter (λ y. not (p y)) xs else filter (λ y. not (p y)) xs))
-            (map f (if v then x ∷ filter p xs else filter p xs))) (sym e)
+        (map f (if not v then x ∷ filter (λ y. not (p y)) xs else filter (λ y. not (p y)) xs))
+        (map f (if v then x ∷ filter p xs else filter p xs))) (sym e)
         (from_right (f x) rest)
     at rest false e =
         subst (λ v. IsMerge (map f (x ∷ xs))
-            (map f (if not v then x ∷ filter (λ y. not (p y)) xs else filter (λ y. not (p y)) xs))
-            (map f (if v then x ∷ filter p xs else filter p xs))) (sym e)
+        (map f (if not v then x ∷ filter (λ y. not (p y)) xs else filter (λ y. not (p y)) xs))
+        (map f (if v then x ∷ filter p xs else filter p xs))) (sym e)
         (from_left (f x) rest)
 
 -- one more comes last, from the right

@@ -1,5 +1,6 @@
--- A caller goes on with its seat: by loads, by a row reserved, by a word stored. Serves `reserving`.
-use Rattle.std.proofs.Common.{◌≡◌, ◌≢◌, ℕ, ◌+◌, ◌<◌, ◌≤◌, ◌⊎◌, ◌==◌, ◌||◌, not, Bool, true, false, if◌then◌else◌, List, [], ◌∷◌, ◌++◌, map, filter, Option, Some, None, refl, sym, ap, ap₂, ◌∙◌, subst, le_refl, inl, inr, ⊎_elim, append-nil, arith}
+-- A caller goes on with its seat: by loads, by a row reserved, by a word stored. Serves
+-- `reserving`.
+use Rattle.std.proofs.Common.{◌≡◌, ◌≢◌, ℕ, ◌+◌, ◌<◌, ◌≤◌, ◌⊎◌, ◌==◌, ◌||◌, not, Bool, true, false, if◌then◌else◌, List, [], ◌∷◌, ◌++◌, map, filter, Some, None, refl, sym, ap, ap₂, ◌∙◌, subst, inl, inr, ⊎_elim, append-nil, arith}
 use Rattle.std.proofs.lemmas.Bool.Decides.{eqb_tells}
 use Rattle.std.proofs.lemmas.List.Elements.{filter-append}
 use Rattle.ist_core.specs.declared.pairs.Pair.{Pair}
@@ -7,28 +8,25 @@ use Rattle.ist_core.specs.declared.lists.HeldRow.{HeldRow}
 use Rattle.ist_core.specs.declared.ports.Full.{Full}
 use Rattle.ist_core.specs.declared.events.Event.TheVariants.{Reserve}
 use Rattle.ist_core.specs.RowLayout.{place_limit}
-use Rattle.ist_core.specs.Elements.{Among, Each, Distinct}
-use Rattle.ist_core.specs.Snapshots.{Snapshot, sizes_held, HoldsRow}
+use Rattle.ist_core.specs.Elements.{Among}
+use Rattle.ist_core.specs.Snapshots.{Snapshot, HoldsRow}
 use Rattle.ist_core.specs.StartLayout.{start}
-use Rattle.ist_core.specs.Fairness.{AreBuilds, IsFair, spare_sizes}
+use Rattle.ist_core.specs.Fairness.{AreBuilds}
 use Rattle.ist_core.specs.Logs.{Log}
 use Rattle.ist_core.specs.Lawful.{EachEnabled, Lawful, state_of}
-use Rattle.ist_core.proofs.ElementLemmas.{among-filter, among_left, among_right, each_append}
+use Rattle.ist_core.proofs.ElementLemmas.{among-filter, among_left, among_right}
 use Rattle.ist_core.proofs.SoundLemmas.{sound}
 use Rattle.ist_core.proofs.StartLemmas.{sound_start}
 use Rattle.ist_core.proofs.RoomLemmas.{next_within, words_same}
-use Rattle.ist_core.proofs.SpendingLemmas.{next-state}
 use Rattle.ist_core.proofs.GrowingLemmas.{all_grow_same}
-use Rattle.ist_core.proofs.FateLemmas.{grow_between}
 use Rattle.ist_rule.specs.declared.view.View.{View}
 use Rattle.ist_rule.specs.declared.view.Who.TheVariants.{Caller as CallerOf}
-use Rattle.ist_rule.specs.Authors.{Later, no_more, one_more}
+use Rattle.ist_rule.specs.Authors.{Later}
 use Rattle.ist_rule.specs.Rule.{IsSound}
 use Rattle.ist_rule.specs.Faces.{SeatFace}
 use Rattle.ist_rule.specs.Learning.{now, GoesOnTo, storing}
 use Rattle.ist_rule.specs.Conditions.{IsOwn}
-use Rattle.ist_rule.proofs.LaterLemmas.{later-goes_on, later_more}
-use Rattle.ist_rule.proofs.HeldLemmas.{held_later}
+use Rattle.ist_rule.proofs.LaterLemmas.{later_more}
 use Rattle.ist_rule.proofs.ShownLemmas.{held_loose}
 use Rattle.ist_rule.proofs.GoingOnLemmas.{goes_on_who, goes_on_more, looked_goes_on}
 use Rattle.ist_rows.specs.declared.callers.Caller.{Caller}
@@ -36,9 +34,7 @@ use Rattle.ist_rows.specs.declared.kinds.Kind.{Kind}
 use Rattle.ist_rows.specs.declared.kinds.Kind.TheVariants.{Leaf, Pair as PairKind, Change, Rebuild}
 use Rattle.ist_rows.specs.Kinds.{kind_words}
 use Rattle.ist_rows.specs.Rows.{Spares, spares_of, row_of, with_row, is_base, is_spare, held_by, build_sizes, IsCaller, Reserved, IsFull, HoldsPlace}
-use Rattle.ist_rows.specs.Fairly.{MayTake}
-use Rattle.ist_rows.proofs.HeldListLemmas.{distinct_filter, distinct_more, held_distinct, held_by_later}
-use Rattle.ist_rows.proofs.BuildLemmas.{ComesBehind, builds_on, merge_filter, merge_more}
+use Rattle.ist_rows.proofs.BuildLemmas.{ComesBehind, builds_on}
 use Rattle.ist_rows.proofs.CallerLemmas.{IsCallerIn, caller_later}
 
 -- ---- a caller's seat goes on
@@ -53,14 +49,17 @@ pub caller_goes_on : (who : Caller) (seat : SeatFace) → IsCaller who
 caller_goes_on who seat c g =
     let v = who.seat.view in
     let lawful : Lawful v.start v.words seat.view.log =
-            subst (λ p. Lawful p v.words seat.view.log) (ap (λ x. x.start) g.same)
+    subst (λ p. Lawful p v.words seat.view.log) (ap (λ x. x.start) g.same)
     (subst (λ n. Lawful seat.view.start n seat.view.log) (ap (λ x. x.words) g.same)
-        g.sound.lawful) in
+    g.sound.lawful) in
     let it = caller_later v.start v.words v.log seat.view.log who.number (spares_of who) lawful
-            (subst (λ w. Later w v.log seat.view.log) c.mine g.later) record { rows =
-            c.rows; builds = c.builds } in
+    (subst (λ w. Later w v.log seat.view.log) c.mine g.later) record {
+      rows =
+          c.rows;
+      builds = c.builds;
+    } in
     let there = subst (λ t. IsCallerIn t who.number (spares_of who)) (sym (now_is v seat.view g))
-            it in
+    it in
     record { mine = goes_on_who g ∙ c.mine; rows = there.rows; builds = there.builds }
 
 -- a test of a base with one that differs
@@ -97,19 +96,19 @@ spare_here own Leaf base = ap (λ a. a ||
     (base_same base)
 spare_here own PairKind base =
     ap (λ a. is_base own.leaf base || (a || (is_base own.change base || is_base own.rebuild base)))
-        (base_same base) ∙ or_any (is_base own.leaf base)
+    (base_same base) ∙ or_any (is_base own.leaf base)
 spare_here own Change base =
     ap (λ a. is_base own.leaf base || (is_base own.pair base || (a || is_base own.rebuild base)))
-        (base_same base)
+    (base_same base)
     ∙ ap (λ a. is_base own.leaf base || a) (or_any (is_base own.pair base)) ∙ or_any
-        (is_base own.leaf base)
+    (is_base own.leaf base)
 spare_here own Rebuild base =
     ap (λ a. is_base own.leaf base || (is_base own.pair base || (is_base own.change base || a)))
-        (base_same base)
+    (base_same base)
     ∙ ap (λ a. is_base own.leaf base || (is_base own.pair base || a))
-        (or_any (is_base own.change base))
+    (or_any (is_base own.change base))
     ∙ ap (λ a. is_base own.leaf base || a) (or_any (is_base own.pair base)) ∙ or_any
-        (is_base own.leaf base)
+    (is_base own.leaf base)
 
 -- filters whose tests agree on each element
 filter_same : {A : Type 0} (p q : A → Bool) (xs : List A) → ((x : A) → Among x xs → p x ≡ q x)
@@ -117,7 +116,7 @@ filter_same : {A : Type 0} (p q : A → Bool) (xs : List A) → ((x : A) → Amo
 filter_same p q [] h = refl
 filter_same p q (x ∷ xs) h =
     ap₂ (λ b ys. if b then x ∷ ys else ys) (h x (inl refl))
-        (filter_same p q xs (λ y i. h y (inr i)))
+    (filter_same p q xs (λ y i. h y (inr i)))
 
 -- the row of a kind, where one of a kind is taken
 row_taken : (own : Spares) (kind other : Kind) (base b : ℕ)
@@ -144,7 +143,7 @@ row_taken own Rebuild Change base b e = inr e
 module _ (pairs : List Pair) (words : ℕ) (log : Log) (number : ℕ) (own : Spares) (kind : Kind)
     (base : ℕ)
     (enabled : EachEnabled (start pairs words) (Reserve number base (kind_words kind) ∷ log))
-        (none : row_of kind own ≡ None) (c : IsCallerIn (state_of pairs words log) number own) where
+    (none : row_of kind own ≡ None) (c : IsCallerIn (state_of pairs words log) number own) where
   abbrev t : Snapshot
   t = state_of pairs words log
 
@@ -163,27 +162,31 @@ module _ (pairs : List Pair) (words : ℕ) (log : Log) (number : ℕ) (own : Spa
   old_base h i same =
       let it = among-filter (λ (x : HeldRow). x.caller == number) h t.held i in
       let low = (sound (start pairs words) log (sound_start pairs words) enabled.0).held_below h
-              it.0 in
+      it.0 in
       let at_next = enabled.1.base_is in
       omega arith
 
   sizes_now : build_sizes u number (with_row kind base own) ≡ build_sizes t number own
   sizes_now =
       ap (λ held. map (λ h. h.size) (filter (λ h. not (is_spare (with_row kind base own) h.base))
-          held)) held_now
+      held)) held_now
       ∙ ap (map (λ (h : HeldRow). h.size))
       (filter-append (λ (h : HeldRow). not (is_spare (with_row kind base own) h.base))
-          (held_by t number) (new_row ∷ [])
+      (held_by t number) (new_row ∷ [])
       ∙ ap₂ (λ xs ys. xs ++ ys)
       (filter_same (λ (h : HeldRow). not (is_spare (with_row kind base own) h.base))
-          (λ h. not (is_spare own h.base)) (held_by t number)
+      (λ h. not (is_spare own h.base)) (held_by t number)
       (λ h i. ap not (spare_else own kind base h.base none (old_base h i))))
       (ap (λ b. if not b then new_row ∷ [] else []) (spare_here own kind base))
       ∙ append-nil (filter (λ (h : HeldRow). not (is_spare own h.base)) (held_by t number)))
 
   behind : ComesBehind t u
-  behind = let at_next = enabled.1.base_is in record { words = refl; next = omega arith; grow =
-      all_grow_same t.pieces }
+  behind = let at_next = enabled.1.base_is in record {
+    words = refl;
+    next = omega arith;
+    grow =
+        all_grow_same t.pieces;
+  }
 
   pub taken_caller : IsCallerIn u number (with_row kind base own)
   taken_caller =
@@ -191,10 +194,14 @@ module _ (pairs : List Pair) (words : ℕ) (log : Log) (number : ℕ) (own : Spa
         rows = λ other b e.
             ⊎_elim
             (λ k. subst (λ x. HoldsRow u number x (kind_words other)) k.1
-                (subst (λ x. HoldsRow u number base (kind_words x)) k.0
-                (among_right new_row t.held (new_row ∷ []) (inl refl))))
-            (λ k. among_left record { caller = number; base = b; size =
-                kind_words other } t.held (new_row ∷ []) (c.rows other b k))
+            (subst (λ x. HoldsRow u number base (kind_words x)) k.0
+            (among_right new_row t.held (new_row ∷ []) (inl refl))))
+            (λ k. among_left record {
+              caller = number;
+              base = b;
+              size =
+                  kind_words other;
+            } t.held (new_row ∷ []) (c.rows other b k))
             (row_taken own kind other base b e);
         builds = builds_on t u behind (build_sizes u number (with_row kind base own))
             (subst (AreBuilds t) (sym sizes_now) c.builds);
@@ -218,24 +225,30 @@ caller_reserved old new kind base c none r number rows =
     let lawful : Lawful v.start v.words (event ∷ l.before) =
     subst (λ p. Lawful p v.words (event ∷ l.before)) start_is
     (subst (λ n. Lawful w.start n (event ∷ l.before)) words_is
-        (subst (Lawful w.start w.words) log_is l.sound.lawful)) in
+    (subst (Lawful w.start w.words) log_is l.sound.lawful)) in
     let later : Later v.who v.log l.before =
-            later_more r.seen.later (subst (λ x. Later x m.log l.before) (goes_on_who r.seen)
-            l.later) in
-    let before = caller_later v.start v.words v.log l.before old.number (spares_of old) record
-            { opens = lawful.opens; enabled =
-            lawful.enabled.0 } (subst (λ x. Later x v.log l.before) c.mine later)
+    later_more r.seen.later (subst (λ x. Later x m.log l.before) (goes_on_who r.seen)
+    l.later) in
+    let before = caller_later v.start v.words v.log l.before old.number (spares_of old) record {
+      opens = lawful.opens;
+      enabled =
+          lawful.enabled.0;
+    } (subst (λ x. Later x v.log l.before) c.mine later)
     record { rows = c.rows; builds = c.builds } in
     let it = taken_caller v.start v.words l.before old.number (spares_of old) kind base
-            lawful.enabled none before in
+    lawful.enabled none before in
     let now_is : now w ≡ state_of v.start v.words (event ∷ l.before) =
-            ap₂ (λ p n. state_of p n w.log) start_is words_is ∙ ap (state_of v.start v.words)
-            log_is in
+    ap₂ (λ p n. state_of p n w.log) start_is words_is ∙ ap (state_of v.start v.words)
+    log_is in
     let there = subst (λ own. IsCallerIn (now w) new.number own) (sym rows)
-            (subst (λ n. IsCallerIn (now w) n (with_row kind base (spares_of old))) (sym number)
+    (subst (λ n. IsCallerIn (now w) n (with_row kind base (spares_of old))) (sym number)
     (subst (λ t. IsCallerIn t old.number (with_row kind base (spares_of old))) (sym now_is) it)) in
-    record { mine = who_is ∙ c.mine ∙ ap CallerOf (sym number); rows = there.rows; builds =
-        there.builds }
+    record {
+      mine = who_is ∙ c.mine ∙ ap CallerOf (sym number);
+      rows = there.rows;
+      builds =
+          there.builds;
+    }
 
 -- a caller that stored into its row is a caller
 pub caller_storing : (who : Caller) (place word : ℕ) → IsCaller who
@@ -247,13 +260,24 @@ pub place_low : (who : Caller) (base at : ℕ) → IsSound who.seat.view → IsC
     → HoldsPlace who base at → IsOwn who.seat.view (base + at) × (base + at < who.seat.view.words)
 place_low who base at s c h =
     let v = who.seat.view in
-    let loose = held_loose v.start v.words v.log s.lawful.enabled record { caller =
-            who.number; base = base; size = h.size } h.held at h.within in
+    let loose = held_loose v.start v.words v.log s.lawful.enabled record {
+      caller =
+          who.number;
+      base = base;
+      size = h.size;
+    } h.held at h.within in
     let below = loose.below in
     let low = next_within v.start v.words s.lawful.opens v.log s.lawful.enabled in
     let all = words_same v.start v.words s.lawful.opens v.log in (
-      record { row = record { caller = who.number; base = base; size = h.size }; held =
-          h.held; mine = c.mine; offset = at; within = h.within; at = refl },
+      record {
+        row = record { caller = who.number; base = base; size = h.size };
+        held =
+            h.held;
+        mine = c.mine;
+        offset = at;
+        within = h.within;
+        at = refl;
+      },
       omega arith,
     )
 

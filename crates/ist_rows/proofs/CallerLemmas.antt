@@ -1,41 +1,30 @@
 -- Callers across the steps of their seats. Serves `enter`, `reserve` and `fill`.
-use Rattle.std.proofs.Common.{◌≡◌, ◌≢◌, ℕ, ◌+◌, ◌<◌, ◌≤◌, ◌⊎◌, ◌==◌, ◌||◌, not, Bool, true, false, if◌then◌else◌, List, [], ◌∷◌, ◌++◌, map, filter, Option, Some, None, refl, sym, ap, ap₂, ◌∙◌, subst, le_refl, inl, inr, ⊎_elim, append-nil, arith}
+use Rattle.std.proofs.Common.{◌≡◌, ℕ, ◌≤◌, ◌⊎◌, ◌==◌, ◌||◌, not, Bool, true, false, List, [], ◌∷◌, ◌++◌, map, filter, Option, Some, None, refl, sym, ap, ◌∙◌, subst, le_refl, inl, inr, ⊎_elim, arith}
 use Rattle.std.proofs.lemmas.Bool.Decides.{eqb_tells}
-use Rattle.std.proofs.lemmas.List.Elements.{filter-append}
 use Rattle.ist_core.specs.declared.pairs.Pair.{Pair}
 use Rattle.ist_core.specs.declared.lists.HeldRow.{HeldRow}
-use Rattle.ist_core.specs.declared.ports.Full.{Full}
-use Rattle.ist_core.specs.declared.events.Event.TheVariants.{Reserve}
-use Rattle.ist_core.specs.RowLayout.{place_limit}
 use Rattle.ist_core.specs.Elements.{Among, Each, Distinct}
 use Rattle.ist_core.specs.Snapshots.{Snapshot, sizes_held, HoldsRow}
 use Rattle.ist_core.specs.StartLayout.{start}
 use Rattle.ist_core.specs.Fairness.{AreBuilds, IsFair, spare_sizes}
 use Rattle.ist_core.specs.Logs.{Log}
 use Rattle.ist_core.specs.Lawful.{EachEnabled, Lawful, state_of}
-use Rattle.ist_core.proofs.ElementLemmas.{among-filter, among_left, among_right, each_append}
+use Rattle.ist_core.proofs.ElementLemmas.{among-filter, each_append}
 use Rattle.ist_core.proofs.SoundLemmas.{sound}
 use Rattle.ist_core.proofs.StartLemmas.{sound_start}
-use Rattle.ist_core.proofs.RoomLemmas.{next_within, words_same}
+use Rattle.ist_core.proofs.RoomLemmas.{words_same}
 use Rattle.ist_core.proofs.SpendingLemmas.{next-state}
-use Rattle.ist_core.proofs.GrowingLemmas.{all_grow_same}
 use Rattle.ist_core.proofs.FateLemmas.{grow_between}
-use Rattle.ist_rule.specs.declared.view.View.{View}
 use Rattle.ist_rule.specs.declared.view.Who.TheVariants.{Caller as CallerOf}
 use Rattle.ist_rule.specs.Authors.{Later, no_more, one_more}
 use Rattle.ist_rule.specs.Rule.{IsSound}
-use Rattle.ist_rule.specs.Faces.{SeatFace}
-use Rattle.ist_rule.specs.Learning.{now, GoesOnTo, storing}
-use Rattle.ist_rule.specs.Conditions.{IsOwn}
-use Rattle.ist_rule.proofs.LaterLemmas.{later-goes_on, later_more}
+use Rattle.ist_rule.proofs.LaterLemmas.{later-goes_on}
 use Rattle.ist_rule.proofs.HeldLemmas.{held_later}
-use Rattle.ist_rule.proofs.ShownLemmas.{held_loose}
-use Rattle.ist_rule.proofs.GoingOnLemmas.{goes_on_who, goes_on_more, looked_goes_on}
 use Rattle.ist_rows.specs.declared.callers.Caller.{Caller}
 use Rattle.ist_rows.specs.declared.kinds.Kind.{Kind}
 use Rattle.ist_rows.specs.declared.kinds.Kind.TheVariants.{Leaf, Pair as PairKind, Change, Rebuild}
 use Rattle.ist_rows.specs.Kinds.{kind_words}
-use Rattle.ist_rows.specs.Rows.{Spares, spares_of, row_of, with_row, is_base, is_spare, held_by, build_sizes, IsCaller, Reserved, IsFull, HoldsPlace}
+use Rattle.ist_rows.specs.Rows.{Spares, spares_of, row_of, is_base, is_spare, held_by, build_sizes, IsCaller}
 use Rattle.ist_rows.specs.Fairly.{MayTake}
 use Rattle.ist_rows.proofs.HeldListLemmas.{distinct_filter, distinct_more, held_distinct, held_by_later}
 use Rattle.ist_rows.proofs.BuildLemmas.{ComesBehind, builds_on, merge_filter, merge_more}
@@ -74,17 +63,21 @@ pub record IsCallerIn (t : Snapshot) (number : ℕ) (own : Spares) : Type 0 wher
 pub caller_later : (pairs : List Pair) (words : ℕ) (old log : Log) (number : ℕ) (own : Spares)
     → Lawful pairs words log → Later (CallerOf number) old log
     → IsCallerIn (state_of pairs words old) number own
-        → IsCallerIn (state_of pairs words log) number own
+    → IsCallerIn (state_of pairs words log) number own
 caller_later pairs words old log number own lawful l c =
     record {
-      rows = λ kind base e. held_later pairs words record { caller = number; base = base; size =
-          kind_words kind } old log lawful.enabled l (c.rows kind base e);
+      rows = λ kind base e. held_later pairs words record {
+        caller = number;
+        base = base;
+        size =
+            kind_words kind;
+      } old log lawful.enabled l (c.rows kind base e);
       builds = builds_on (state_of pairs words old) (state_of pairs words log)
           (comes_behind pairs words number old log lawful l)
           (build_sizes (state_of pairs words log) number own)
           (subst (λ held. AreBuilds (state_of pairs words old)
-              (map (λ h. h.size) (filter (λ h. not (is_spare own h.base)) held)))
-              (sym (held_by_later pairs words number old log lawful.enabled l)) c.builds);
+          (map (λ h. h.size) (filter (λ h. not (is_spare own h.base)) held)))
+          (sym (held_by_later pairs words number old log lawful.enabled l)) c.builds);
     }
 
 -- ---- spare rows
@@ -110,11 +103,11 @@ spare_kind own base e =
     ⊎_elim (λ a. (Leaf, is_base_some own.leaf base a))
     (λ b. ⊎_elim (λ a. (PairKind, is_base_some own.pair base a))
     (λ c. ⊎_elim (λ a. (Change, is_base_some own.change base a))
-        (λ a. (Rebuild, is_base_some own.rebuild base a))
+    (λ a. (Rebuild, is_base_some own.rebuild base a))
     (or_true (is_base own.change base) (is_base own.rebuild base) c))
     (or_true (is_base own.pair base) (is_base own.change base || is_base own.rebuild base) b))
     (or_true (is_base own.leaf base)
-        (is_base own.pair base || (is_base own.change base || is_base own.rebuild base)) e)
+    (is_base own.pair base || (is_base own.change base || is_base own.rebuild base)) e)
 
 -- each kind has words of its own number
 pub kind_of_words : (a b : Kind) → kind_words a ≡ kind_words b → a ≡ b
@@ -152,21 +145,30 @@ module _ (pairs : List Pair) (words : ℕ) (log : Log) (enabled : EachEnabled (s
       × (h.size ≡ kind_words kind)
   spare_words h i =
       let it = among-filter (λ (x : HeldRow). is_spare own x.base) h
-              (held_by (state_of pairs words log) number) i in
+      (held_by (state_of pairs words log) number) i in
       let held = among-filter (λ (x : HeldRow). x.caller == number) h
-              (state_of pairs words log).held it.0 in
-      let k = spare_kind own h.base it.1 in
-      (k.0, k.1, ap (λ x. x.size) ((sound (start pairs words) log (sound_start pairs words)
-          enabled).once h record { caller = number; base = h.base; size =
-          kind_words k.0 } held.0 (c.rows k.0 h.base k.1) refl))
+      (state_of pairs words log).held it.0 in
+      let k = spare_kind own h.base it.1 in (
+        k.0,
+        k.1,
+        ap (λ x. x.size) ((sound (start pairs words) log (sound_start pairs words)
+            enabled).once h record {
+              caller = number;
+              base = h.base;
+              size =
+                  kind_words k.0;
+            } held.0 (c.rows k.0 h.base k.1) refl),
+      )
 
   few_sizes : (xs : List HeldRow) → ((h : HeldRow) → Among h xs → Among h spares)
       → Each (λ size. Among size spare_sizes) (map (λ h. h.size) xs)
   few_sizes [] sub = tt
   few_sizes (h ∷ xs) sub =
-      let it = spare_words h (sub h (inl refl)) in
-      (subst (λ n. Among n spare_sizes) (sym it.2) (kind_spare it.0), few_sizes xs
-          (λ g i. sub g (inr i)))
+      let it = spare_words h (sub h (inl refl)) in (
+        subst (λ n. Among n spare_sizes) (sym it.2) (kind_spare it.0),
+        few_sizes xs
+            (λ g i. sub g (inr i)),
+      )
 
   some_one : (a b : ℕ) → Some a ≡ Some b → a ≡ b
   some_one a b e = cc
@@ -182,10 +184,13 @@ module _ (pairs : List Pair) (words : ℕ) (log : Log) (enabled : EachEnabled (s
   once_each : (xs : List HeldRow) → ((h : HeldRow) → Among h xs → Among h spares)
       → Distinct (map (λ h. h.base) xs) → Distinct (map (λ h. h.size) xs)
   once_each [] sub d = tt
-  once_each (h ∷ xs) sub d = ((λ i. let it =
-      with_size xs i in d.0 (at_base xs it.0 it.1
-      (one_size h it.0 (sub h (inl refl)) (sub it.0 (inr it.1)) it.2))), once_each xs
-      (λ g i. sub g (inr i)) d.1)
+  once_each (h ∷ xs) sub d = (
+    (λ i. let it =
+        with_size xs i in d.0 (at_base xs it.0 it.1
+        (one_size h it.0 (sub h (inl refl)) (sub it.0 (inr it.1)) it.2))),
+    once_each xs
+        (λ g i. sub g (inr i)) d.1,
+  )
     where
       with_size : (ys : List HeldRow) → Among h.size (map (λ x. x.size) ys) → (g : HeldRow)
           × Among g ys × (h.size ≡ g.size)
@@ -206,16 +211,16 @@ module _ (pairs : List Pair) (words : ℕ) (log : Log) (enabled : EachEnabled (s
   fair_with kind none =
       let sizes = map (λ (h : HeldRow). h.size) spares in
       let bases = distinct_filter (λ (h : HeldRow). h.base) (λ h. is_spare own h.base)
-              (held_by (state_of pairs words log) number)
+      (held_by (state_of pairs words log) number)
       (distinct_filter (λ (h : HeldRow). h.base) (λ h. h.caller == number)
-          (state_of pairs words log).held (held_distinct pairs words log enabled)) in
+      (state_of pairs words log).held (held_distinct pairs words log enabled)) in
       record {
         building = build_sizes (state_of pairs words log) number own;
         spare = sizes ++ kind_words kind ∷ [];
         merge = merge_more (map (λ h. h.size) (held_by (state_of pairs words log) number))
             (build_sizes (state_of pairs words log) number own) sizes (kind_words kind)
             (merge_filter (λ (h : HeldRow). h.size) (λ h. is_spare own h.base)
-                (held_by (state_of pairs words log) number));
+            (held_by (state_of pairs words log) number));
         builds = c.builds;
         few = each_append (λ size. Among size spare_sizes) sizes (kind_words kind ∷ [])
             (few_sizes spares (λ h i. i)) (kind_spare kind, tt);
@@ -232,7 +237,7 @@ module _ (pairs : List Pair) (words : ℕ) (log : Log) (enabled : EachEnabled (s
       out (h ∷ xs) sub (inl e) =
           let it = spare_words h (sub h (inl refl)) in
           none_some h.base (sym none ∙ ap (λ k. row_of k own) (kind_of_words kind it.0 (e ∙ it.2)) ∙
-              it.1)
+          it.1)
       out (h ∷ xs) sub (inr i) = out xs (λ g j. sub g (inr j)) i
 
 -- a caller without a row of the kind may take one, whatever others do meanwhile
@@ -243,5 +248,5 @@ may_take who kind s c none log m =
     let v = who.seat.view in
     fair_with v.start v.words log m.lawful.enabled who.number (spares_of who)
     (caller_later v.start v.words v.log log who.number (spares_of who) m.lawful
-        (subst (λ w. Later w v.log log) c.mine m.later) record { rows = c.rows; builds = c.builds })
-        kind none
+    (subst (λ w. Later w v.log log) c.mine m.later) record { rows = c.rows; builds = c.builds })
+    kind none

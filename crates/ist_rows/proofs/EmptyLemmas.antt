@@ -60,4 +60,4 @@ zeros_open pairs none (suc n) words same enough within =
     subst (λ ps. CanOpen ps (length (slice_set words 0 4))) (sym none)
     (subst (λ ws. CanOpen [] (length (slice_set ws 0 4))) (sym same)
     (subst (λ m. CanOpen [] (suc m)) (sym (length-replicate n 0))
-        (empty_opens (suc n) enough within)))
+    (empty_opens (suc n) enough within)))

@@ -69,7 +69,7 @@ made_there : (v : View) → IsSound v → v.who ≡ Maker → (log : Log) → Ma
     → (state_of v.start v.words log).callers ≡ v.made
 made_there v s who log m =
     callers_by_others v.start v.words v.log log (subst (λ w. Later w v.log log) who m.later) ∙ sym
-        (s.is_true.made who).0
+    (s.is_true.made who).0
 
 -- the maker may enter a caller, whatever others do meanwhile
 pub can_enter : (v : View) → IsSound v → v.who ≡ Maker → v.given ≡ v.made → v.made < caller_limit
@@ -80,7 +80,7 @@ can_enter v s who given few =
       known = λ log m. ((state_of v.start v.words log).callers, shown_callers);
       comes = λ log m found shown.
           let is = shown_callers_is v.start v.words log m.lawful.enabled callers_place found shown
-                  refl in
+          refl in
           let made = made_there v s who log m in
           record {
             enabled = record { number = is; below_limit = omega arith };
@@ -89,7 +89,7 @@ can_enter v s who given few =
           };
       fits = λ log m found shown.
           let is = shown_callers_is v.start v.words log m.lawful.enabled callers_place found shown
-                  refl in
+          refl in
           let made = made_there v s who log m in
           omega arith;
     }
@@ -107,8 +107,11 @@ pub entered : (v w : View) (found : ℕ) → IsSound v → v.who ≡ Maker → L
 entered v w found s who l =
     let sound : IsSound (logging v l.before (Enter found)) = subst IsSound l.view l.sound in
     let can : CanEnter (state_of v.start v.words l.before) found = sound.lawful.enabled.1 in
-    let made = made_there v s who l.before record { later = l.later; lawful =
-            record { opens = sound.lawful.opens; enabled = sound.lawful.enabled.0 } } in
+    let made = made_there v s who l.before record {
+      later = l.later;
+      lawful =
+          record { opens = sound.lawful.opens; enabled = sound.lawful.enabled.0 };
+    } in
     record {
       number = can.number ∙ made;
       low = can.below_limit;
@@ -120,7 +123,7 @@ entered v w found s who l =
 -- a maker that has a seat to give gives it to the caller that it entered last
 pub gives_seat : (w : View) → w.who ≡ Maker → w.given < w.made
     → (split_left w ≡ record w { given = w.given + 1 }) × ((split_right w).who ≡ CallerOf w.given)
-        × ((split_right w).log ≡ w.log)
+    × ((split_right w).log ≡ w.log)
     × ((split_right w).start ≡ w.start) × ((split_right w).words ≡ w.words)
 gives_seat w who less =
     let t : nat_lt w.given w.made ≡ true = grind (arith, nat_tests) in
@@ -155,7 +158,7 @@ pub new_holds_none : (w : View) (number : ℕ) → IsSound w → w.who ≡ Maker
     → held_by (now w) number ≡ []
 new_holds_none w number s who above =
     none_held (now w).held number (idle_holds w.start w.words w.log number s.lawful.enabled
-        (s.is_true.idle who number above))
+    (s.is_true.idle who number above))
 
 no_rows : (kind : Kind) (base : ℕ)
     → row_of kind record { leaf = None; pair = None; change = None; rebuild = None } ≡ Some base → ⊥
@@ -168,14 +171,14 @@ no_rows Rebuild base e = cc
 pub new_caller : (w : View) (who : Caller) → IsSound w → w.who ≡ Maker → w.given < w.made
     → who.seat.view ≡ split_right w → who.number ≡ w.given
     → spares_of who ≡ record { leaf = None; pair = None; change = None; rebuild = None }
-        → IsCaller who
+    → IsCaller who
 new_caller w who s maker less view number none =
     let g = gives_seat w maker less in
     let now_is : now who.seat.view ≡ now w =
-            ap now view ∙ ap₂ (λ p n. state_of p n (split_right w).log) g.3 g.4 ∙ ap
-            (state_of w.start w.words) g.2 in
+    ap now view ∙ ap₂ (λ p n. state_of p n (split_right w).log) g.3 g.4 ∙ ap
+    (state_of w.start w.words) g.2 in
     let held : held_by (now who.seat.view) who.number ≡ [] =
-            ap₂ held_by now_is number ∙ new_holds_none w w.given s maker (le_refl w.given) in
+    ap₂ held_by now_is number ∙ new_holds_none w w.given s maker (le_refl w.given) in
     record {
       mine = ap (λ x. x.who) view ∙ g.1 ∙ ap CallerOf (sym number);
       rows = λ kind base e. absurd (no_rows kind base (sym (ap (row_of kind) none) ∙ e));

@@ -79,9 +79,10 @@ distinct_filter f p (x ∷ xs) d = at (distinct_filter f p xs d.1) (p x) refl
 pub distinct_more : {A : Type 0} (xs : List A) (y : A) → Distinct xs → ¬ (Among y xs)
     → Distinct (xs ++ y ∷ [])
 distinct_more [] y d out = ((λ i. i), tt)
-distinct_more (x ∷ xs) y d out =
-    ((λ i. ⊎_elim d.0 (λ e. ⊎_elim (λ same. out (inl (sym same))) (λ n. n) e) (split xs i)),
-        distinct_more xs y d.1 (λ i. out (inr i)))
+distinct_more (x ∷ xs) y d out = (
+  (λ i. ⊎_elim d.0 (λ e. ⊎_elim (λ same. out (inl (sym same))) (λ n. n) e) (split xs i)),
+  distinct_more xs y d.1 (λ i. out (inr i)),
+)
   where
     split : (zs : List _) → Among x (zs ++ y ∷ []) → Among x zs ⊎ Among x (y ∷ [])
     split [] i = inr i
@@ -114,10 +115,10 @@ held_distinct pairs words (event ∷ log) enabled =
         → P (state_of pairs words (e ∷ log)).held
     at before (Reserve caller base size) can =
         subst Distinct (sym (map-append (λ h. h.base) (state_of pairs words log).held
-            (record { caller = caller; base = base; size = size } ∷ [])))
+        (record { caller = caller; base = base; size = size } ∷ [])))
         (distinct_more (map (λ h. h.base) (state_of pairs words log).held) base before
         (below (state_of pairs words log).held base
-            (λ h i. subst (λ n. h.base < n) (sym can.base_is) (s.held_below h i))))
+        (λ h i. subst (λ n. h.base < n) (sym can.base_is) (s.held_below h i))))
     at before (Install caller change rows) can =
         distinct_filter (λ h. h.base) (λ h. not (list_any (λ base. base == h.base) (bases_of rows)))
         (state_of pairs words log).held before
@@ -148,7 +149,7 @@ others_without : (t : Snapshot) (number : ℕ) (bases : List ℕ)
     → filter (λ h. h.caller == number) (without bases t.held) ≡ held_by t number
 others_without t number bases apart =
     filter_filter (λ h. h.caller == number) (λ h. not (list_any (λ base. base == h.base) bases))
-        t.held
+    t.held
     (λ h i mine. at h i mine (list_any (λ base. base == h.base) bases) refl)
   where
     is_number : (h : HeldRow) → (h.caller == number) ≡ true → h.caller ≡ number
@@ -168,7 +169,7 @@ others_without t number bases apart =
 pub held_by_step : (pairs : List Pair) (words : ℕ) (log : Log) (event : Event) (number : ℕ)
     → EachEnabled (start pairs words) (event ∷ log)
     → author event ≢ Caller number → held_by (state_of pairs words (event ∷ log)) number
-        ≡ held_by (state_of pairs words log) number
+    ≡ held_by (state_of pairs words log) number
 held_by_step pairs words log event number enabled other = at event enabled.1 other
   where
     t : Snapshot
@@ -184,21 +185,25 @@ held_by_step pairs words log event number enabled other = at event enabled.1 oth
 
     new_row : (caller base size : ℕ) → Caller caller ≢ Caller number
         → filter (λ (h : HeldRow). h.caller == number)
-            (record { caller = caller; base = base; size = size } ∷ []) ≡ []
+        (record { caller = caller; base = base; size = size } ∷ []) ≡ []
     new_row caller base size differ =
         ⊎_elim (λ k. absurd (differ (ap Caller k.1)))
-            (λ k. filter_here (λ (h : HeldRow). h.caller == number) record { caller = caller; base =
-            base; size = size } [] false k.0) (eqb_tells caller number)
+        (λ k. filter_here (λ (h : HeldRow). h.caller == number) record {
+          caller = caller;
+          base =
+              base;
+          size = size;
+        } [] false k.0) (eqb_tells caller number)
 
     at : (e : Event) → Enabled (start pairs words) log e → author e ≢ Caller number
         → held_by (state_of pairs words (e ∷ log)) number ≡ held_by (state_of pairs words log)
         number
     at (Reserve caller base size) can differ =
         filter-append (λ (h : HeldRow). h.caller == number) (state_of pairs words log).held
-            (record { caller = caller; base = base; size = size } ∷ [])
+        (record { caller = caller; base = base; size = size } ∷ [])
         ∙ ap (λ xs. held_by (state_of pairs words log) number ++ xs)
-            (new_row caller base size differ) ∙ append-nil
-            (held_by (state_of pairs words log) number)
+        (new_row caller base size differ) ∙ append-nil
+        (held_by (state_of pairs words log) number)
     at (Install caller change rows) can differ =
         others_without (state_of pairs words log) number (bases_of rows)
         (λ h i b. apart caller differ h
@@ -235,4 +240,4 @@ pub held_by_later : (pairs : List Pair) (words : ℕ) (number : ℕ) (old log : 
 held_by_later pairs words number old _ enabled no_more = refl
 held_by_later pairs words number old _ enabled (one_more {log = log} event l other) =
     held_by_step pairs words log event number enabled other ∙ held_by_later pairs words number old
-        log enabled.0 l
+    log enabled.0 l

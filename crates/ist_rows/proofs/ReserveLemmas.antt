@@ -30,8 +30,13 @@ can_reserve v number old size s who room fair =
           let low = s.is_true.low number who in
           let more = callers_later v.start v.words v.log log m.later in
           record {
-            enabled = record { known = omega arith; base_is = is; room = omega arith; fair =
-                fair log m };
+            enabled = record {
+              known = omega arith;
+              base_is = is;
+              room = omega arith;
+              fair =
+                  fair log m;
+            };
             touches = refl;
           };
     }
@@ -41,9 +46,9 @@ pub may_take_on : (v w : View) (number size : ℕ) → GoesOnTo v w → MayTake 
     → MayTake w number size
 may_take_on v w number size g fair log m =
     subst (λ p. IsFair (state_of p w.words log)
-        (sizes_held (state_of p w.words log) number ++ size ∷ [])) (sym (ap (λ x. x.start) g.same))
+    (sizes_held (state_of p w.words log) number ++ size ∷ [])) (sym (ap (λ x. x.start) g.same))
     (subst (λ n. IsFair (state_of v.start n log)
-        (sizes_held (state_of v.start n log) number ++ size ∷ [])) (sym (ap (λ x. x.words) g.same))
+    (sizes_held (state_of v.start n log) number ++ size ∷ [])) (sym (ap (λ x. x.words) g.same))
     (fair log (may_come_before v w g log m)))
 
 -- the first free word lies within the table, which is small

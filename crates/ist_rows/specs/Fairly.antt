@@ -16,7 +16,7 @@ abbrev pub MayTake : View → ℕ → ℕ → Type 0
 MayTake v number size =
     (log : Log) → MayCome v log
     → IsFair (state_of v.start v.words log)
-        (sizes_held (state_of v.start v.words log) number ++ size ∷ [])
+    (sizes_held (state_of v.start v.words log) number ++ size ∷ [])
 
 -- ---- naming the event of an exchange
 

@@ -23,8 +23,12 @@ pub record Spares : Type 0 where
 
 -- those of a caller
 abbrev pub spares_of : Caller → Spares
-spares_of who = record { leaf = who.leaf; pair = who.pair; change = who.change; rebuild =
-    who.rebuild }
+spares_of who =
+    record { leaf = who.leaf; pair = who.pair; change = who.change; rebuild = who.rebuild }
+
+-- no row of any kind
+abbrev pub no_spares : Spares
+no_spares = record { leaf = None; pair = None; change = None; rebuild = None }
 
 -- the base of the row of this kind
 abbrev pub row_of : Kind → Spares → Option ℕ
@@ -50,8 +54,8 @@ is_base None other = false
 -- is the row at the base one of these
 abbrev pub is_spare : Spares → ℕ → Bool
 is_spare spares base =
-    is_base spares.leaf base || (is_base spares.pair base ||
-        (is_base spares.change base || is_base spares.rebuild base))
+    is_base spares.leaf base || (is_base spares.pair base
+    || (is_base spares.change base || is_base spares.rebuild base))
 
 -- the rows that a caller holds, in the order of reserving
 abbrev pub held_by : Snapshot → ℕ → List HeldRow
@@ -59,12 +63,12 @@ held_by t number = filter (λ h. h.caller == number) t.held
 
 -- the sizes of the other rows that the caller holds, which are those of its builds
 abbrev pub build_sizes : Snapshot → ℕ → Spares → List ℕ
-build_sizes t number spares = map (λ h. h.size)
-    (filter (λ h. not (is_spare spares h.base)) (held_by t number))
+build_sizes t number spares =
+    map (λ h. h.size) (filter (λ h. not (is_spare spares h.base)) (held_by t number))
 
 -- the seat is that of the caller with this number, each of its rows is held and of its kind, and
--- the sizes of all other rows
--- that it holds are prefixes of building lists, each but the last being stuck
+-- the sizes of all other rows that it holds are prefixes of building lists, each but the last being
+-- stuck
 pub record IsCaller (who : Caller) : Type 0 where
   pub mine : who.seat.view.who ≡ CallerOf who.number
   pub rows : (kind : Kind) (base : ℕ) → row_of kind (spares_of who) ≡ Some base

@@ -1,8 +1,8 @@
 //! Entering: one caller more.
-ghost use Rattle.std.specs.Prelude.{◌≡◌, ◌+◌, ◌<◌, ◌-◌, ◌^◌, None};
+ghost use Rattle.std.specs.Prelude.{◌≡◌, ◌+◌, ◌<◌, ◌-◌, ◌^◌};
 ghost use Rattle.ist_rule.specs.declared.view.Who.TheVariants.{Maker};
 ghost use Rattle.ist_core.specs.Enabled.{caller_limit};
-ghost use Rattle.ist_rows.specs.Rows.{IsCaller};
+ghost use Rattle.ist_rows.specs.Rows.{IsCaller, spares_of, no_spares};
 
 use crate::callers::Caller;
 use ist_layout::CALLERS_PLACE;
@@ -17,9 +17,10 @@ pub fn enter(table: &TreeTable, maker: &mut TreeSeat) -> Caller
     requires given { maker.old.view.given ≡ maker.old.view.made }
     requires few { maker.old.view.made < caller_limit }
     ensures caller { IsCaller result }
-    ensures same_table { (result.seat.table ≡ table.now.table) × (maker.new.table ≡ table.now.table) }
+    ensures same_table { result.seat.table ≡ table.now.table }
+    ensures maker_table { maker.new.table ≡ table.now.table }
     ensures number { result.number ≡ maker.old.view.made }
-    ensures no_rows { (result.leaf ≡ None) × (result.pair ≡ None) × (result.change ≡ None) × (result.rebuild ≡ None) }
+    ensures no_rows { spares_of result ≡ no_spares }
     ensures made { (maker.new.view.who ≡ Maker) × (maker.new.view.made ≡ maker.old.view.made + 1) }
     ensures given { maker.new.view.given ≡ maker.new.view.made }
 {

@@ -28,7 +28,8 @@ fn take<R: Wait>(
     requires small { size < 2 ^ 32 }
     ensures same_table { seat.new.table ≡ table.now.table }
     ensures reserved { IfOk result (λ base. Reserved seat.old.view number base size seat.new.view) }
-    ensures full { IfErr result (λ full. IsFull seat.old.view (word_count_of table.now) size full seat.new.view) }
+    ensures full { IfErr result (λ full.
+        IsFull seat.old.view (word_count_of table.now) size full seat.new.view) }
 {
     let words = word_count(table);
     know(seat);
@@ -65,9 +66,11 @@ pub fn reserve<R: Wait>(
     ensures same_table { who.new.seat.table ≡ table.now.table }
     ensures caller { IsCaller who.new }
     ensures number { who.new.number ≡ who.old.number }
-    ensures held { IfSome (row_of kind (spares_of who.old)) (λ base. (result ≡ Ok base) × (who.new ≡ who.old)) }
+    ensures held { IfSome (row_of kind (spares_of who.old)) (λ base.
+        (result ≡ Ok base) × (who.new ≡ who.old)) }
     ensures reserved { IsFresh kind who.old who.new result }
-    ensures full { IfErr result (λ full. IsRefused (word_count_of table.now) kind who.old who.new full) }
+    ensures full { IfErr result (λ full.
+        IsRefused (word_count_of table.now) kind who.old who.new full) }
 {
     if let Some(base) = who.row(kind) {
         return Ok(base);

@@ -7,7 +7,7 @@ ghost use Rattle.ist_rows.specs.Rows.{IsCaller};
 use crate::{Caller, Kind, enter, fill, reserve};
 use ist_core::Full;
 use ist_layout::NEXT_PLACE;
-use ist_rule::{TreeSeat, TreeTable, join as join_seats, load, open_table, split};
+use ist_rule::{TreeSeat, TreeTable, close, join as join_seats, load, open_table, split};
 use std::alloc::{AllocError, Global};
 use std::sync::Wait;
 use std::test::Fail;
@@ -41,6 +41,12 @@ fn the_worked_row(rt: HostRuntime) -> Result<(), Fail> {
         words: 14,
     };
     assert_eq!(rt; reserve(&table, &rt, &mut first, Kind::Change), Err(full));
+    if let Some(base) = first.leaf {
+        fill(&table, &mut first, base, 1, 9);
+    }
+    let closed = close(table, maker);
+    assert!(rt; closed.word(5) == 9 && closed.word(NEXT_PLACE as usize) == 6);
+    closed.free();
     Ok(())
 }
 

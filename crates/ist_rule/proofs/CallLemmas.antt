@@ -23,7 +23,8 @@ use Rattle.ist_rule.specs.declared.view.Pending.{Pending}
 use Rattle.ist_rule.specs.declared.view.Who.TheVariants.{Caller}
 use Rattle.ist_rule.specs.Authors.{author, Later, no_more, one_more}
 use Rattle.ist_rule.specs.Standings.{entries_made, HasMade, IsUndecided, IsBetween, IsAtWork, IsEntered, CallStands}
-use Rattle.ist_rule.proofs.StandingLemmas.{EntriesMove, same_entries, new_entry, entries_move, UndecidedComes, was_undecided, now_installed, undecided_comes, decided_now, none_undecided, resolved_on}
+use Rattle.ist_rule.proofs.StandingLemmas.{EntriesMove, same_entries, new_entry, entries_move}
+use Rattle.ist_rule.proofs.UndecidedLemmas.{UndecidedComes, undecided_comes, decided_now, none_undecided, resolved_on, was_undecided, now_installed}
 
 -- an event of another installs nothing for the caller
 pub installs_not : (number : ℕ) (event : Event) → author event ≢ Caller number
@@ -62,33 +63,33 @@ module _ (pairs : List Pair) (words : ℕ) (number : ℕ) (calls : List Call) wh
   between_later old _ enabled no_more b = b
   between_later old _ enabled (one_more {log = log} event l other) b =
       between_on log event enabled (installs_not number event other)
-          (between_later old log enabled.0 l b)
+      (between_later old log enabled.0 l b)
 
   -- all stays resolved along a log that goes on by others
   pub resolved_later : (old log : Log) → EachEnabled (start pairs words) log
       → Later (Caller number) old log
       → AllResolvedOf (state_of pairs words old) old number
-          → AllResolvedOf (state_of pairs words log) log number
+      → AllResolvedOf (state_of pairs words log) log number
   resolved_later old _ enabled no_more all = all
   resolved_later old _ enabled (one_more {log = log} event l other) all =
       resolved_on pairs words log event enabled number (installs_not number event other)
-          (resolved_later old log enabled.0 l all)
+      (resolved_later old log enabled.0 l all)
 
   module _ (log : Log) (event : Event) (enabled : EachEnabled (start pairs words) (event ∷ log))
       (command : Option Command)
       (may : (base : ℕ) (rows : List Row) → event ≡ Install number base rows
-          → (h : CanInstall (start pairs words) log number base rows)
+      → (h : CanInstall (start pairs words) log number base rows)
       → MayBring pairs words log number calls command h.change) where
     -- what is undecided behind the event was so, or is installed now, and then it may be
     abbrev Comes : ℕ → Type 0
     Comes base =
         (u : IsUndecided (state_of pairs words (event ∷ log)) number base)
         → ((w : IsUndecided (state_of pairs words log) number base)
-            × (command_of w.change ≡ command_of u.change))
+        × (command_of w.change ≡ command_of u.change))
         ⊎ ((m : ChangeRow) × MayBring pairs words log number calls command m × IsUpdate m.kind
-            × (command_of m ≡ command_of u.change)
+        × (command_of m ≡ command_of u.change)
         × ((other : ℕ) → IsUndecided (state_of pairs words (event ∷ log)) number other
-            → (base ≡ other) ⊎ IsUndecided (state_of pairs words log) number other))
+        → (base ≡ other) ⊎ IsUndecided (state_of pairs words log) number other))
 
     comes_from : (base : ℕ) → Comes base
     comes_from base u = at (undecided_comes pairs words log event enabled number base u) refl
@@ -96,15 +97,21 @@ module _ (pairs : List Pair) (words : ℕ) (number : ℕ) (calls : List Call) wh
         at : {e : Event} → UndecidedComes (start pairs words) log number base (command_of u.change)
             e → event ≡ e
             → ((w : IsUndecided (state_of pairs words log) number base)
-                × (command_of w.change ≡ command_of u.change))
+            × (command_of w.change ≡ command_of u.change))
             ⊎ ((m : ChangeRow) × MayBring pairs words log number calls command m × IsUpdate m.kind
-                × (command_of m ≡ command_of u.change)
+            × (command_of m ≡ command_of u.change)
             × ((other : ℕ) → IsUndecided (state_of pairs words (event ∷ log)) number other
-                → (base ≡ other) ⊎ IsUndecided (state_of pairs words log) number other))
+            → (base ≡ other) ⊎ IsUndecided (state_of pairs words log) number other))
         at (was_undecided w same) is = inl (w, same)
         at (now_installed {rows = rows} h up same) is =
-            inr (h.change, may base rows is h, up, same, λ other v. near other
-                (undecided_comes pairs words log event enabled number other v) is)
+            inr (
+              h.change,
+              may base rows is h,
+              up,
+              same,
+              λ other v. near other
+                  (undecided_comes pairs words log event enabled number other v) is,
+            )
           where
             install_base : {a b : ℕ} {xs ys : List Row} → Install number a xs ≡ Install number b ys
                 → a ≡ b
@@ -113,14 +120,14 @@ module _ (pairs : List Pair) (words : ℕ) (number : ℕ) (calls : List Call) wh
             near : (other : ℕ) {c : Option Command} {e : Event}
                 → UndecidedComes (start pairs words) log number other c e
                 → e ≡ Install number base rows → (base ≡ other)
-                    ⊎ IsUndecided (state_of pairs words log) number other
+                ⊎ IsUndecided (state_of pairs words log) number other
             near other (was_undecided w k) f = inr w
             near other (now_installed h2 up2 k) f = inl (sym (install_base f))
 
     -- a call that made no entry goes on so, or makes its entry now
     work_on : IsAtWork pairs words log number calls command
         → IsAtWork pairs words (event ∷ log) number calls command
-            ⊎ IsEntered pairs words (event ∷ log) number calls command
+        ⊎ IsEntered pairs words (event ∷ log) number calls command
     work_on w = at (entries_move pairs words log number event enabled.1)
       where
         one_now : (base other : ℕ) → IsUndecided (state_of pairs words (event ∷ log)) number base
@@ -129,17 +136,17 @@ module _ (pairs : List Pair) (words : ℕ) (number : ℕ) (calls : List Call) wh
             ⊎_elim
             (λ a. ⊎_elim (λ b. w.one base other a.0 b.0)
             (λ b. ⊎_elim (λ e. sym e) (λ x. absurd
-                (none_undecided pairs words log enabled.0 number b.1.resolved base a.0))
-                (b.4 base u))
+            (none_undecided pairs words log enabled.0 number b.1.resolved base a.0))
+            (b.4 base u))
             (comes_from other v))
             (λ a. ⊎_elim (λ e. e) (λ x. absurd
-                (none_undecided pairs words log enabled.0 number a.1.resolved other x))
-                (a.4 other v))
+            (none_undecided pairs words log enabled.0 number a.1.resolved other x))
+            (a.4 other v))
             (comes_from base u)
 
         at : EntriesMove pairs words log number event
             → IsAtWork pairs words (event ∷ log) number calls command
-                ⊎ IsEntered pairs words (event ∷ log) number calls command
+            ⊎ IsEntered pairs words (event ∷ log) number calls command
         at (same_entries e) =
             inl record {
               made = e ∙ w.made;
@@ -157,9 +164,9 @@ module _ (pairs : List Pair) (words : ℕ) (number : ℕ) (calls : List Call) wh
                   (λ a.
                   let same : other ≡ base = w.one other base a.0 u in
                   decided_now pairs words log event enabled by base true is u.change
-                      u.pending.published v.change
+                  u.pending.published v.change
                   (subst (λ b. (state_of pairs words (event ∷ log)).pieces b
-                      ≡ Some (Change v.change)) same v.pending.published) v.pending.unset)
+                  ≡ Some (Change v.change)) same v.pending.published) v.pending.unset)
                   (λ a. none_undecided pairs words log enabled.0 number a.1.resolved base u)
                   (comes_from other v);
             }
@@ -175,13 +182,13 @@ module _ (pairs : List Pair) (words : ℕ) (number : ℕ) (calls : List Call) wh
           none = λ base u.
               ⊎_elim (λ a. w.none base a.0)
               (λ a. let more = ap length (sym w.made ∙ a.1.none_yet a.2) in let long =
-                  length-append (entries_made number calls) (w.entry ∷ []) in absurd (omega arith))
+              length-append (entries_made number calls) (w.entry ∷ []) in absurd (omega arith))
               (comes_from base u);
         }
       where
         at : EntriesMove pairs words log number event
             → entries_by number (changes_of pairs words (event ∷ log)) ≡ entries_made number calls
-                ++ w.entry ∷ []
+            ++ w.entry ∷ []
         at (same_entries e) = e ∙ w.made
         at (new_entry by base is u entry named e) = absurd (w.none base u)
 
@@ -190,11 +197,11 @@ module _ (pairs : List Pair) (words : ℕ) (number : ℕ) (calls : List Call) wh
   pub call_on : (log : Log) (event : Event) → EachEnabled (start pairs words) (event ∷ log)
       → (o : Option Pending)
       → ((base : ℕ) (rows : List Row) → event ≡ Install number base rows
-          → (h : CanInstall (start pairs words) log number base rows)
+      → (h : CanInstall (start pairs words) log number base rows)
       → (pending : Pending) × (o ≡ Some pending)
-          × MayBring pairs words log number calls pending.command h.change)
+      × MayBring pairs words log number calls pending.command h.change)
       → CallStands pairs words log number calls o
-          → CallStands pairs words (event ∷ log) number calls o
+      → CallStands pairs words (event ∷ log) number calls o
   call_on log event enabled None may b = between_on log event enabled out b
     where
       none_some : (p : Pending) → None ≡ Some p → ⊥
@@ -205,7 +212,7 @@ module _ (pairs : List Pair) (words : ℕ) (number : ℕ) (calls : List Call) wh
           (subst (Enabled (start pairs words) log) is enabled.1) in none_some it.0 it.1
   call_on log event enabled (Some pending) may b =
       ⊎_elim (λ w. work_on log event enabled pending.command brings w)
-          (λ w. inr (entered_on log event enabled pending.command brings w)) b
+      (λ w. inr (entered_on log event enabled pending.command brings w)) b
     where
       some_one : (p q : Pending) → Some p ≡ Some q → p ≡ q
       some_one p q e = cc
@@ -216,14 +223,14 @@ module _ (pairs : List Pair) (words : ℕ) (number : ℕ) (calls : List Call) wh
       brings base rows is h =
           let it = may base rows is h in
           subst (λ p. MayBring pairs words log number calls p.command h.change)
-              (sym (some_one pending it.0 it.1)) it.2
+          (sym (some_one pending it.0 it.1)) it.2
 
   -- nothing that others do takes a call further than that
   pub call_by_others : (log : Log) (event : Event) → EachEnabled (start pairs words) (event ∷ log)
       → (o : Option Pending)
       → author event ≢ Caller number
       → CallStands pairs words log number calls o
-          → CallStands pairs words (event ∷ log) number calls o
+      → CallStands pairs words (event ∷ log) number calls o
   call_by_others log event enabled o other b =
       call_on log event enabled o (λ base rows is h. absurd
-          (installs_not number event other base rows is)) b
+      (installs_not number event other base rows is)) b

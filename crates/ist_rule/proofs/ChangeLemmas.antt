@@ -34,8 +34,8 @@ NoChange _ = Unit {0}
 pair_no_change : (key base other_key other : ℕ) → NoChange (pair_row key base other_key other)
 pair_no_change key base other_key other =
     elim (nat_lt other_key key) as (λ v. NoChange
-        (if v then pair_over key other base else pair_over other_key base other))
-        [ true ↦ tt | false ↦ tt ]
+    (if v then pair_over key other base else pair_over other_key base other))
+    [ true ↦ tt | false ↦ tt ]
 
 -- a row that an Install publishes beside the change's is no change
 fresh_no_change : (first : Snapshot) (log : Log) (change : ChangeRow) (fresh : List Row)
@@ -62,7 +62,7 @@ pub data ChangeComes (first : Snapshot) (log : Log) (base : ℕ) (r : ChangeRow)
 -- what grows into a change is one
 grew : (first : Snapshot) (log : Log) (base : ℕ) (r : ChangeRow) (event : Event) (p : Piece)
     → (state first log).pieces base ≡ Some p → Grows p (Change r)
-        → ChangeComes first log base r event
+    → ChangeComes first log base r event
 grew first log base r event _ e (change_grows {old = old} g) = stood old e g
 
 born_change : (first : Snapshot) (log : Log) (base : ℕ) (r : ChangeRow) (event : Event) (p : Piece)
@@ -100,10 +100,14 @@ change_comes first log event h s base r e = at (comes first log event h s base (
 -- a change that grows keeps its kind, its owner, its key and its value
 pub grows_same_change : {old new : ChangeRow} → ChangeGrows old new
     → (new.kind ≡ old.kind) × (new.owner ≡ old.owner) × (new.key ≡ old.key)
-        × (new.value ≡ old.value)
-grows_same_change g =
-    (ap (λ r. r.kind) g.others, ap (λ r. r.owner) g.others, ap (λ r. r.key) g.others, ap
-        (λ r. r.value) g.others)
+    × (new.value ≡ old.value)
+grows_same_change g = (
+  ap (λ r. r.kind) g.others,
+  ap (λ r. r.owner) g.others,
+  ap (λ r. r.key) g.others,
+  ap
+      (λ r. r.value) g.others,
+)
 
 -- one that is undecided was undecided
 pub grows_undecided : {old new : ChangeRow} → ChangeGrows old new → new.decision ≡ undecided

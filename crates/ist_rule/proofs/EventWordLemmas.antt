@@ -1,6 +1,5 @@
 -- What one event does to the words: those of the image, and those that a caller stored into its
--- rows. Serves the conjuncts
--- `image` and `owns`.
+-- rows. Serves the conjuncts `image` and `owns`.
 use Rattle.std.proofs.Common.{◌≡◌, ◌≢◌, ℕ, ◌+◌, ◌≤◌, ◌⊎◌, List, [], ◌∷◌, ◌++◌, length, slice_get, Option, Some, None, refl, sym, ap, ◌∙◌, subst, inl, inr, ⊎_elim, arith}
 use Rattle.ist_core.specs.declared.pairs.Pair.{Pair}
 use Rattle.ist_core.specs.declared.lists.Row.{Row}
@@ -78,7 +77,7 @@ module _ (pairs : List Pair) (words : ℕ) (opens : CanOpen pairs words) (log : 
       touched_other image (touch_of before event) place
       (λ touch e same. ⊎_elim (λ l. none_some touch (sym l ∙ e))
       (λ some. touch_tight pairs words log enabled.0 opens image is event enabled.1 some touch e
-          (subst (IsLoose before) same loose))
+      (subst (IsLoose before) same loose))
       (no_lose before event))
     where
       none_some : (touch : Touch) → None ≡ Some touch → ⊥
@@ -93,7 +92,7 @@ module _ (pairs : List Pair) (words : ℕ) (opens : CanOpen pairs words) (log : 
       (λ m. let old = m.kept h i in stays old)
       (λ r. at r (subst (λ e. Among h (state_of pairs words (e ∷ log)).held) r.is i))
       (moves_or_reserves (start pairs words) log event enabled.1
-          (sound (start pairs words) log (sound_start pairs words) enabled.0))
+      (sound (start pairs words) log (sound_start pairs words) enabled.0))
     where
       stays : Among h before.held → slice_get behind (h.base + k) ≡ Some (own_at v.own (h.base + k))
       stays old = loose_stays (h.base + k) (held_loose pairs words log enabled.0 h old k less) ∙
@@ -109,12 +108,16 @@ module _ (pairs : List Pair) (words : ℕ) (opens : CanOpen pairs words) (log : 
           let low = next_behind_fixed pairs words log enabled.0 in
           touched_other image (touch_of before event) (h.base + k)
           (λ touch e same. let place : touch.place ≡ 0 =
-              ap (λ t. t.place) (one touch (sym e ∙ ap (touch_of before) r.is)) in omega arith)
+          ap (λ t. t.place) (one touch (sym e ∙ ap (touch_of before) r.is)) in omega arith)
           ∙ is.free (h.base + k) (omega arith) (omega arith)
           ∙ ap (λ x. Some x) (sym (fresh (h.base + k) (omega arith)))
         where
-          one : (touch : Touch) → Some touch ≡ Some record { place = next_place; found =
-              r.base; left = r.base + r.size }
+          one : (touch : Touch) → Some touch ≡ Some record {
+            place = next_place;
+            found =
+                r.base;
+            left = r.base + r.size;
+          }
               → touch ≡ record { place = next_place; found = r.base; left = r.base + r.size }
           one touch e = cc
 
@@ -125,7 +128,7 @@ module _ (pairs : List Pair) (words : ℕ) (opens : CanOpen pairs words) (log : 
           ⊎_elim stays
           (λ m. ⊎_elim (λ e. new r (ap (λ x. x.base) e) (ap (λ x. x.size) e)) (λ n. absurd n) m)
           (among-append h before.held (record { caller = r.caller; base = r.base; size = r.size }
-              ∷ []) j)
+          ∷ []) j)
 
   -- the rows that the author publishes stand in the words, where it stored them
   rows_stand : (v : View) (caller : ℕ) → v.who ≡ Caller caller → Owns pairs words log image v
@@ -133,8 +136,12 @@ module _ (pairs : List Pair) (words : ℕ) (opens : CanOpen pairs words) (log : 
       → HoldsRows before caller rows → StoredAll v rows → RowsStand image rows
   rows_stand v caller who owns [] held stored = tt
   rows_stand v caller who owns (row ∷ rows) held stored = (
-    (λ k less. owns record { caller = caller; base = row.base; size =
-        length row.words } held.0 who k less ∙ sym (stored.0 k less)),
+    (λ k less. owns record {
+      caller = caller;
+      base = row.base;
+      size =
+          length row.words;
+    } held.0 who k less ∙ sym (stored.0 k less)),
     rows_stand v caller who owns rows held.1 stored.1,
   )
 

@@ -46,8 +46,13 @@ stands_on pairs words old log number calls on s =
 pub recalls_on : (pairs : List Pair) (words : ℕ) (old log : Log) (load : Load) → GoesOn old log
     → Recalls pairs words old load → Recalls pairs words log load
 recalls_on pairs words old log load on r =
-    record { prefix = r.prefix; goes_on = goes_on_more r.goes_on on; length_is =
-        r.length_is; stood = r.stood }
+    record {
+      prefix = r.prefix;
+      goes_on = goes_on_more r.goes_on on;
+      length_is =
+          r.length_is;
+      stood = r.stood;
+    }
 
 pub well_made_on : (pairs : List Pair) (words : ℕ) (v : View) (log : Log) → GoesOn v.log log
     → IsWellMade pairs words v
@@ -89,28 +94,33 @@ module _ (pairs : List Pair) (words : ℕ) (log : Log) (event : Event)
   -- callers that were taken back, where others make the event
   taken_behind : (taken : List Taken) → Each (λ t. author event ≢ Caller t.number) taken
       → Each (IsTakenBack pairs words log) taken
-          → Each (IsTakenBack pairs words (event ∷ log)) taken
+      → Each (IsTakenBack pairs words (event ∷ log)) taken
   taken_behind [] out all = tt
   taken_behind (t ∷ more) out all = (
-    record { low = le_trans all.0.low callers_grow; between =
-        between_on pairs words t.number t.calls log event enabled
-        (installs_not t.number event out.0) all.0.between },
+    record {
+      low = le_trans all.0.low callers_grow;
+      between =
+          between_on pairs words t.number t.calls log event enabled
+          (installs_not t.number event out.0) all.0.between;
+    },
     taken_behind more out.1 all.1,
   )
 
   -- the view of another seat
   pub true_of_others : (v : View) → author event ≢ v.who
       → (v.who ≡ Maker → (number : ℕ) → v.given ≤ number → author event ≢ Caller number)
-          → Each (λ t. author event ≢ Caller t.number) v.taken
+      → Each (λ t. author event ≢ Caller t.number) v.taken
       → IsTrueIn pairs words log v → IsTrueIn pairs words (event ∷ log) v
   true_of_others v other unseated out t =
       record {
         low = λ number is. le_trans (t.low number is) callers_grow;
         made = λ is.
-            let m = t.made is in
-            (m.0 ∙ sym (made_by_others event (state_of pairs words log).callers
-                (λ e. other (e ∙ sym is))) ∙ sym (callers-state (start pairs words) log event), m.1,
-                m.2);
+            let m = t.made is in (
+              m.0 ∙ sym (made_by_others event (state_of pairs words log).callers
+                  (λ e. other (e ∙ sym is))) ∙ sym (callers-state (start pairs words) log event),
+              m.1,
+              m.2,
+            );
         idle = λ is number above. (unseated is number above, t.idle is number above);
         fresh = λ place far. t.fresh place (le_trans next_grows far);
         call = λ number is. call_by_others pairs words number v.calls log event enabled v.pending
@@ -122,17 +132,17 @@ module _ (pairs : List Pair) (words : ℕ) (log : Log) (event : Event)
   brings : (v : View) (number : ℕ) → v.who ≡ Caller number → Later v.who v.log log → v.start ≡ pairs
       → v.words ≡ words
       → SeatAllows v event → (base : ℕ) (rows : List Row) → event ≡ Install number base rows
-          → (h : CanInstall (start pairs words) log number base rows)
+      → (h : CanInstall (start pairs words) log number base rows)
       → (pending : Pending) × (v.pending ≡ Some pending)
-          × MayBring pairs words log number v.calls pending.command h.change
+      × MayBring pairs words log number v.calls pending.command h.change
   brings v number who later start_is words_is allows base rows is h =
       let may : MayInstall v number h.change =
-              subst (SeatAllows v) is allows h.change (ap first_change h.rows_are) in
+      subst (SeatAllows v) is allows h.change (ap first_change h.rows_are) in
       let later' : Later (Caller number) v.log log = subst (λ w. Later w v.log log) who later in
       let old : AllResolvedOf (state_of pairs words v.log) v.log number =
       subst (λ p. AllResolvedOf (state_of p words v.log) v.log number) start_is
-          (subst (λ n. AllResolvedOf (state_of v.start n v.log) v.log number) words_is
-          may.resolved) in (
+      (subst (λ n. AllResolvedOf (state_of v.start n v.log) v.log number) words_is
+      may.resolved) in (
         may.pending,
         may.in_call,
         record {
@@ -141,10 +151,13 @@ module _ (pairs : List Pair) (words : ℕ) (log : Log) (event : Event)
           none_yet = λ update.
               let made : HasMade pairs words v.log number v.calls =
               subst (λ p. HasMade p words v.log number v.calls) start_is
-                  (subst (λ n. HasMade v.start n v.log number v.calls) words_is
-                  (may.none_yet update)) in
-              (between_later pairs words number v.calls v.log log enabled.0 later' record { made =
-                  made; resolved = old }).made;
+              (subst (λ n. HasMade v.start n v.log number v.calls) words_is
+              (may.none_yet update)) in
+              (between_later pairs words number v.calls v.log log enabled.0 later' record {
+                made =
+                    made;
+                resolved = old;
+              }).made;
         },
       )
 
@@ -154,14 +167,16 @@ module _ (pairs : List Pair) (words : ℕ) (log : Log) (event : Event)
   -- the maker's event is an Enter, and all callers had their seats
   made_by_maker : (v : View) → author event ≡ v.who → v.who ≡ Maker → SeatAllows v event
       → (made_behind event v.made ≡ v.made + 1) × (v.given ≡ v.made)
-          × ((made : ℕ) → made_behind event made ≡ made + 1)
+      × ((made : ℕ) → made_behind event made ≡ made + 1)
   made_by_maker v mine who allows = at (authored event)
     where
       at : Authored event → (made_behind event v.made ≡ v.made + 1) × (v.given ≡ v.made)
           × ((made : ℕ) → made_behind event made ≡ made + 1)
-      at (by_maker caller is a) =
-          ((ap (λ e. made_behind e v.made) is), subst (SeatAllows v) is allows,
-              (λ made. ap (λ e. made_behind e made) is))
+      at (by_maker caller is a) = (
+        (ap (λ e. made_behind e v.made) is),
+        subst (SeatAllows v) is allows,
+        (λ made. ap (λ e. made_behind e made) is),
+      )
       at (by_caller caller a same) = absurd (maker_no_caller caller (sym who ∙ sym mine ∙ a))
 
   -- the view of the seat that made the event
@@ -176,14 +191,20 @@ module _ (pairs : List Pair) (words : ℕ) (log : Log) (event : Event)
             let m = t.made is in
             let it = made_by_maker v mine is allows in
             let count = it.0 in
-            let all = it.1 in
-            (it.0 ∙ ap (λ n. n + 1) m.0 ∙ sym (it.2 (state_of pairs words log).callers) ∙ sym
-                (callers-state (start pairs words) log event), omega arith, omega arith);
-        idle = λ is number above. ((λ e. maker_no_caller number (sym is ∙ sym mine ∙ e)), t.idle is
-            number above);
+            let all = it.1 in (
+              it.0 ∙ ap (λ n. n + 1) m.0 ∙ sym (it.2 (state_of pairs words log).callers) ∙ sym
+                  (callers-state (start pairs words) log event),
+              omega arith,
+              omega arith,
+            );
+        idle = λ is number above. (
+          (λ e. maker_no_caller number (sym is ∙ sym mine ∙ e)),
+          t.idle is
+              number above,
+        );
         fresh = λ place far. t.fresh place (le_trans next_grows far);
         call = λ number is.
             call_on pairs words number v.calls log event enabled v.pending
-                (brings v number is later start_is words_is allows) (t.call number is);
+            (brings v number is later start_is words_is allows) (t.call number is);
         taken = taken_behind v.taken out t.taken;
       }

@@ -1,6 +1,5 @@
 -- The frame of each step: one seat has a new view, the log has gone on or not, a word has changed
--- or not. What is to be shown
--- of the rest. Serves all conjuncts of the rule.
+-- or not. What is to be shown of the rest. Serves all conjuncts of the rule.
 use Rattle.std.proofs.Common.{◌≡◌, ◌≢◌, ℕ, zero, suc, ◌≤◌, ◌⊎◌, List, [], ◌∷◌, ◌++◌, length, slice_set, refl, sym, ap, ◌∙◌, subst, inl, inr, ⊎_elim, le_refl}
 use Rattle.std.proofs.Math.Nat.{le_trans}
 use mathlib.Core.Option.{Option, some, some-injective, some-ne-none}
@@ -44,11 +43,15 @@ later_goes (by_event event mine) differ l = one_more event l (λ e. differ (sym 
 pub was : (vs : List View) (id : ℕ) (v w : View) → get_elem? vs id ≡ some v → w.who ≡ v.who
     → v.given ≤ w.given → (i : ℕ) (u : View)
     → get_elem? (slice_set vs id w) i ≡ some u → (o : View) × (get_elem? vs i ≡ some o)
-        × (o.who ≡ u.who) × (o.given ≤ u.given)
+    × (o.who ≡ u.who) × (o.given ≤ u.given)
 was vs id v w mine who given i u at =
     ⊎_elim
-    (λ t. (v, subst (λ j. get_elem? vs j ≡ some v) (sym t.0) mine, sym who ∙ ap (λ x. x.who) t.1,
-        subst (λ x. v.given ≤ x.given) t.1 given))
+    (λ t. (
+      v,
+      subst (λ j. get_elem? vs j ≡ some v) (sym t.0) mine,
+      sym who ∙ ap (λ x. x.who) t.1,
+      subst (λ x. v.given ≤ x.given) t.1 given,
+    ))
     (λ t. (u, t.1, refl, le_refl u.given))
     (at_set vs id i w u at)
 
@@ -57,10 +60,10 @@ unfoldable pub moved : (k : About) (s : Table) (r : Kept k s) (id : ℕ) (v w : 
     (homes : List (Option (Unit {0})))
     → HasView s id v → v.who ≢ Spent → w.who ≡ v.who → v.given ≤ w.given
     → (log : Log) (words : List ℕ) → LogGoes v.who r.log log
-        → Lawful k.start.value.items k.words log
-        → IsImage (state_of k.start.value.items k.words log) words
+    → Lawful k.start.value.items k.words log
+    → IsImage (state_of k.start.value.items k.words log) words
     → ((i : ℕ) (u : View) → HasView s i u → u.who ≢ Spent → (IsNamed v.who → u.who ≢ v.who)
-        → Fits k r.log s.words u → Fits k log words u)
+    → Fits k r.log s.words u → Fits k log words u)
     → Fits k log words w → Each (IsRetired s log w) w.taken
     → Kept k (record { words = words; homes = homes; views = slice_set s.views id w })
 moved k s r id v w homes mine live who given log words goes lawful image others own retired =
@@ -71,7 +74,7 @@ moved k s r id v w homes mine live who given log words goes lawful image others 
       seats = λ i u at alive.
           ⊎_elim (λ t. subst (Fits k log words) t.1 own)
           (λ t. others i u t.1 alive (λ named same. t.0 (r.apart id i v u mine t.1 named same))
-              (r.seats i u t.1 alive))
+          (r.seats i u t.1 alive))
           (at_set s.views id i w u at);
       apart = λ i j u x at bt named same.
           let o = was s.views id v w mine who given i u at in
@@ -84,23 +87,26 @@ moved k s r id v w homes mine live who given log words goes lawful image others 
       retired = λ i u at alive.
           ⊎_elim
           (λ t. subst (λ x. Each (IsRetired
-              (record { words = words; homes = homes; views = slice_set s.views id w }) log x)
-              x.taken) t.1
+          (record { words = words; homes = homes; views = slice_set s.views id w }) log x)
+          x.taken) t.1
           (each_map (IsRetired s log w) (IsRetired
-              (record { words = words; homes = homes; views = slice_set s.views id w }) log w)
-              w.taken (λ x _ q. record { seen = q.seen; seatless = without x q.seatless }) retired))
+          (record { words = words; homes = homes; views = slice_set s.views id w }) log w)
+          w.taken (λ x _ q. record { seen = q.seen; seatless = without x q.seatless }) retired))
           (λ t. each_map (IsRetired s r.log u)
-              (IsRetired (record { words = words; homes = homes; views = slice_set s.views id w })
-              log u) u.taken
-          (λ x _ q. record { seen = later_goes goes (q.seatless id v mine) q.seen; seatless =
-              without x q.seatless }) (r.retired i u t.1 alive))
+          (IsRetired (record { words = words; homes = homes; views = slice_set s.views id w })
+          log u) u.taken
+          (λ x _ q. record {
+            seen = later_goes goes (q.seatless id v mine) q.seen;
+            seatless =
+                without x q.seatless;
+          }) (r.retired i u t.1 alive))
           (at_set s.views id i w u at);
     }
   where
     -- a caller that had no seat has none
     without : (t : Taken) → ((i : ℕ) (u : View) → HasView s i u → u.who ≢ Caller t.number)
         → (i : ℕ) (u : View) → get_elem? (slice_set s.views id w) i ≡ some u
-            → u.who ≢ Caller t.number
+        → u.who ≢ Caller t.number
     without t none i u at is = let o =
         was s.views id v w mine who given i u at in none i o.0 o.1 (o.2 ∙ is)
 
@@ -118,9 +124,9 @@ pub grown : (k : About) (s : Table) (r : Kept k s) (u : View) → Fits k r.log s
     → u.taken ≡ []
     → (IsNamed u.who → (j : ℕ) (x : View) → HasView s j x → x.who ≢ u.who) → u.who ≢ Maker
     → ((i : ℕ) (v : View) → HasView s i v → v.who ≡ Maker → (number : ℕ) → v.given ≤ number
-        → u.who ≢ Caller number)
+    → u.who ≢ Caller number)
     → ((i : ℕ) (v : View) → HasView s i v → v.who ≢ Spent
-        → Each (λ t. u.who ≢ Caller t.number) v.taken)
+    → Each (λ t. u.who ≢ Caller t.number) v.taken)
     → Kept k (record { words = s.words; homes = s.homes; views = s.views ++ u ∷ [] })
 grown k s r u fits none new not unborn untaken =
     record {
@@ -133,23 +139,23 @@ grown k s r u fits none new not unborn untaken =
           ⊎_elim
           (λ a. ⊎_elim (λ b. r.apart i j v x a b named same)
           (λ b. absurd (new (subst IsNamed (sym same ∙ ap (λ y. y.who) (sym b.0)) named) i v a
-              (sym same ∙ ap (λ y. y.who) (sym b.0)))) (at_end s.views u x j bt))
+          (sym same ∙ ap (λ y. y.who) (sym b.0)))) (at_end s.views u x j bt))
           (λ a. ⊎_elim (λ b. absurd (new (subst (λ y. IsNamed y.who) (sym a.0) named) j x b
-              (same ∙ ap (λ y. y.who) (sym a.0)))) (λ b. b.1 ∙ sym a.1)
+          (same ∙ ap (λ y. y.who) (sym a.0)))) (λ b. b.1 ∙ sym a.1)
           (at_end s.views u x j bt)) (at_end s.views u v i at);
       unborn = λ i v at maker number above.
           ⊎_elim
           (λ a. let old = r.unborn i v a maker number above in
           λ j x bt. ⊎_elim (λ b. old j x b)
-              (λ b is. unborn i v a maker number above (ap (λ y. y.who) b.0 ∙ is))
-              (at_end s.views u x j bt))
+          (λ b is. unborn i v a maker number above (ap (λ y. y.who) b.0 ∙ is))
+          (at_end s.views u x j bt))
           (λ a. absurd (not (ap (λ y. y.who) a.0 ∙ maker)))
           (at_end s.views u v i at);
       retired = λ i v at live.
           ⊎_elim
           (λ a. both v v.taken (r.retired i v a live) (untaken i v a live))
           (λ a. subst (λ x. Each (IsRetired after r.log x) x.taken) a.0
-              (subst (Each (IsRetired after r.log u)) (sym none) tt))
+          (subst (Each (IsRetired after r.log u)) (sym none) tt))
           (at_end s.views u v i at);
     }
   where
@@ -159,10 +165,15 @@ grown k s r u fits none new not unborn untaken =
     both : (v : View) (taken : List Taken) → Each (IsRetired s r.log v) taken
         → Each (λ t. u.who ≢ Caller t.number) taken → Each (IsRetired after r.log v) taken
     both v [] a b = tt
-    both v (t ∷ more) a b =
-        (record { seen = a.0.seen; seatless =
+    both v (t ∷ more) a b = (
+      record {
+        seen = a.0.seen;
+        seatless =
             λ j x bt. ⊎_elim (λ c. a.0.seatless j x c) (λ c is. b.0 (ap (λ y. y.who) c.0 ∙ is))
-            (at_end s.views u x j bt) }, both v more a.1 b.1)
+            (at_end s.views u x j bt);
+      },
+      both v more a.1 b.1,
+    )
 
 -- ---- a seat that is joined away
 
@@ -185,7 +196,7 @@ ended k s r id u dead =
       apart = λ i j v x at bt named same.
           ⊎_elim (λ a. absurd (subst IsNamed (ap (λ y. y.who) (sym a.1) ∙ dead) named))
           (λ a. ⊎_elim (λ b. absurd (subst IsNamed (sym same ∙ ap (λ y. y.who) (sym b.1) ∙ dead)
-              named)) (λ b. r.apart i j v x a.1 b.1 named same) (at_set s.views id j u x bt))
+          named)) (λ b. r.apart i j v x a.1 b.1 named same) (at_set s.views id j u x bt))
           (at_set s.views id i u v at);
       unborn = λ i v at maker number above.
           ⊎_elim (λ a. absurd (spent_maker (sym dead ∙ ap (λ y. y.who) a.1 ∙ maker)))
@@ -194,10 +205,14 @@ ended k s r id u dead =
       retired = λ i v at live.
           ⊎_elim (λ a. absurd (live (ap (λ x. x.who) (sym a.1) ∙ dead)))
           (λ a. each_map (IsRetired s r.log v)
-              (IsRetired (record { words = s.words; homes = s.homes; views =
-              slice_set s.views id u }) r.log v) v.taken
-              (λ t _ q. record { seen = q.seen; seatless = without t.number q.seatless })
-              (r.retired i v a.1 live))
+          (IsRetired (record {
+            words = s.words;
+            homes = s.homes;
+            views =
+                slice_set s.views id u;
+          }) r.log v) v.taken
+          (λ t _ q. record { seen = q.seen; seatless = without t.number q.seatless })
+          (r.retired i v a.1 live))
           (at_set s.views id i u v at);
     }
   where
@@ -205,4 +220,4 @@ ended k s r id u dead =
         → (i : ℕ) (w : View) → get_elem? (slice_set s.views id u) i ≡ some w → w.who ≢ Caller number
     without number none i w at is =
         ⊎_elim (λ b. spent_caller number (sym dead ∙ ap (λ y. y.who) b.1 ∙ is))
-            (λ b. none i w b.1 is) (at_set s.views id i u w at)
+        (λ b. none i w b.1 is) (at_set s.views id i u w at)

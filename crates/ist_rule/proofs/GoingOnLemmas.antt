@@ -18,8 +18,16 @@ use Rattle.ist_rule.proofs.EventLemmas.{callers-state, made_behind-grows, made_b
 -- a sound seat goes on to itself
 pub goes_on_same : (v : View) → IsSound v → GoesOnTo v v
 goes_on_same v s =
-    record { later = no_more; sound = s; same = refl; since = refl; more = []; loads =
-        refl; loaded = le_refl v.loaded }
+    record {
+      later = no_more;
+      sound = s;
+      same = refl;
+      since = refl;
+      more = [];
+      loads =
+          refl;
+      loaded = le_refl v.loaded;
+    }
 
 -- a load goes on
 pub looked_goes_on : (v : View) (place word : ℕ) (w : View) → Looked v place word w → GoesOnTo v w
@@ -45,8 +53,12 @@ goes_on_more u v w a b =
     record {
       later = later_more a.later (subst (λ x. Later x v.log w.log) (goes_on_who a) b.later);
       sound = b.sound;
-      same = b.same ∙ ap {B = View} (λ (x : View). record x { log = w.log; loads = w.loads; loaded =
-          w.loaded }) a.same;
+      same = b.same ∙ ap {B = View} (λ (x : View). record x {
+        log = w.log;
+        loads = w.loads;
+        loaded =
+            w.loaded;
+      }) a.same;
       since = b.since ∙ a.since;
       more = b.more ++ a.more;
       loads = b.loads ∙ ap (λ xs. b.more ++ xs) a.loads ∙ sym
@@ -72,8 +84,8 @@ callers_later pairs words old _ no_more = le_refl (state_of pairs words old).cal
 callers_later pairs words old _ (one_more {log = log} event l other) =
     le_trans (callers_later pairs words old log l)
     (subst (λ n. (state_of pairs words log).callers ≤ n)
-        (sym (callers-state (start pairs words) log event))
-        (made_behind-grows event (state_of pairs words log).callers))
+    (sym (callers-state (start pairs words) log event))
+    (made_behind-grows event (state_of pairs words log).callers))
 
 -- others than the maker add none
 pub callers_by_others : (pairs : List Pair) (words : ℕ) (old log : Log) → Later Maker old log
@@ -81,4 +93,4 @@ pub callers_by_others : (pairs : List Pair) (words : ℕ) (old log : Log) → La
 callers_by_others pairs words old _ no_more = refl
 callers_by_others pairs words old _ (one_more {log = log} event l other) =
     callers-state (start pairs words) log event ∙ made_by_others event
-        (state_of pairs words log).callers other ∙ callers_by_others pairs words old log l
+    (state_of pairs words log).callers other ∙ callers_by_others pairs words old log l

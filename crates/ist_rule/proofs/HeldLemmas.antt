@@ -38,9 +38,13 @@ pub rows_holder : (t : Snapshot) (caller : ℕ) (rows : List Row) → IsSound t
     → Among h.base (bases_of rows) → h.caller ≡ caller
 rows_holder t caller rows s held h i among =
     let it = row_among h.base rows among in
-    ap (λ x. x.caller) (s.once h record { caller = caller; base = it.0.base; size =
-        length it.0.words } i (each-among (λ x. HoldsRow t caller x.base (length x.words)) it.0 rows
-        held it.1) (sym it.2))
+    ap (λ x. x.caller) (s.once h record {
+      caller = caller;
+      base = it.0.base;
+      size =
+          length it.0.words;
+    } i (each-among (λ x. HoldsRow t caller x.base (length x.words)) it.0 rows
+    held it.1) (sym it.2))
 
 -- the same for bases with sizes
 sizes_holder : (t : Snapshot) (caller : ℕ) (bases sizes : List ℕ) → IsSound t
@@ -60,7 +64,7 @@ pub lost_holder : (t : Snapshot) (log : Log) (caller : ℕ) (bases : List ℕ) �
 lost_holder t log caller bases s can h i among =
     ⊎_elim
     (λ p. sizes_holder t caller (p.pair ∷ []) (_ ∷ []) s (p.held, tt) h i
-        (subst (Among h.base) p.bases_are among))
+    (subst (Among h.base) p.bases_are among))
     (λ b. sizes_holder t caller bases b.sizes s b.held h i among)
     can.cause
 
@@ -77,29 +81,29 @@ held-resolved t (Some change) = refl
 pub held_by_others : (first : Snapshot) (log : Log) (event : Event) → Enabled first log event
     → IsSound (state first log) → (h : HeldRow)
     → Among h (state first log).held → author event ≢ Caller h.caller
-        → Among h (state first (event ∷ log)).held
+    → Among h (state first (event ∷ log)).held
 held_by_others first log (Install caller change rows) can s h i other =
     ⊎_elim (λ k. k) (λ b. absurd (other
-        (ap Caller (sym (rows_holder (state first log) caller rows s can.held h i b)))))
-        (without-fate (bases_of rows) (state first log).held h i)
+    (ap Caller (sym (rows_holder (state first log) caller rows s can.held h i b)))))
+    (without-fate (bases_of rows) (state first log).held h i)
 held_by_others first log (Root caller rebuild word rows) can s h i other =
     ⊎_elim (λ k. k) (λ b. absurd (other
-        (ap Caller (sym (rows_holder (state first log) caller rows s can.held h i b)))))
-        (without-fate (bases_of rows) (state first log).held h i)
+    (ap Caller (sym (rows_holder (state first log) caller rows s can.held h i b)))))
+    (without-fate (bases_of rows) (state first log).held h i)
 held_by_others first log (Place caller rebuild part word rows) can s h i other =
     ⊎_elim (λ k. k) (λ b. absurd (other
-        (ap Caller (sym (rows_holder (state first log) caller rows s can.held h i b)))))
-        (without-fate (bases_of rows) (state first log).held h i)
+    (ap Caller (sym (rows_holder (state first log) caller rows s can.held h i b)))))
+    (without-fate (bases_of rows) (state first log).held h i)
 held_by_others first log (Lose caller bases) can s h i other =
     ⊎_elim (λ k. k) (λ b. absurd (other
-        (ap Caller (sym (lost_holder (state first log) log caller bases s can h i b)))))
-        (without-fate bases (state first log).held h i)
+    (ap Caller (sym (lost_holder (state first log) log caller bases s can h i b)))))
+    (without-fate bases (state first log).held h i)
 held_by_others first log (Reserve caller base size) can s h i other =
     among_left h (state first log).held (record { caller = caller; base = base; size = size } ∷ [])
     i
 held_by_others first log (Resolve caller change) can s h i other =
     subst (Among h) (sym (held-resolved (state first log)
-        (as_change ((state first log).pieces change)))) i
+    (as_change ((state first log).pieces change)))) i
 held_by_others first log (Enter caller) can s h i other = i
 held_by_others first log (Okay caller change) can s h i other = i
 held_by_others first log (Decide caller change said) can s h i other = i
@@ -116,8 +120,8 @@ pub held_later : (pairs : List Pair) (words : ℕ) (h : HeldRow) (old log : Log)
 held_later pairs words h old _ enabled no_more i = i
 held_later pairs words h old _ enabled (one_more {log = log} event l other) i =
     held_by_others (start pairs words) log event enabled.1
-        (sound (start pairs words) log (sound_start pairs words) enabled.0) h
-        (held_later pairs words h old log enabled.0 l i) other
+    (sound (start pairs words) log (sound_start pairs words) enabled.0) h
+    (held_later pairs words h old log enabled.0 l i) other
 
 -- ---- callers without an event
 
@@ -131,12 +135,12 @@ idle_holds pairs words (event ∷ log) number enabled idle h i is =
     (λ m. idle_holds pairs words log number enabled.0 idle.1 h (m.kept h i) is)
     (λ r. ⊎_elim (λ old. idle_holds pairs words log number enabled.0 idle.1 h old is)
     (λ new. ⊎_elim (λ e. idle.0 (ap author r.is ∙ ap Caller (sym (ap (λ x. x.caller) e) ∙ is)))
-        (λ n. absurd n) new)
+    (λ n. absurd n) new)
     (among-append h (state_of pairs words log).held
-        (record { caller = r.caller; base = r.base; size = r.size } ∷ [])
+    (record { caller = r.caller; base = r.base; size = r.size } ∷ [])
     (subst (λ e. Among h (state_of pairs words (e ∷ log)).held) r.is i)))
     (moves_or_reserves (start pairs words) log event enabled.1
-        (sound (start pairs words) log (sound_start pairs words) enabled.0))
+    (sound (start pairs words) log (sound_start pairs words) enabled.0))
 
 -- a new table has no change
 rows_no_change : (fuel base : ℕ) (pairs : List Pair)
@@ -146,16 +150,18 @@ rows_no_change fuel base [] = tt
 rows_no_change fuel base (pair ∷ []) = (tt, tt)
 rows_no_change zero base (pair ∷ more ∷ pairs) = tt
 rows_no_change (suc fuel) base (pair ∷ more ∷ pairs) =
-    let all = pair ∷ more ∷ pairs in
-    (tt, each-flat_map (λ row. NoChange row.1) (λ part. rows_within fuel part.0 part.1)
-        (placed_parts base all) (λ part. rows_no_change fuel part.0 part.1))
+    let all = pair ∷ more ∷ pairs in (
+      tt,
+      each-flat_map (λ row. NoChange row.1) (λ part. rows_within fuel part.0 part.1)
+          (placed_parts base all) (λ part. rows_no_change fuel part.0 part.1),
+    )
 
 pub start_no_change : (pairs : List Pair) (words base : ℕ) (r : ChangeRow)
     → (start pairs words).pieces base ≡ Some (Change r) → ⊥
 start_no_change pairs words base r e =
     each-among (λ row. NoChange row.1) (base, Change r) (rows_from 4 pairs)
-        (rows_no_change (length pairs) 4 pairs)
-        (among-pieces_of (rows_from 4 pairs) base (Change r) e)
+    (rows_no_change (length pairs) 4 pairs)
+    (among-pieces_of (rows_from 4 pairs) base (Change r) e)
 
 -- who made no event has made no entry, and has installed nothing
 pub idle_between : (pairs : List Pair) (words : ℕ) (log : Log) (number : ℕ)
@@ -165,4 +171,4 @@ idle_between pairs words [] number enabled idle =
     record { made = refl; resolved = λ base r e _. absurd (start_no_change pairs words base r e) }
 idle_between pairs words (event ∷ log) number enabled idle =
     between_on pairs words number [] log event enabled (installs_not number event idle.0)
-        (idle_between pairs words log number enabled.0 idle.1)
+    (idle_between pairs words log number enabled.0 idle.1)

@@ -54,7 +54,7 @@ below_or m n = at (nat_lt m n) refl
 module _ (a b log : Log) (p : GoesOn a log) (q : GoesOn b log) where
   longer_is : (t : Bool) → nat_le (length b) (length a) ≡ t
       → GoesOn a (if t then a else b) × GoesOn b (if t then a else b)
-          × GoesOn (if t then a else b) log
+      × GoesOn (if t then a else b) log
   longer_is true e = let h : length b ≤ length a =
       grind (arith, nat_tests, e) in (same_log, between q p h, p)
   longer_is false e = let h : length a ≤ length b =
@@ -109,8 +109,10 @@ module _ (k : About) (s : Table) (r : Kept k s) (id other : ℕ) (v w : View) (l
     where
       at : (x : Who) → w.who ≡ x → Distinct (map (λ t. t.number) (with_taken x w.calls v.taken))
       at Maker e = f.well_made.taken_once
-      at (Caller number) e = (not_taken number e v.taken (r.retired id v mine live),
-          f.well_made.taken_once)
+      at (Caller number) e = (
+        not_taken number e v.taken (r.retired id v mine live),
+        f.well_made.taken_once,
+      )
       at (Note of) e = f.well_made.taken_once
       at Spent e = f.well_made.taken_once
 
@@ -127,8 +129,8 @@ module _ (k : About) (s : Table) (r : Kept k s) (id other : ℕ) (v w : View) (l
   given_low : (number : ℕ) → w.who ≡ Caller number → number < v.given
   given_low number is =
       ⊎_elim (λ low. low) (λ high. absurd
-          (r.unborn id v mine (can.to_maker number is) number high other w theirs is))
-          (below_or number v.given)
+      (r.unborn id v mine (can.to_maker number is) number high other w theirs is))
+      (below_or number v.given)
 
   well_made_both : IsWellMade k.start.value.items k.words both
   well_made_both =
@@ -145,7 +147,7 @@ module _ (k : About) (s : Table) (r : Kept k s) (id other : ℕ) (v w : View) (l
         taken_stand = with_one (λ t. StandsInPrefix k.start.value.items k.words both.log t.number
             t.calls) m.taken_stand
             (λ number is. stands_on k.start.value.items k.words w.log both.log number w.calls logs.1
-                (h.stands number (subst (Keeps number) (sym is) its_own)));
+            (h.stands number (subst (Keeps number) (sym is) its_own)));
         taken_once = taken_once;
         taken_given = with_one (λ t. t.number < v.given) m.taken_given given_low;
         maker_takes = maker_takes;
@@ -185,8 +187,11 @@ module _ (k : About) (s : Table) (r : Kept k s) (id other : ℕ) (v w : View) (l
   retired_both all =
       with_one (IsRetired s1 r.log both)
       (each_map (IsRetired s r.log v) (IsRetired s1 r.log both) v.taken
-      (λ t _ q. record { seen = later_longer q.seen logs.2 (goes_on_length logs.0); seatless =
-          seatless t.number q.seatless }) all)
+      (λ t _ q. record {
+        seen = later_longer q.seen logs.2 (goes_on_length logs.0);
+        seatless =
+            seatless t.number q.seatless;
+      }) all)
       (λ number is. record {
         seen = later_longer (subst (λ x. Later x w.log r.log) is g.later) logs.2
             (goes_on_length logs.1);
@@ -203,15 +208,19 @@ module _ (k : About) (s : Table) (r : Kept k s) (id other : ℕ) (v w : View) (l
           ⊎_elim (λ b. spent_caller number (ap (λ y. y.who) b.1 ∙ is)) (λ b. none i x b.1 is)
           (at_set s.views other i gone x at)
 
-  kept_both : Kept k (record { words = s.words; homes = s.homes; views =
-      slice_set (slice_set s.views id both) other gone })
+  kept_both : Kept k (record {
+    words = s.words;
+    homes = s.homes;
+    views =
+        slice_set (slice_set s.views id both) other gone;
+  })
   unfolding ended
   kept_both =
       subst (λ vs. Kept k (record { words = s.words; homes = s.homes; views = vs }))
-          (sym (set_set s.views id other both gone (λ e. apart (sym e))))
+      (sym (set_set s.views id other both gone (λ e. apart (sym e))))
       (moved k s1 (ended k s r other gone refl) id v both s.homes
-          (other_set s.views id other v gone (λ e. apart (sym e)) mine) live refl (le_refl v.given)
-          r.log s.words as_it_was r.lawful r.image
+      (other_set s.views id other v gone (λ e. apart (sym e)) mine) live refl (le_refl v.given)
+      r.log s.words as_it_was r.lawful r.image
       (λ i u at alive _ h. h) fits_both (retired_both (r.retired id v mine live)))
 
 -- a join keeps the rule
@@ -219,8 +228,8 @@ pub joins : (k : About) (id other : ℕ) (v w : View) → v.who ≢ Spent → w.
     → Joins (Kept k) id v other w (joined v w) gone
 joins k id other v w live live' can s r mine apart there =
     let theirs : HasView s other w =
-            ⊎_elim (λ t. absurd (apart t.0)) (λ t. t.1)
-            (at_set s.views id other (joined v w) w there) in
+    ⊎_elim (λ t. absurd (apart t.0)) (λ t. t.1)
+    (at_set s.views id other (joined v w) w there) in
     kept_both k s r id other v w live live' can mine apart theirs
 
 -- the seat is live still

@@ -1,6 +1,6 @@
--- Steps that leave the word at their place, and are events: loads, and failed exchanges. Serves the plays.
-use Rattle.std.proofs.Common.{◌≡◌, ◌≢◌, ℕ, ◌+◌, ◌%◌, ◌^◌, ◌⊎◌, inl, inr, eqb, List, [], ◌∷◌, slice_index, slice_set, Option, Some, None, refl, sym, ap, ◌∙◌, subst, le_refl, ⊎_elim}
-use Rattle.std.proofs.Math.Nat.{mod-eq_of_lt}
+-- Steps that leave the word at their place, and are events: loads, and failed exchanges. Serves the
+-- plays.
+use Rattle.std.proofs.Common.{◌≡◌, ◌≢◌, ℕ, ◌+◌, ◌⊎◌, inl, inr, eqb, slice_index, slice_set, Option, Some, None, refl, sym, ap, ◌∙◌, subst, ⊎_elim}
 use Rattle.std.proofs.lemmas.List.{set-get_or}
 use Rattle.std.proofs.lemmas.Bool.Decides.{eqb_tells}
 use Rattle.std.proofs.lemmas.Option.{get_or_from_slice_get}
@@ -10,30 +10,21 @@ use prog.Atomic.{either}
 use Rattle.atomic_table.specs.Table.{step, keeps, Allows}
 use Rattle.atomic_table.proofs.Lists.{exchanged}
 use Rattle.ist_core.specs.declared.events.Event.{Event}
-use Rattle.ist_core.specs.Elements.{Each}
 use Rattle.ist_core.specs.StartLayout.{start}
-use Rattle.ist_core.specs.Images.{IsImage}
 use Rattle.ist_core.specs.Writing.{Touch, touch_of, touched}
-use Rattle.ist_core.specs.Logs.{Log, one_event}
 use Rattle.ist_core.specs.Enabled.{Enabled}
-use Rattle.ist_core.specs.Lawful.{EachEnabled, Lawful, state_of}
+use Rattle.ist_core.specs.Lawful.{state_of}
 use Rattle.ist_rule.specs.declared.view.View.{View}
-use Rattle.ist_rule.specs.declared.view.Taken.{Taken}
 use Rattle.ist_rule.specs.declared.view.About.{About}
-use Rattle.ist_rule.specs.declared.view.Who.TheVariants.{Caller, Spent}
-use Rattle.ist_rule.specs.Authors.{author, no_more, one_more}
+use Rattle.ist_rule.specs.declared.view.Who.TheVariants.{Spent}
 use Rattle.ist_rule.specs.Shown.{IsShown}
-use Rattle.ist_rule.specs.Rule.{IsNamed, IsRetired, Owns, HasView, Fits, Kept, IsSound}
-use Rattle.ist_rule.specs.Playing.{Seated, adds, exchanges, loads_as, exchanges_or_loses}
-use Rattle.ist_rule.specs.Learning.{seeing, logging, logging_load, Logged, LoggedLoad, Naming, LoadedAs, as_event, as_load, Exchanged, ExchangedOrLost}
-use Rattle.ist_rule.specs.Conditions.{CanMake, MayCome, ComesAt, IsKnown, CanExchange, CanAdd, LeavesAt, CanLoadAs, CanExchangeOrLose}
-use Rattle.ist_rule.proofs.LaterLemmas.{later-goes_on}
-use Rattle.ist_rule.proofs.EventLemmas.{author_named}
+use Rattle.ist_rule.specs.Rule.{HasView, Kept, IsSound}
+use Rattle.ist_rule.specs.Playing.{Seated, loads_as, exchanges_or_loses}
+use Rattle.ist_rule.specs.Learning.{logging_load, LoggedLoad, Naming, LoadedAs, as_event, as_load, ExchangedOrLost}
+use Rattle.ist_rule.specs.Conditions.{CanMake, LeavesAt, CanLoadAs, CanExchangeOrLose}
 use Rattle.ist_rule.proofs.ShownLemmas.{image_shows}
-use Rattle.ist_rule.proofs.EventWordLemmas.{owns_behind, image_behind}
-use Rattle.ist_rule.proofs.FitLemmas.{each_map, well_made_on, true_of_others, true_of_own}
-use Rattle.ist_rule.proofs.FrameLemmas.{Table, by_event, moved}
-use Rattle.ist_rule.proofs.SoundViewLemmas.{as_view, as_table, sound_of}
+use Rattle.ist_rule.proofs.FrameLemmas.{Table}
+use Rattle.ist_rule.proofs.SoundViewLemmas.{as_view, as_table}
 use Rattle.ist_rule.proofs.LookLemmas.{Goes, sees}
 use Rattle.ist_rule.proofs.LogLemmas.{sound_now, kept, logs, shown_there, comes_here, may_come}
 
@@ -41,8 +32,12 @@ use Rattle.ist_rule.proofs.LogLemmas.{sound_now, kept, logs, shown_there, comes_
 
 -- what the event leaves of the words is all of them
 words_stay : (s : Table) (place : ℕ) (o : Option Touch)
-    → (o ≡ Some record { place = place; found = slice_index s.words place; left =
-        slice_index s.words place }) ⊎ (o ≡ None)
+    → (o ≡ Some record {
+      place = place;
+      found = slice_index s.words place;
+      left =
+          slice_index s.words place;
+    }) ⊎ (o ≡ None)
     → touched s.words o ≡ s.words
 words_stay s place o (inl e) = ap (touched s.words) e ∙ set-get_or s.words place 0
 words_stay s place o (inr e) = ap (touched s.words) e
@@ -55,14 +50,22 @@ module _ (k : About) (s : Table) (r : Kept k s) (id : ℕ) (me : Seated) (live :
   u = logging_load me.0 r.log event
 
   there : Enabled (start k.start.value.items k.words) r.log event
-      × ((touch_of (state_of k.start.value.items k.words r.log) event ≡ Some record { place =
-          place; found = slice_index s.words place; left = slice_index s.words place })
+      × ((touch_of (state_of k.start.value.items k.words r.log) event ≡ Some record {
+        place =
+            place;
+        found = slice_index s.words place;
+        left = slice_index s.words place;
+      })
       ⊎ (touch_of (state_of k.start.value.items k.words r.log) event ≡ None))
   there =
       as_table k r.log s.words me.0 (r.seats id me.0 mine live)
       (λ p n. Enabled (start p n) r.log event
-      × ((touch_of (state_of p n r.log) event ≡ Some record { place = place; found =
-          slice_index s.words place; left = slice_index s.words place })
+      × ((touch_of (state_of p n r.log) event ≡ Some record {
+        place = place;
+        found =
+            slice_index s.words place;
+        left = slice_index s.words place;
+      })
       ⊎ (touch_of (state_of p n r.log) event ≡ None)))
       (l.enabled, l.leaves)
 
@@ -78,7 +81,7 @@ module _ (k : About) (s : Table) (r : Kept k s) (id : ℕ) (me : Seated) (live :
         stood = as_view k r.log s.words me.0 f (λ p n. (shown : ℕ)
             → IsShown (state_of p n r.log) place shown → slice_index s.words place ≡ shown)
             (λ shown is. get_or_from_slice_get s.words place shown 0
-                (image_shows (state_of k.start.value.items k.words r.log) s.words r.image is));
+            (image_shows (state_of k.start.value.items k.words r.log) s.words r.image is));
       }
 
   pub stays : (tells : ℕ → Seated → Type 0)
@@ -92,7 +95,7 @@ module _ (k : About) (s : Table) (r : Kept k s) (id : ℕ) (me : Seated) (live :
     subst (λ ws. Kept k (record { words = ws; homes = s.homes; views = slice_set s.views id u }))
         (sym (set-get_or s.words place 0))
         (kept k s r id me live mine event make there.0 s.words (me.0.loaded + 1)
-            (words_stay s place _ there.1)),
+        (words_stay s place _ there.1)),
     told logged_load refl,
   )
 
@@ -100,7 +103,7 @@ module _ (k : About) (s : Table) (r : Kept k s) (id : ℕ) (me : Seated) (live :
 pub loads_as_moves : (k : About) (slots id : ℕ) (me : Seated) (place : ℕ) (named : Naming)
     → me.0.who ≢ Spent → CanLoadAs me.0 place named
     → Allows (Kept k) slots id me place (λ n. n)
-        (loads_as named (step slots place 0 0 maybe.none) me)
+    (loads_as named (step slots place 0 0 maybe.none) me)
 loads_as_moves k slots id me place named live can s r _ mine fits =
     at (named r.log (slice_index s.words place)) refl
   where
@@ -112,10 +115,13 @@ loads_as_moves k slots id me place named live can s r _ mine fits =
     at (Some event) e =
         let f = r.seats id me.0 mine live in
         let it = can.comes r.log (may_come k s r me.0 f) (slice_index s.words place)
-                (shown_there k s r me.0 place f can.known) event e in
+        (shown_there k s r me.0 place f can.known) event e in
         stays k s r id me live mine place event it.0 it.1 tells
-            (λ l at_log. (as_event event l (ap (λ log. named log (slice_index s.words place)) at_log
-            ∙ e), refl))
+        (λ l at_log. (
+          as_event event l (ap (λ log. named log (slice_index s.words place)) at_log
+              ∙ e),
+          refl,
+        ))
     at None e = sees k s r id me place tells live mine fits (λ l. (as_load l e, refl))
 
 -- an exchange that is an event either way keeps the rule
@@ -123,24 +129,24 @@ pub exchanges_or_loses_moves : (k : About) (slots id : ℕ) (me : Seated) (place
     (events : Event × Event) → me.0.who ≢ Spent
     → CanExchangeOrLose me.0 place old new events.0 events.1
     → Allows (Kept k) slots id me place (λ n. either (eqb n old) new n)
-        (exchanges_or_loses events (step slots place old new maybe.none) me)
+    (exchanges_or_loses events (step slots place old new maybe.none) me)
 exchanges_or_loses_moves k slots id me place old new events live can s r _ mine fits =
     let x : ℕ = slice_index s.words place in
     let v = me.0 in
     let f = r.seats id v mine live in
     let shown = shown_there k s r v place f can.hit.known in
     let tells : ℕ → Seated → Type 0 =
-            exchanges_or_loses events (step slots place old new maybe.none) me in
+    exchanges_or_loses events (step slots place old new maybe.none) me in
     exchanged x old new (λ y. Goes k s place id me tells y)
     (λ hit.
     let it = comes_here k s r v f events.0 place old new
-            (can.hit.comes r.log (may_come k s r v f)
-            (subst (IsShown (state_of v.start v.words r.log) place) hit shown)) in
+    (can.hit.comes r.log (may_come k s r v f)
+    (subst (IsShown (state_of v.start v.words r.log) place) hit shown)) in
     logs k s r id me live mine events.0 can.hit.make it.0 place old new it.1 tells
     (λ l. (((λ _. l), (λ miss. absurd (miss hit))), refl)))
     (λ miss.
     stays k s r id me live mine place events.1 can.make
-        (can.miss r.log (may_come k s r v f) x shown miss) tells
+    (can.miss r.log (may_come k s r v f) x shown miss) tells
     (λ l at_log. (((λ hit. absurd (miss hit)), (λ _. l)), refl)))
 
 -- a seat that made an exchange that is an event either way is sound, of the same table

@@ -3,6 +3,7 @@ pub mod ShownLemmas
 pub mod EventLemmas
 pub mod ChangeLemmas
 pub mod StandingLemmas
+pub mod UndecidedLemmas
 pub mod CallLemmas
 pub mod EventWordLemmas
 pub mod FitLemmas
@@ -14,6 +15,7 @@ pub mod LeavingLemmas
 pub mod HeldLemmas
 pub mod StoreLemmas
 pub mod TurnLemmas
+pub mod TurnedSeatLemmas
 pub mod SplitLemmas
 pub mod SplitSeatLemmas
 pub mod JoinLemmas
@@ -21,3 +23,4 @@ pub mod OpenLemmas
 pub mod GoingOnLemmas
 pub mod WatchLemmas
 pub mod WatchedLoadLemmas
+pub mod KnownPlaceLemmas

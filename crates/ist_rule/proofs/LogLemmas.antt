@@ -1,7 +1,6 @@
 -- A step that is an event of its seat: what it keeps, and what it tells. Serves exchanges and adds.
-use Rattle.std.proofs.Common.{◌≡◌, ◌≢◌, ℕ, ◌+◌, ◌%◌, ◌^◌, ◌⊎◌, inl, inr, eqb, List, [], ◌∷◌, slice_index, slice_set, Option, Some, None, refl, sym, ap, ◌∙◌, subst, le_refl, ⊎_elim}
+use Rattle.std.proofs.Common.{◌≡◌, ◌≢◌, ℕ, ◌+◌, ◌%◌, ◌^◌, eqb, List, [], ◌∷◌, slice_index, slice_set, Some, refl, sym, ap, ◌∙◌, subst, le_refl, ⊎_elim}
 use Rattle.std.proofs.Math.Nat.{mod-eq_of_lt}
-use Rattle.std.proofs.lemmas.List.{set-get_or}
 use Rattle.std.proofs.lemmas.Bool.Decides.{eqb_tells}
 use Rattle.std.proofs.lemmas.Option.{get_or_from_slice_get}
 use mathlib.Core.Option as maybe
@@ -13,7 +12,7 @@ use Rattle.ist_core.specs.declared.events.Event.{Event}
 use Rattle.ist_core.specs.Elements.{Each}
 use Rattle.ist_core.specs.StartLayout.{start}
 use Rattle.ist_core.specs.Images.{IsImage}
-use Rattle.ist_core.specs.Writing.{Touch, touch_of, touched}
+use Rattle.ist_core.specs.Writing.{touch_of, touched}
 use Rattle.ist_core.specs.Logs.{Log, one_event}
 use Rattle.ist_core.specs.Enabled.{Enabled}
 use Rattle.ist_core.specs.Lawful.{EachEnabled, Lawful, state_of}
@@ -24,9 +23,9 @@ use Rattle.ist_rule.specs.declared.view.Who.TheVariants.{Caller, Spent}
 use Rattle.ist_rule.specs.Authors.{author, no_more, one_more}
 use Rattle.ist_rule.specs.Shown.{IsShown}
 use Rattle.ist_rule.specs.Rule.{IsNamed, IsRetired, Owns, HasView, Fits, Kept, IsSound}
-use Rattle.ist_rule.specs.Playing.{Seated, adds, exchanges, loads_as, exchanges_or_loses}
-use Rattle.ist_rule.specs.Learning.{seeing, logging, logging_load, Logged, LoggedLoad, Naming, LoadedAs, as_event, as_load, Exchanged, ExchangedOrLost}
-use Rattle.ist_rule.specs.Conditions.{CanMake, MayCome, ComesAt, IsKnown, CanExchange, CanAdd, LeavesAt, CanLoadAs, CanExchangeOrLose}
+use Rattle.ist_rule.specs.Playing.{Seated, adds, exchanges}
+use Rattle.ist_rule.specs.Learning.{seeing, logging, Logged, Exchanged}
+use Rattle.ist_rule.specs.Conditions.{CanMake, MayCome, ComesAt, IsKnown, CanExchange, CanAdd}
 use Rattle.ist_rule.proofs.LaterLemmas.{later-goes_on}
 use Rattle.ist_rule.proofs.EventLemmas.{author_named}
 use Rattle.ist_rule.proofs.ShownLemmas.{image_shows}
@@ -42,7 +41,7 @@ module _ (k : About) (s : Table) (r : Kept k s) (id : ℕ) (me : Seated) (live :
     (mine : HasView s id me.0) (event : Event) (make : CanMake me.0 event)
     (able : Enabled (start k.start.value.items k.words) r.log event) (words' : List ℕ) (count : ℕ)
     (words_behind : touched s.words (touch_of (state_of k.start.value.items k.words r.log) event)
-        ≡ words') where
+    ≡ words') where
   abbrev pub v : View
   v = me.0
 
@@ -62,7 +61,7 @@ module _ (k : About) (s : Table) (r : Kept k s) (id : ℕ) (me : Seated) (live :
   owns_now u g =
       subst (λ ws. Owns k.start.value.items k.words log' ws u) words_behind
       (owns_behind k.start.value.items k.words r.lawful.opens r.log event enabled' s.words r.image u
-          g.owns g.is_true.fresh)
+      g.owns g.is_true.fresh)
 
   -- the callers that were taken back are others
   taken_by_others : (u : View) (taken : List Taken) → Each (IsRetired s r.log u) taken
@@ -76,7 +75,7 @@ module _ (k : About) (s : Table) (r : Kept k s) (id : ℕ) (me : Seated) (live :
       → Fits k r.log s.words u → Fits k log' words' u
   others i u at alive apart g =
       let other : author event ≢ u.who =
-              λ e. apart (subst IsNamed make.mine (author_named event)) (sym e ∙ make.mine) in
+      λ e. apart (subst IsNamed make.mine (author_named event)) (sym e ∙ make.mine) in
       record {
         start_is = g.start_is;
         words_is = g.words_is;
@@ -85,7 +84,7 @@ module _ (k : About) (s : Table) (r : Kept k s) (id : ℕ) (me : Seated) (live :
         well_made = g.well_made;
         is_true = true_of_others k.start.value.items k.words r.log event enabled' u other
             (λ is number above e. r.unborn i u at is number above id v mine (sym make.mine ∙ e))
-                (taken_by_others u u.taken (r.retired i u at alive)) g.is_true;
+            (taken_by_others u u.taken (r.retired i u at alive)) g.is_true;
       }
 
   abbrev pub w : View
@@ -94,10 +93,10 @@ module _ (k : About) (s : Table) (r : Kept k s) (id : ℕ) (me : Seated) (live :
   fits_own : Fits k log' words' w
   fits_own =
       let m = well_made_on k.start.value.items k.words v log'
-              (one_event event (later-goes_on f.later)) f.well_made in
+      (one_event event (later-goes_on f.later)) f.well_made in
       let t = true_of_own k.start.value.items k.words r.log event enabled' v make.mine f.later
-              f.start_is f.words_is make.allowed
-              (taken_by_others v v.taken (r.retired id v mine live)) f.is_true in
+      f.start_is f.words_is make.allowed
+      (taken_by_others v v.taken (r.retired id v mine live)) f.is_true in
       record {
         start_is = f.start_is;
         words_is = f.words_is;
@@ -116,8 +115,15 @@ module _ (k : About) (s : Table) (r : Kept k s) (id : ℕ) (me : Seated) (live :
           maker_takes = m.maker_takes;
           in_none = m.in_none;
         };
-        is_true = record { low = t.low; made = t.made; idle = t.idle; fresh = t.fresh; call =
-            t.call; taken = t.taken };
+        is_true = record {
+          low = t.low;
+          made = t.made;
+          idle = t.idle;
+          fresh = t.fresh;
+          call =
+              t.call;
+          taken = t.taken;
+        };
       }
 
   pub sound_now : IsSound w
@@ -126,20 +132,24 @@ module _ (k : About) (s : Table) (r : Kept k s) (id : ℕ) (me : Seated) (live :
   pub kept : Kept k (record { words = words'; homes = s.homes; views = slice_set s.views id w })
   kept =
       moved k s r id v w s.homes mine live refl (le_refl v.given) log' words'
-          (by_event event make.mine) lawful'
+      (by_event event make.mine) lawful'
       (subst (IsImage (state_of k.start.value.items k.words log')) words_behind
       (image_behind k.start.value.items k.words r.lawful.opens r.log event enabled' s.words r.image
-          v make.mine f.owns make.stored))
+      v make.mine f.owns make.stored))
       others fits_own
       (each_map (IsRetired s r.log v) (IsRetired s log' w) v.taken
-          (λ t _ q. record { seen = no_more; seatless = q.seatless }) (r.retired id v mine live))
+      (λ t _ q. record { seen = no_more; seatless = q.seatless }) (r.retired id v mine live))
 
 -- a step that writes the word of the event
 module _ (k : About) (s : Table) (r : Kept k s) (id : ℕ) (me : Seated) (live : me.0.who ≢ Spent)
     (mine : HasView s id me.0) (event : Event) (make : CanMake me.0 event)
     (able : Enabled (start k.start.value.items k.words) r.log event) (place found left : ℕ)
-    (touches : touch_of (state_of k.start.value.items k.words r.log) event ≡ Some record { place =
-        place; found = found; left = left }) where
+    (touches : touch_of (state_of k.start.value.items k.words r.log) event ≡ Some record {
+      place =
+          place;
+      found = found;
+      left = left;
+    }) where
   pub logged : Logged me.0 event (logging me.0 r.log event)
   logged =
       record {
@@ -154,9 +164,14 @@ module _ (k : About) (s : Table) (r : Kept k s) (id : ℕ) (me : Seated) (live :
       → (Logged me.0 event (logging me.0 r.log event)
       → tells (slice_index s.words place) (logging me.0 r.log event, me.1))
       → Goes k s place id me tells left
-  logs tells told =
-      (logging me.0 r.log event, keeps, tt, kept k s r id me live mine event make able
-          (slice_set s.words place left) me.0.loaded (ap (touched s.words) touches), told logged)
+  logs tells told = (
+    logging me.0 r.log event,
+    keeps,
+    tt,
+    kept k s r id me live mine event make able
+        (slice_set s.words place left) me.0.loaded (ap (touched s.words) touches),
+    told logged,
+  )
 
 -- ---- exchanges
 
@@ -165,13 +180,16 @@ pub shown_there : (k : About) (s : Table) (r : Kept k s) (v : View) (place : ℕ
     → IsKnown v place
     → IsShown (state_of v.start v.words r.log) place (slice_index s.words place)
 shown_there k s r v place f known =
-    let it = known r.log record { later = f.later; lawful =
-            as_view k r.log s.words v f (λ p n. Lawful p n r.log) r.lawful } in
+    let it = known r.log record {
+      later = f.later;
+      lawful =
+          as_view k r.log s.words v f (λ p n. Lawful p n r.log) r.lawful;
+    } in
     let shows = as_table k r.log s.words v f (λ p n. IsShown (state_of p n r.log) place it.0)
-            it.1 in
+    it.1 in
     let same : slice_index s.words place ≡ it.0 =
-            get_or_from_slice_get s.words place it.0 0
-            (image_shows (state_of k.start.value.items k.words r.log) s.words r.image shows) in
+    get_or_from_slice_get s.words place it.0 0
+    (image_shows (state_of k.start.value.items k.words r.log) s.words r.image shows) in
     subst (IsShown (state_of v.start v.words r.log) place) (sym same) it.1
 
 -- what comes behind the longest log
@@ -179,18 +197,29 @@ pub comes_here : (k : About) (s : Table) (r : Kept k s) (v : View) (f : Fits k r
     (event : Event) (place found left : ℕ)
     → ComesAt v r.log event place found left
     → Enabled (start k.start.value.items k.words) r.log event
-        × (touch_of (state_of k.start.value.items k.words r.log) event ≡ Some record { place =
-        place; found = found; left = left })
+    × (touch_of (state_of k.start.value.items k.words r.log) event ≡ Some record {
+      place =
+          place;
+      found = found;
+      left = left;
+    })
 comes_here k s r v f event place found left c =
     as_table k r.log s.words v f (λ p n. Enabled (start p n) r.log event
-        × (touch_of (state_of p n r.log) event ≡ Some record { place = place; found = found; left =
-        left }))
+    × (touch_of (state_of p n r.log) event ≡ Some record {
+      place = place;
+      found = found;
+      left =
+          left;
+    }))
     (c.enabled, c.touches)
 
 pub may_come : (k : About) (s : Table) (r : Kept k s) (v : View) → Fits k r.log s.words v
     → MayCome v r.log
-may_come k s r v f = record { later = f.later; lawful =
-    as_view k r.log s.words v f (λ p n. Lawful p n r.log) r.lawful }
+may_come k s r v f = record {
+  later = f.later;
+  lawful =
+      as_view k r.log s.words v f (λ p n. Lawful p n r.log) r.lawful;
+}
 
 -- an exchange is its event where it finds the word, and a load where it doesn't
 pub exchange_moves : (k : About) (slots id : ℕ) (me : Seated) (place old new : ℕ) (event : Event)
@@ -205,13 +234,13 @@ exchange_moves k slots id me place old new event then live can told s r _ mine f
     exchanged x old new (λ y. Goes k s place id me then y)
     (λ hit.
     let it = comes_here k s r v f event place old new
-            (can.comes r.log (may_come k s r v f)
-            (subst (IsShown (state_of v.start v.words r.log) place) hit
-            (shown_there k s r v place f can.known))) in
+    (can.comes r.log (may_come k s r v f)
+    (subst (IsShown (state_of v.start v.words r.log) place) hit
+    (shown_there k s r v place f can.known))) in
     logs k s r id me live mine event can.make it.0 place old new it.1 then
     (λ l. told x (logging v r.log event) ((λ _. l), (λ miss. absurd (miss hit)))))
     (λ miss. sees k s r id me place then live mine fits
-        (λ l. told x (seeing v r.log place x) ((λ hit. absurd (miss hit)), (λ _. l))))
+    (λ l. told x (seeing v r.log place x) ((λ hit. absurd (miss hit)), (λ _. l))))
 
 -- an add is the event that is named for the word that it finds
 pub add_moves : (k : About) (slots id : ℕ) (me : Seated) (place : ℕ) (named : ℕ → Event) (then : ℕ
@@ -225,29 +254,29 @@ add_moves k slots id me place named then live can told s r _ mine fits =
     let f = r.seats id v mine live in
     let shows = shown_there k s r v place f can.known in
     let it = comes_here k s r v f (named x) place x (x + 1)
-            (can.comes r.log (may_come k s r v f) x shows) in
+    (can.comes r.log (may_come k s r v f) x shows) in
     subst (λ y. Goes k s place id me then y)
-        (sym (mod-eq_of_lt (can.fits r.log (may_come k s r v f) x shows)))
+    (sym (mod-eq_of_lt (can.fits r.log (may_come k s r v f) x shows)))
     (logs k s r id me live mine (named x) (can.make x) it.0 place x (x + 1) it.1 then
-        (λ l. told x (logging v r.log (named x)) l))
+    (λ l. told x (logging v r.log (named x)) l))
 
 -- an add that may be made keeps the rule
 pub adds_moves : (k : About) (slots id : ℕ) (me : Seated) (place : ℕ) (named : ℕ → Event)
     → me.0.who ≢ Spent → CanAdd me.0 place named
     → Allows (Kept k) slots id me place (λ n. (n + 1) % 2 ^ 64)
-        (adds named (step slots place 1 0 maybe.none) me)
+    (adds named (step slots place 1 0 maybe.none) me)
 adds_moves k slots id me place named live can =
     add_moves k slots id me place named (adds named (step slots place 1 0 maybe.none) me) live can
-        (λ found w l. (l, refl))
+    (λ found w l. (l, refl))
 
 -- an exchange that may be made keeps the rule
 pub exchanges_moves : (k : About) (slots id : ℕ) (me : Seated) (place old new : ℕ) (event : Event)
     → me.0.who ≢ Spent → CanExchange me.0 place old new event
     → Allows (Kept k) slots id me place (λ n. either (eqb n old) new n)
-        (exchanges event (step slots place old new maybe.none) me)
+    (exchanges event (step slots place old new maybe.none) me)
 exchanges_moves k slots id me place old new event live can =
     exchange_moves k slots id me place old new event
-        (exchanges event (step slots place old new maybe.none) me) live can (λ found w l. (l, refl))
+    (exchanges event (step slots place old new maybe.none) me) live can (λ found w l. (l, refl))
 
 -- a seat that made an exchange is sound, of the same table
 pub exchanged_sound : (v : View) (event : Event) (place old found : ℕ) (w : View)

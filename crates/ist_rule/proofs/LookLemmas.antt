@@ -30,8 +30,8 @@ use Rattle.ist_rule.proofs.SoundViewLemmas.{as_view, sound_of}
 abbrev pub Goes : About → Table → ℕ → ℕ → Seated → (ℕ → Seated → Type 0) → ℕ → Type 0
 Goes k s place id me then y =
     (w : View) × (a : Act (Unit {0})) × Valid s.homes me.1 a
-        × Kept k (stepped s place y id me.1 w a)
-        × then (slice_index s.words place) (w, carried_after me.1 a)
+    × Kept k (stepped s place y id me.1 w a)
+    × then (slice_index s.words place) (w, carried_after me.1 a)
 
 -- the words that are retired to a view that has seen the whole log
 retired_here : (k : About) (s : Table) (r : Kept k s) (id : ℕ) (v : View) → HasView s id v
@@ -40,99 +40,120 @@ retired_here : (k : About) (s : Table) (r : Kept k s) (id : ℕ) (v : View) → 
 retired_here k s r id v mine live w taken log =
     subst (Each (IsRetired s r.log w)) (sym taken)
     (each_map (IsRetired s r.log v) (IsRetired s r.log w) v.taken
-    (λ t _ q. record { seen = subst (λ l. Later (Caller t.number) l r.log) (sym log) no_more;
-        seatless = q.seatless }) (r.retired id v mine live))
+    (λ t _ q. record {
+      seen = subst (λ l. Later (Caller t.number) l r.log) (sym log) no_more;
+      seatless = q.seatless;
+    }) (r.retired id v mine live))
 
 -- the seat takes a view that fits, and no word changes
 pub quiet : (k : About) (s : Table) (r : Kept k s) (id : ℕ) (v w : View) → HasView s id v
     → v.who ≢ Spent
     → w.who ≡ v.who → w.given ≡ v.given → w.taken ≡ v.taken → w.log ≡ r.log → Fits k r.log s.words w
-        → (place : ℕ)
-    → Kept k (record { words = slice_set s.words place (slice_index s.words place); homes =
-        s.homes; views = slice_set s.views id w })
+    → (place : ℕ)
+    → Kept k (record {
+      words = slice_set s.words place (slice_index s.words place);
+      homes =
+          s.homes;
+      views = slice_set s.views id w;
+    })
 quiet k s r id v w mine live who given taken log f place =
     subst (λ ws. Kept k (record { words = ws; homes = s.homes; views = slice_set s.views id w }))
-        (sym (set-get_or s.words place 0))
+    (sym (set-get_or s.words place 0))
     (moved k s r id v w s.homes mine live who
-        (subst (λ n. v.given ≤ n) (sym given) (le_refl v.given)) r.log s.words as_it_was r.lawful
-        r.image (λ i u at alive _ g. g) f
+    (subst (λ n. v.given ≤ n) (sym given) (le_refl v.given)) r.log s.words as_it_was r.lawful
+    r.image (λ i u at alive _ g. g) f
     (retired_here k s r id v mine live w taken log))
 
 -- ---- a load
 
 module _ (k : About) (s : Table) (r : Kept k s) (v : View) (f : Fits k r.log s.words v) (place : ℕ)
-    where
-  abbrev word : ℕ
-  word = slice_index s.words place
+  where
+    abbrev word : ℕ
+    word = slice_index s.words place
 
-  abbrev w : View
-  w = seeing v r.log place word
+    abbrev w : View
+    w = seeing v r.log place word
 
-  -- the word at the place is that of the image
-  stood : (shown : ℕ) → IsShown (state_of k.start.value.items k.words r.log) place shown
-      → word ≡ shown
-  stood shown is = get_or_from_slice_get s.words place shown 0
-      (image_shows (state_of k.start.value.items k.words r.log) s.words r.image is)
+    -- the word at the place is that of the image
+    stood : (shown : ℕ) → IsShown (state_of k.start.value.items k.words r.log) place shown
+        → word ≡ shown
+    stood shown is = get_or_from_slice_get s.words place shown 0
+        (image_shows (state_of k.start.value.items k.words r.log) s.words r.image is)
 
-  -- the lengths of the loads are within that of the log
-  lengths : (loads : List Load) → Each (Recalls k.start.value.items k.words r.log) loads
-      → Each (λ l. l.length ≤ length r.log) loads
-  lengths loads all = each_map (Recalls k.start.value.items k.words r.log)
-      (λ l. l.length ≤ length r.log) loads
-      (λ l _ q. let short = goes_on_length q.goes_on in let same = q.length_is in omega arith) all
+    -- the lengths of the loads are within that of the log
+    lengths : (loads : List Load) → Each (Recalls k.start.value.items k.words r.log) loads
+        → Each (λ l. l.length ≤ length r.log) loads
+    lengths loads all = each_map (Recalls k.start.value.items k.words r.log)
+        (λ l. l.length ≤ length r.log) loads
+        (λ l _ q. let short = goes_on_length q.goes_on in let same = q.length_is in omega arith) all
 
-  fits_seeing : Fits k r.log s.words w
-  fits_seeing =
-      let m = well_made_on k.start.value.items k.words v r.log (later-goes_on f.later)
-              f.well_made in
-      let t = f.is_true in
-      record {
-        start_is = f.start_is;
-        words_is = f.words_is;
-        later = no_more;
-        owns = f.owns;
-        well_made = record {
-          stands = m.stands;
-          stamps = m.stamps;
-          recalls = (record { prefix = r.log; goes_on = same_log; length_is = refl; stood =
-              stood }, m.recalls);
-          in_order = (m.since, lengths v.loads.list m.recalls, m.in_order);
-          since = m.since;
-          olds = m.olds;
-          taken_stand = m.taken_stand;
-          taken_once = m.taken_once;
-          taken_given = m.taken_given;
-          maker_takes = m.maker_takes;
-          in_none = m.in_none;
-        };
-        is_true = record { low = t.low; made = t.made; idle = t.idle; fresh = t.fresh; call =
-            t.call; taken = t.taken };
-      }
+    fits_seeing : Fits k r.log s.words w
+    fits_seeing =
+        let m = well_made_on k.start.value.items k.words v r.log (later-goes_on f.later)
+        f.well_made in
+        let t = f.is_true in
+        record {
+          start_is = f.start_is;
+          words_is = f.words_is;
+          later = no_more;
+          owns = f.owns;
+          well_made = record {
+            stands = m.stands;
+            stamps = m.stamps;
+            recalls = (
+              record {
+                prefix = r.log;
+                goes_on = same_log;
+                length_is = refl;
+                stood =
+                    stood;
+              },
+              m.recalls,
+            );
+            in_order = (m.since, lengths v.loads.list m.recalls, m.in_order);
+            since = m.since;
+            olds = m.olds;
+            taken_stand = m.taken_stand;
+            taken_once = m.taken_once;
+            taken_given = m.taken_given;
+            maker_takes = m.maker_takes;
+            in_none = m.in_none;
+          };
+          is_true = record {
+            low = t.low;
+            made = t.made;
+            idle = t.idle;
+            fresh = t.fresh;
+            call =
+                t.call;
+            taken = t.taken;
+          };
+        }
 
-  -- what the load tells
-  pub looked : v.who ≢ Spent → word < 2 ^ 64 → Looked v place word w
-  looked live fits =
-      record {
-        later = f.later;
-        sound = sound_of k s.words w r.lawful live fits_seeing;
-        view = refl;
-        stood = as_view k r.log s.words v f (λ p n. (shown : ℕ)
-            → IsShown (state_of p n r.log) place shown → word ≡ shown) stood;
-        mine = as_view k r.log s.words v f
-            (λ p n. (h : HeldRow) → Among h (state_of p n r.log).held → v.who ≡ Caller h.caller
-                → (j : ℕ) → j < h.size → place ≡ h.base + j → word ≡ own_at v.own place)
-            (λ h i who j less at. get_or_from_slice_get s.words place (own_at v.own place) 0
-            (subst (λ q. slice_get s.words q ≡ Some (own_at v.own q)) (sym at)
-                (f.owns h i who j less)));
-        fits = fits;
-      }
+    -- what the load tells
+    pub looked : v.who ≢ Spent → word < 2 ^ 64 → Looked v place word w
+    looked live fits =
+        record {
+          later = f.later;
+          sound = sound_of k s.words w r.lawful live fits_seeing;
+          view = refl;
+          stood = as_view k r.log s.words v f (λ p n. (shown : ℕ)
+              → IsShown (state_of p n r.log) place shown → word ≡ shown) stood;
+          mine = as_view k r.log s.words v f
+              (λ p n. (h : HeldRow) → Among h (state_of p n r.log).held → v.who ≡ Caller h.caller
+              → (j : ℕ) → j < h.size → place ≡ h.base + j → word ≡ own_at v.own place)
+              (λ h i who j less at. get_or_from_slice_get s.words place (own_at v.own place) 0
+              (subst (λ q. slice_get s.words q ≡ Some (own_at v.own q)) (sym at)
+              (f.owns h i who j less)));
+          fits = fits;
+        }
 
 -- a load is allowed, and tells what stands there
 pub sees : (k : About) (s : Table) (r : Kept k s) (id : ℕ) (me : Seated) (place : ℕ) (then : ℕ
     → Seated → Type 0) → me.0.who ≢ Spent
     → HasView s id me.0 → slice_index s.words place < 2 ^ 64
     → (Looked me.0 place (slice_index s.words place)
-        (seeing me.0 r.log place (slice_index s.words place))
+    (seeing me.0 r.log place (slice_index s.words place))
     → then (slice_index s.words place) (seeing me.0 r.log place (slice_index s.words place), me.1))
     → Goes k s place id me then (slice_index s.words place)
 sees k s r id me place then live mine fits told =
@@ -175,14 +196,18 @@ turns_moves k slots id me turn then live can told s r _ mine fits =
     let w : View = turn r.log in
     let log : w.log ≡ r.log = can.log_is r.log in
     let lawful : Lawful k.start.value.items k.words w.log =
-            subst (Lawful k.start.value.items k.words) (sym log) r.lawful in
+    subst (Lawful k.start.value.items k.words) (sym log) r.lawful in
     let alive : w.who ≢ Spent = λ e. live (sym (can.who r.log) ∙ e) in
     let sound : IsSound w = sound_of k s.words w lawful alive
-            (subst (λ l. Fits k l s.words w) (sym log) g) in (
+    (subst (λ l. Fits k l s.words w) (sym log) g) in (
       w,
       keeps,
       tt,
       quiet k s r id v w mine live (can.who r.log) (can.given r.log) (can.taken r.log) log g 0,
-      told (slice_index s.words 0) w record { later =
-          subst (Later v.who v.log) (sym log) f.later; view = ap turn (sym log); sound = sound },
+      told (slice_index s.words 0) w record {
+        later =
+            subst (Later v.who v.log) (sym log) f.later;
+        view = ap turn (sym log);
+        sound = sound;
+      },
     )

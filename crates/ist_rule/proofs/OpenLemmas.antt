@@ -101,8 +101,8 @@ closes k id v words slots live fin =
     let r : Kept k s = fin.1.0 in
     let f = r.seats id v fin.1.1 live in
     let it = as_view k r.log s.words v f (λ p n. Lawful p n r.log
-            × IsImage (state_of p n r.log) s.words × IsWellMade p n v × IsTrueIn p n r.log v)
-            (r.lawful, r.image, f.well_made, f.is_true) in
+    × IsImage (state_of p n r.log) s.words × IsWellMade p n v × IsTrueIn p n r.log v)
+    (r.lawful, r.image, f.well_made, f.is_true) in
     record {
       log = r.log;
       later = f.later;

@@ -76,46 +76,46 @@ one_touch : (o : Option Touch) (a b : Touch) → o ≡ Some a → o ≡ Some b �
 one_touch o a b e f = cc
 
 module _ (pairs : List Pair) (words : ℕ) (log : Log) (enabled : EachEnabled (start pairs words) log)
-    where
-  -- the words of held rows are loose
-  pub held_loose : (h : HeldRow) → Among h (state_of pairs words log).held → (k : ℕ) → k < h.size
-      → IsLoose (state_of pairs words log) (h.base + k)
-  held_loose h i k less =
-      let claimed = (placed pairs words log enabled).held h i in
-      let inside = claimed_within pairs words log h.base h.size enabled claimed in
-      let low = inside.behind_fixed in
-      let high = inside.below_next in
-      let s = sound (start pairs words) log (sound_start pairs words) enabled in
-      record {
-        low = omega arith;
-        below = omega arith;
-        out = λ base p e j small same.
-            ⊎_elim
-            (λ one. no_piece ((state_of pairs words log).pieces base) p
-                (subst (λ b. (state_of pairs words log).pieces b ≡ None) one.0 (s.unpublished h i))
-                e)
-            (λ two. ⊎_elim (λ le. omega arith) (λ le. omega arith) two.1)
-            (claimed_apart pairs words log h.base h.size base (size_of p) enabled claimed
-                ((placed pairs words log enabled).published base p e));
-      }
+  where
+    -- the words of held rows are loose
+    pub held_loose : (h : HeldRow) → Among h (state_of pairs words log).held → (k : ℕ) → k < h.size
+        → IsLoose (state_of pairs words log) (h.base + k)
+    held_loose h i k less =
+        let claimed = (placed pairs words log enabled).held h i in
+        let inside = claimed_within pairs words log h.base h.size enabled claimed in
+        let low = inside.behind_fixed in
+        let high = inside.below_next in
+        let s = sound (start pairs words) log (sound_start pairs words) enabled in
+        record {
+          low = omega arith;
+          below = omega arith;
+          out = λ base p e j small same.
+              ⊎_elim
+              (λ one. no_piece ((state_of pairs words log).pieces base) p
+              (subst (λ b. (state_of pairs words log).pieces b ≡ None) one.0 (s.unpublished h i))
+              e)
+              (λ two. ⊎_elim (λ le. omega arith) (λ le. omega arith) two.1)
+              (claimed_apart pairs words log h.base h.size base (size_of p) enabled claimed
+              ((placed pairs words log enabled).published base p e));
+        }
 
-  -- no event touches a loose word: any word may stand there, and the event finds one
-  pub touch_tight : CanOpen pairs words → (image : List ℕ)
-      → IsImage (state_of pairs words log) image
-      → (event : Event) → Enabled (start pairs words) log event → IsNoLose event → (touch : Touch)
-      → touch_of (state_of pairs words log) event ≡ Some touch
-      → ¬ (IsLoose (state_of pairs words log) touch.place)
-  touch_tight opens image is event able some touch e loose =
-      let one = touches pairs words opens log enabled image is event able some in
-      let here = one_touch (touch_of (state_of pairs words log) event) one.touch touch one.is e in
-      let found : slice_get image touch.place ≡ Some touch.found =
-              subst (λ t. slice_get image t.place ≡ Some t.found) here one.found in
-      let other : List ℕ = slice_set image touch.place (touch.found + 1) in
-      let is' = loose_set (state_of pairs words log) image touch.place (touch.found + 1) loose is in
-      let two = touches pairs words opens log enabled other is' event able some in
-      let there = one_touch (touch_of (state_of pairs words log) event) two.touch touch two.is e in
-      let found' : slice_get other touch.place ≡ Some touch.found =
-              subst (λ t. slice_get other t.place ≡ Some t.found) there two.found in
-      let now = get_there image touch.place touch.found found (touch.found + 1) in
-      let same : touch.found + 1 ≡ touch.found = some_one (sym now ∙ found') in
-      omega arith
+    -- no event touches a loose word: any word may stand there, and the event finds one
+    pub touch_tight : CanOpen pairs words → (image : List ℕ)
+        → IsImage (state_of pairs words log) image
+        → (event : Event) → Enabled (start pairs words) log event → IsNoLose event → (touch : Touch)
+        → touch_of (state_of pairs words log) event ≡ Some touch
+        → ¬ (IsLoose (state_of pairs words log) touch.place)
+    touch_tight opens image is event able some touch e loose =
+        let one = touches pairs words opens log enabled image is event able some in
+        let here = one_touch (touch_of (state_of pairs words log) event) one.touch touch one.is e in
+        let found : slice_get image touch.place ≡ Some touch.found =
+        subst (λ t. slice_get image t.place ≡ Some t.found) here one.found in
+        let other : List ℕ = slice_set image touch.place (touch.found + 1) in
+        let is' = loose_set (state_of pairs words log) image touch.place (touch.found + 1) loose is in
+        let two = touches pairs words opens log enabled other is' event able some in
+        let there = one_touch (touch_of (state_of pairs words log) event) two.touch touch two.is e in
+        let found' : slice_get other touch.place ≡ Some touch.found =
+        subst (λ t. slice_get other t.place ≡ Some t.found) there two.found in
+        let now = get_there image touch.place touch.found found (touch.found + 1) in
+        let same : touch.found + 1 ≡ touch.found = some_one (sym now ∙ found') in
+        omega arith

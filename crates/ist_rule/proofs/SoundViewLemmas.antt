@@ -24,5 +24,5 @@ pub sound_of : (k : About) (image : List ℕ) (w : View) → Lawful k.start.valu
     → w.who ≢ Spent → Fits k w.log image w → IsSound w
 sound_of k image w lawful live f =
     let it = as_view k w.log image w f (λ p n. Lawful p n w.log × IsWellMade p n w
-            × IsTrueIn p n w.log w) (lawful, f.well_made, f.is_true) in
+    × IsTrueIn p n w.log w) (lawful, f.well_made, f.is_true) in
     record { lawful = it.0; live = live; well_made = it.1; is_true = it.2 }

@@ -1,10 +1,8 @@
 -- Splitting a seat: a note, or the seat of the caller that was entered last. Serves the step
 -- `split`.
-use Rattle.std.proofs.Common.{◌≡◌, ◌≢◌, ℕ, zero, suc, ◌+◌, ◌<◌, ◌≤◌, ◌⊎◌, ◌&&◌, nat_lt, Bool, true, false, if◌then◌else◌, List, [], ◌∷◌, ◌++◌, slice_set, Option, Some, None, refl, sym, ap, ◌∙◌, subst, le_refl, inl, inr, ⊎_elim, arith}
-use Rattle.std.proofs.lemmas.Bool.Decides.{nat_tests}
+use Rattle.std.proofs.Common.{◌≡◌, ◌≢◌, ℕ, zero, suc, ◌+◌, ◌<◌, ◌≤◌, ◌⊎◌, List, [], ◌∷◌, ◌++◌, slice_set, Option, Some, None, refl, sym, ap, ◌∙◌, subst, le_refl, inl, inr, ⊎_elim, arith}
 use mathlib.Core.Option.{some, some-injective, some-ne-none}
 use lib.ListN.{get_elem?}
-use Rattle.atomic_table.specs.Table.{Splits}
 use Rattle.atomic_table.proofs.Lists.{set_again, at_set}
 use Rattle.ist_core.specs.declared.pairs.Pair.{Pair}
 use Rattle.ist_core.specs.Elements.{Each}
@@ -15,8 +13,8 @@ use Rattle.ist_rule.specs.declared.view.About.{About}
 use Rattle.ist_rule.specs.declared.view.Who.{Who}
 use Rattle.ist_rule.specs.declared.view.Who.TheVariants.{Maker, Caller, Note, Spent}
 use Rattle.ist_rule.specs.Standings.{StandsInPrefix, CallStands}
-use Rattle.ist_rule.specs.Rule.{Keeps, its_own, noted, IsNamed, IsWellMade, IsSound, IsRetired, HasView, Fits, Kept}
-use Rattle.ist_rule.specs.Seating.{is_maker, awaits_seat, noted_by, plain, split_left, split_right}
+use Rattle.ist_rule.specs.Rule.{Keeps, its_own, noted, IsNamed, IsWellMade, IsRetired, HasView, Fits, Kept}
+use Rattle.ist_rule.specs.Seating.{noted_by, plain}
 use Rattle.ist_rule.proofs.LaterLemmas.{later-goes_on, later_idle, later_any}
 use Rattle.ist_rule.proofs.EventLemmas.{author_no_note}
 use Rattle.ist_rule.proofs.HeldLemmas.{idle_holds, idle_between}
@@ -83,8 +81,13 @@ none_stands pairs words log number =
     record {
       prefix = [];
       goes_on = empty_prefix log;
-      stands = record { made = λ call i. absurd i; exactly = refl; read =
-          λ call i. absurd i; in_order = tt };
+      stands = record {
+        made = λ call i. absurd i;
+        exactly = refl;
+        read =
+            λ call i. absurd i;
+        in_order = tt;
+      };
     }
 
 module _ (k : About) (s : Table) (r : Kept k s) (id : ℕ) (v : View) (live : v.who ≢ Spent)
@@ -127,15 +130,19 @@ module _ (k : About) (s : Table) (r : Kept k s) (id : ℕ) (v : View) (live : v.
       }
 
   -- a note's seat is split from the seat
-  pub splits_note : Kept k (record { words = s.words; homes = s.homes; views =
-      slice_set s.views id v ++ (plain v (Note (noted_by v.who)) v.calls) ∷ [] })
+  pub splits_note : Kept k (record {
+    words = s.words;
+    homes = s.homes;
+    views =
+        slice_set s.views id v ++ (plain v (Note (noted_by v.who)) v.calls) ∷ [];
+  })
   splits_note =
       let u = plain v (Note (noted_by v.who)) v.calls in
       let of = noted_by v.who in
       subst (λ vs. Kept k (record { words = s.words; homes = s.homes; views = vs ++ u ∷ [] }))
-          (sym (set_again s.views id v mine))
+      (sym (set_again s.views id v mine))
       (grown k s r u fits_note refl (λ named. absurd named) (note_maker of)
-          (λ i x at maker number above is. note_caller of number is)
+      (λ i x at maker number above is. note_caller of number is)
       (λ i x at alive. all_apart x.taken))
     where
       all_apart : (taken : List Taken) → Each (λ t. Note (noted_by v.who) ≢ Caller t.number) taken
@@ -227,9 +234,13 @@ here_set (x ∷ xs) (suc i) a b e = here_set xs i a b e
 -- the seat of the caller that was entered last is split from the maker's
 pub splits_caller : (k : About) (s : Table) (r : Kept k s) (id : ℕ) (v : View) → v.who ≢ Spent
     → HasView s id v → v.who ≡ Maker → v.given < v.made
-    → Kept k (record { words = s.words; homes = s.homes; views =
-        slice_set s.views id (record v { given = v.given + 1 }) ++ (plain v (Caller v.given) [])
-        ∷ [] })
+    → Kept k (record {
+      words = s.words;
+      homes = s.homes;
+      views =
+          slice_set s.views id (record v { given = v.given + 1 }) ++ (plain v (Caller v.given) [])
+          ∷ [];
+    })
 unfolding moved
 splits_caller k s r id v live mine maker less =
     let u = plain v (Caller v.given) [] in
@@ -237,18 +248,18 @@ splits_caller k s r id v live mine maker less =
     let born = r.unborn id v mine maker v.given (le_refl v.given) in
     let s' : Table = record { words = s.words; homes = s.homes; views = slice_set s.views id w } in
     let r' : Kept k s' = moved k s r id v w s.homes mine live refl (omega arith) r.log s.words
-            as_it_was r.lawful r.image (λ i x at alive _ g. g)
-            (fits_giving k s r id v live mine maker less)
+    as_it_was r.lawful r.image (λ i x at alive _ g. g)
+    (fits_giving k s r id v live mine maker less)
     (each_map (IsRetired s r.log v) (IsRetired s r.log w) v.taken
-        (λ t _ q. record { seen = q.seen; seatless = q.seatless }) (r.retired id v mine live)) in
+    (λ t _ q. record { seen = q.seen; seatless = q.seatless }) (r.retired id v mine live)) in
     let here : HasView s' id w = here_set s.views id v w mine in
     let only = λ (i : ℕ) (x : View) (at : HasView s' i x) (is : x.who ≡ Maker).
     some-injective w x (sym here ∙ ap (get_elem? s'.views)
-        (sym (r'.apart id i w x here at (subst IsNamed (sym maker) tt) (is ∙ sym maker))) ∙ at) in
+    (sym (r'.apart id i w x here at (subst IsNamed (sym maker) tt) (is ∙ sym maker))) ∙ at) in
     grown k s' r' u (fits_born k s r id v live mine maker less) refl
     (λ _ j x at. ⊎_elim (λ t is. absurd
-        (caller_maker v.given (sym is ∙ ap (λ y. y.who) (sym t.1) ∙ maker))) (λ t. born j x t.1)
-        (at_set s.views id j w x at))
+    (caller_maker v.given (sym is ∙ ap (λ y. y.who) (sym t.1) ∙ maker))) (λ t. born j x t.1)
+    (at_set s.views id j w x at))
     (caller_maker v.given)
     (λ i x at is number above eq.
     let e = same_number v.given number eq in
@@ -260,8 +271,11 @@ splits_caller k s r id v live mine maker less =
     below : (taken : List Taken) → Each (λ t. t.number < v.given) taken
         → Each (λ t. Caller v.given ≢ Caller t.number) taken
     below [] all = tt
-    below (t ∷ more) all = ((λ e. let low = all.0 in let same =
-        same_number v.given t.number e in absurd (omega arith)), below more all.1)
+    below (t ∷ more) all = (
+      (λ e. let low = all.0 in let same =
+          same_number v.given t.number e in absurd (omega arith)),
+      below more all.1,
+    )
 
     untaken : (x : View) → IsWellMade k.start.value.items k.words x
         → (x.who ≡ Maker → (record v { given = v.given + 1 }) ≡ x)
@@ -269,6 +283,6 @@ splits_caller k s r id v live mine maker less =
     untaken x m is =
         ⊎_elim
         (λ e. subst (λ y. Each (λ t. Caller v.given ≢ Caller t.number) y.taken) (is e)
-            (below v.taken (r.seats id v mine live).well_made.taken_given))
+        (below v.taken (r.seats id v mine live).well_made.taken_given))
         (λ e. subst (Each (λ t. Caller v.given ≢ Caller t.number)) (sym (m.maker_takes e)) tt)
         (maker_or x.who)

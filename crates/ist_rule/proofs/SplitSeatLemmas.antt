@@ -1,26 +1,17 @@
 -- Splitting keeps the rule in both its cases, and both seats are sound. Serves the plays.
-use Rattle.std.proofs.Common.{◌≡◌, ◌≢◌, ℕ, zero, suc, ◌+◌, ◌<◌, ◌≤◌, ◌⊎◌, ◌&&◌, nat_lt, Bool, true, false, if◌then◌else◌, List, [], ◌∷◌, ◌++◌, slice_set, Option, Some, None, refl, sym, ap, ◌∙◌, subst, le_refl, inl, inr, ⊎_elim, arith}
+use Rattle.std.proofs.Common.{◌≡◌, ◌≢◌, ℕ, ◌+◌, ◌<◌, ◌&&◌, nat_lt, Bool, true, false, if◌then◌else◌, [], ◌∷◌, ◌++◌, slice_set, None, refl, subst, le_refl, arith}
 use Rattle.std.proofs.lemmas.Bool.Decides.{nat_tests}
-use mathlib.Core.Option.{some, some-injective, some-ne-none}
-use lib.ListN.{get_elem?}
 use Rattle.atomic_table.specs.Table.{Splits}
-use Rattle.atomic_table.proofs.Lists.{set_again, at_set}
-use Rattle.ist_core.specs.declared.pairs.Pair.{Pair}
-use Rattle.ist_core.specs.Elements.{Each}
-use Rattle.ist_core.specs.Logs.{Log, GoesOn, same_log, one_event}
 use Rattle.ist_rule.specs.declared.view.View.{View}
-use Rattle.ist_rule.specs.declared.view.Taken.{Taken}
 use Rattle.ist_rule.specs.declared.view.About.{About}
 use Rattle.ist_rule.specs.declared.view.Who.{Who}
 use Rattle.ist_rule.specs.declared.view.Who.TheVariants.{Maker, Caller, Note, Spent}
-use Rattle.ist_rule.specs.Standings.{StandsInPrefix, CallStands}
-use Rattle.ist_rule.specs.Rule.{Keeps, its_own, noted, IsNamed, IsWellMade, IsSound, IsRetired, HasView, Fits, Kept}
+use Rattle.ist_rule.specs.Standings.{CallStands}
+use Rattle.ist_rule.specs.Rule.{IsSound, HasView, Kept}
 use Rattle.ist_rule.specs.Seating.{is_maker, awaits_seat, noted_by, plain, split_left, split_right}
-use Rattle.ist_rule.proofs.LaterLemmas.{later-goes_on, later_idle, later_any}
-use Rattle.ist_rule.proofs.EventLemmas.{author_no_note}
-use Rattle.ist_rule.proofs.HeldLemmas.{idle_holds, idle_between}
+use Rattle.ist_rule.proofs.HeldLemmas.{idle_between}
 use Rattle.ist_rule.proofs.FitLemmas.{each_map}
-use Rattle.ist_rule.proofs.FrameLemmas.{Table, as_it_was, moved, grown}
+use Rattle.ist_rule.proofs.FrameLemmas.{Table}
 use Rattle.ist_rule.proofs.SplitLemmas.{note_caller, note_maker, note_spent, caller_maker, caller_spent, same_number, keeps_note, none_stands, splits_note, splits_caller}
 
 -- ---- both cases

@@ -61,7 +61,7 @@ one_held pairs words log enabled g h i m j k less small same =
     (λ e. (sound (start pairs words) log (sound_start pairs words) enabled).once g h i m e.0)
     (λ e. ⊎_elim (λ le. absurd (omega arith)) (λ le. absurd (omega arith)) e.1)
     (claimed_apart pairs words log g.base g.size h.base h.size enabled
-        ((placed pairs words log enabled).held g i) ((placed pairs words log enabled).held h m))
+    ((placed pairs words log enabled).held g i) ((placed pairs words log enabled).held h m))
 
 module _ (k : About) (s : Table) (r : Kept k s) (id : ℕ) (v : View) (live : v.who ≢ Spent)
     (mine : HasView s id v) (place word : ℕ) (own : IsOwn v place) where
@@ -72,7 +72,7 @@ module _ (k : About) (s : Table) (r : Kept k s) (id : ℕ) (v : View) (live : v.
   held_here : Among own.row (state_of k.start.value.items k.words r.log).held
   held_here =
       held_later k.start.value.items k.words own.row v.log r.log r.lawful.enabled
-          (subst (λ w. Later w v.log r.log) own.mine f.later)
+      (subst (λ w. Later w v.log r.log) own.mine f.later)
       (as_table k r.log s.words v f (λ p n. Among own.row (state_of p n v.log).held) own.held)
 
   loose : IsLoose (state_of k.start.value.items k.words r.log) place
@@ -86,7 +86,7 @@ module _ (k : About) (s : Table) (r : Kept k s) (id : ℕ) (v : View) (live : v.
       → h.base + j ≢ place
   elsewhere h i differ j less same =
       differ (ap (λ x. x.caller) (one_held k.start.value.items k.words r.log r.lawful.enabled h
-          own.row i held_here j own.offset less own.within (same ∙ own.at)))
+      own.row i held_here j own.offset less own.within (same ∙ own.at)))
 
   one_caller : (m n : ℕ) → Caller m ≡ Caller n → m ≡ n
   one_caller m n e = cc
@@ -100,8 +100,8 @@ module _ (k : About) (s : Table) (r : Kept k s) (id : ℕ) (v : View) (live : v.
         later = g.later;
         owns = λ h among who j less.
             get-set_other s.words place (h.base + j) word
-                (elsewhere h among (λ e. apart (subst IsNamed (sym own.mine) tt)
-                (who ∙ ap Caller e ∙ sym own.mine)) j less)
+            (elsewhere h among (λ e. apart (subst IsNamed (sym own.mine) tt)
+            (who ∙ ap Caller e ∙ sym own.mine)) j less)
             ∙ g.owns h among who j less;
         well_made = g.well_made;
         is_true = g.is_true;
@@ -115,13 +115,13 @@ module _ (k : About) (s : Table) (r : Kept k s) (id : ℕ) (v : View) (live : v.
       at : (((place == (h.base + j)) ≡ true) × (place ≡ h.base + j))
           ⊎ (((place == (h.base + j)) ≡ false) × (place ≢ h.base + j))
           → slice_get (slice_set s.words place word) (h.base + j)
-              ≡ Some (own_at (record { place = place; word = word } ∷ v.own) (h.base + j))
+          ≡ Some (own_at (record { place = place; word = word } ∷ v.own) (h.base + j))
       at (inl e) =
           subst (λ q. slice_get (slice_set s.words place word) q
-              ≡ Some (own_at (record { place = place; word = word } ∷ v.own) q)) e.1
+          ≡ Some (own_at (record { place = place; word = word } ∷ v.own) q)) e.1
           (get-set_same s.words place word (own_at v.own place)
-              (subst (λ q. slice_get s.words q ≡ Some (own_at v.own q)) (sym e.1)
-              (f.owns h among who j less))
+          (subst (λ q. slice_get s.words q ≡ Some (own_at v.own q)) (sym e.1)
+          (f.owns h among who j less))
           ∙ ap (λ x. Some x) (sym (own_here v.own place word)))
       at (inr e) = get-set_other s.words place (h.base + j) word (λ same. e.1 (sym same)) ∙ f.owns h
           among who j less ∙ ap (λ x. Some x) (sym (own_else v.own place word (h.base + j) e.1))
@@ -159,24 +159,32 @@ module _ (k : About) (s : Table) (r : Kept k s) (id : ℕ) (v : View) (live : v.
         };
       }
 
-  pub kept_storing : Kept k (record { words = slice_set s.words place word; homes = s.homes; views =
-      slice_set s.views id (storing v place word) })
+  pub kept_storing : Kept k (record {
+    words = slice_set s.words place word;
+    homes = s.homes;
+    views =
+        slice_set s.views id (storing v place word);
+  })
   kept_storing =
       moved k s r id v (storing v place word) s.homes mine live refl (le_refl v.given) r.log
-          (slice_set s.words place word) as_it_was r.lawful
+      (slice_set s.words place word) as_it_was r.lawful
       (loose_set (state_of k.start.value.items k.words r.log) s.words place word loose r.image)
-          others fits_storing
+      others fits_storing
       (each_map (IsRetired s r.log v) (IsRetired s r.log (storing v place word)) v.taken
-          (λ t _ q. record { seen = q.seen; seatless = q.seatless }) (r.retired id v mine live))
+      (λ t _ q. record { seen = q.seen; seatless = q.seatless }) (r.retired id v mine live))
 
 -- a store into an own row keeps the rule
 pub stores_moves : (k : About) (slots id : ℕ) (me : Seated) (place word : ℕ) → me.0.who ≢ Spent
     → IsOwn me.0 place
     → Allows (Kept k) slots id me place (λ _. word)
-        (λ _. stores (step slots place word 0 maybe.none) me word)
-stores_moves k slots id me place word live own s r _ mine _ =
-    (storing me.0 place word, keeps, tt, kept_storing k s r id me.0 live mine place word own,
-        (refl, refl))
+    (λ _. stores (step slots place word 0 maybe.none) me word)
+stores_moves k slots id me place word live own s r _ mine _ = (
+  storing me.0 place word,
+  keeps,
+  tt,
+  kept_storing k s r id me.0 live mine place word own,
+  (refl, refl),
+)
 
 -- a seat that stored into its own row is sound
 pub storing_sound : (v : View) (place word : ℕ) → IsOwn v place → IsSound v
@@ -185,9 +193,9 @@ storing_sound v place word own s =
     let m = s.well_made in
     let t = s.is_true in
     let loose : IsLoose (now v) place =
-            subst (IsLoose (now v)) (sym own.at)
-            (held_loose v.start v.words v.log s.lawful.enabled own.row own.held own.offset
-            own.within) in
+    subst (IsLoose (now v)) (sym own.at)
+    (held_loose v.start v.words v.log s.lawful.enabled own.row own.held own.offset
+    own.within) in
     let below = loose.below in
     record {
       lawful = s.lawful;

@@ -1,9 +1,6 @@
 -- The four loads that turn a call or a search: the view that each takes fits. Serves `begin_call`,
--- `begin_search`, `end_call`
--- and `give_up`.
-use Rattle.std.proofs.Common.{◌≡◌, ◌≢◌, ℕ, ◌≤◌, List, [], ◌∷◌, ◌++◌, length, Option, Some, None, refl, sym, ◌∙◌, subst, inl, arith}
-use mathlib.Core.Option as maybe
-use Rattle.atomic_table.specs.Table.{step, Allows}
+-- `begin_search`, `end_call` and `give_up`.
+use Rattle.std.proofs.Common.{◌≡◌, ℕ, ◌≤◌, List, [], ◌∷◌, ◌++◌, length, Option, Some, None, refl, sym, ◌∙◌, subst, inl, arith}
 use Rattle.ist_core.specs.declared.calls.Call.{Call}
 use Rattle.ist_core.specs.declared.commands.Command.{Command}
 use Rattle.ist_core.specs.declared.pairs.Pair.{Pair}
@@ -16,19 +13,18 @@ use Rattle.ist_rule.specs.declared.view.View.{View}
 use Rattle.ist_rule.specs.declared.view.Pending.{Pending}
 use Rattle.ist_rule.specs.declared.view.About.{About}
 use Rattle.ist_rule.specs.declared.view.Who.{Who}
-use Rattle.ist_rule.specs.declared.view.Who.TheVariants.{Maker, Caller, Note, Spent}
+use Rattle.ist_rule.specs.declared.view.Who.TheVariants.{Maker, Caller, Note}
 use Rattle.ist_rule.specs.Authors.{Later, no_more}
 use Rattle.ist_rule.specs.Standings.{StandsInPrefix, HasMade, IsBetween, CallStands}
-use Rattle.ist_rule.specs.Rule.{Keeps, its_own, noted, Fits, Kept}
-use Rattle.ist_rule.specs.Playing.{Seated, begins, searches, ends, gives_up}
+use Rattle.ist_rule.specs.Rule.{Keeps, its_own, noted, Fits}
 use Rattle.ist_rule.specs.Learning.{beginning, searching, ending, giving_up}
-use Rattle.ist_rule.specs.Conditions.{CanBegin, CanEnd, CanGiveUp}
+use Rattle.ist_rule.specs.Conditions.{CanEnd, CanGiveUp}
 use Rattle.ist_rule.proofs.LaterLemmas.{later-goes_on}
-use Rattle.ist_rule.proofs.StandingLemmas.{none_undecided}
+use Rattle.ist_rule.proofs.UndecidedLemmas.{none_undecided}
 use Rattle.ist_rule.proofs.CallLemmas.{between_later}
 use Rattle.ist_rule.proofs.FitLemmas.{each_map, well_made_on}
 use Rattle.ist_rule.proofs.SoundViewLemmas.{as_table}
-use Rattle.ist_rule.proofs.LookLemmas.{CanTurn, turns_moves}
+use Rattle.ist_rule.proofs.LookLemmas.{CanTurn}
 
 -- a caller keeps its own calls
 keeps_own : (number other : ℕ) (w : Who) → Keeps number w → w ≡ Caller other → number ≡ other
@@ -48,7 +44,7 @@ same_number m n e = cc
 begun : (pairs : List Pair) (words : ℕ) (log : Log) → Lawful pairs words log
     → (number : ℕ) (calls : List Call) (pending : Pending)
     → IsBetween pairs words log number calls
-        → CallStands pairs words log number calls (Some pending)
+    → CallStands pairs words log number calls (Some pending)
 begun pairs words log lawful number calls pending b =
     inl record {
       made = b.made;
@@ -59,17 +55,23 @@ begun pairs words log lawful number calls pending b =
     }
 
 -- a caller between calls may begin one
-can_begin : (v : View) (number : ℕ) (command : Option Command) → v.who ≡ Caller number
+pub can_begin : (v : View) (number : ℕ) (command : Option Command) → v.who ≡ Caller number
     → v.pending ≡ None → CanTurn v (beginning v command)
 can_begin v number command who none =
-    record { who = λ log. refl; given = λ log. refl; taken = λ log. refl; log_is =
-        λ log. refl; fits = fits }
+    record {
+      who = λ log. refl;
+      given = λ log. refl;
+      taken = λ log. refl;
+      log_is =
+          λ log. refl;
+      fits = fits;
+    }
   where
     fits : (k : About) (log : Log) (image : List ℕ) → Lawful k.start.value.items k.words log
         → Fits k log image v → Fits k log image (beginning v command log)
     fits k log image lawful f =
         let m = well_made_on k.start.value.items k.words v log (later-goes_on f.later)
-                f.well_made in
+        f.well_made in
         let t = f.is_true in
         record {
           start_is = f.start_is;
@@ -95,24 +97,33 @@ can_begin v number command who none =
             idle = t.idle;
             fresh = t.fresh;
             call = λ n is.
-                begun k.start.value.items k.words log lawful n v.calls record { command =
-                    command; length = length log }
+                begun k.start.value.items k.words log lawful n v.calls record {
+                  command =
+                      command;
+                  length = length log;
+                }
                 (subst (CallStands k.start.value.items k.words log n v.calls) none (t.call n is));
             taken = t.taken;
           };
         }
 
 -- any seat may begin a search
-can_search : (v : View) → CanTurn v (searching v)
+pub can_search : (v : View) → CanTurn v (searching v)
 can_search v =
-    record { who = λ log. refl; given = λ log. refl; taken = λ log. refl; log_is =
-        λ log. refl; fits = fits }
+    record {
+      who = λ log. refl;
+      given = λ log. refl;
+      taken = λ log. refl;
+      log_is =
+          λ log. refl;
+      fits = fits;
+    }
   where
     fits : (k : About) (log : Log) (image : List ℕ) → Lawful k.start.value.items k.words log
         → Fits k log image v → Fits k log image (searching v log)
     fits k log image lawful f =
         let m = well_made_on k.start.value.items k.words v log (later-goes_on f.later)
-                f.well_made in
+        f.well_made in
         let t = f.is_true in
         record {
           start_is = f.start_is;
@@ -132,28 +143,41 @@ can_search v =
             maker_takes = m.maker_takes;
             in_none = m.in_none;
           };
-          is_true = record { low = t.low; made = t.made; idle = t.idle; fresh = t.fresh; call =
-              t.call; taken = t.taken };
+          is_true = record {
+            low = t.low;
+            made = t.made;
+            idle = t.idle;
+            fresh = t.fresh;
+            call =
+                t.call;
+            taken = t.taken;
+          };
         }
 
 -- a call that may end turns the view that has ended it
-can_end : (v : View) (call : Call) → CanEnd v call → CanTurn v (ending v call)
+pub can_end : (v : View) (call : Call) → CanEnd v call → CanTurn v (ending v call)
 can_end v call can =
-    record { who = λ log. refl; given = λ log. refl; taken = λ log. refl; log_is =
-        λ log. refl; fits = fits }
+    record {
+      who = λ log. refl;
+      given = λ log. refl;
+      taken = λ log. refl;
+      log_is =
+          λ log. refl;
+      fits = fits;
+    }
   where
     fits : (k : About) (log : Log) (image : List ℕ) → Lawful k.start.value.items k.words log
         → Fits k log image v → Fits k log image (ending v call log)
     fits k log image lawful f =
         let m = well_made_on k.start.value.items k.words v log (later-goes_on f.later)
-                f.well_made in
+        f.well_made in
         let t = f.is_true in
         let stand = as_table k log image v f
-                (λ p n. StandsIn p n v.log can.number (v.calls ++ call ∷ [])) can.stand in
+        (λ p n. StandsIn p n v.log can.number (v.calls ++ call ∷ [])) can.stand in
         let resolved = as_table k log image v f
-                (λ p n. AllResolvedOf (state_of p n v.log) v.log can.number) can.resolved in
+        (λ p n. AllResolvedOf (state_of p n v.log) v.log can.number) can.resolved in
         let later : Later (Caller can.number) v.log log =
-                subst (λ w. Later w v.log log) can.mine f.later in
+        subst (λ w. Later w v.log log) can.mine f.later in
         let next = can.stamp_is in
         record {
           start_is = f.start_is;
@@ -163,7 +187,7 @@ can_end v call can =
           well_made = record {
             stands = λ n keeps.
                 subst (λ i. StandsInPrefix k.start.value.items k.words log i (v.calls ++ call ∷ []))
-                    (sym (keeps_own n can.number v.who keeps can.mine))
+                (sym (keeps_own n can.number v.who keeps can.mine))
                 record { prefix = v.log; goes_on = later-goes_on f.later; stands = stand };
             stamps = each_append (λ c. c.stamp ≤ call.stamp) v.calls (call ∷ [])
                 (each_map (λ c. c.stamp ≤ v.stamp) (λ c. c.stamp ≤ call.stamp) v.calls
@@ -185,31 +209,37 @@ can_end v call can =
             fresh = t.fresh;
             call = λ n is.
                 subst (λ i. IsBetween k.start.value.items k.words log i (v.calls ++ call ∷ []))
-                    (same_number can.number n (sym can.mine ∙ is))
+                (same_number can.number n (sym can.mine ∙ is))
                 (between_later k.start.value.items k.words can.number (v.calls ++ call ∷ []) v.log
-                    log lawful.enabled later record { made = stand.exactly; resolved = resolved });
+                log lawful.enabled later record { made = stand.exactly; resolved = resolved });
             taken = t.taken;
           };
         }
 
 -- a call that may be given up turns the view that has given it up
-can_give_up : (v : View) → CanGiveUp v → CanTurn v (giving_up v)
+pub can_give_up : (v : View) → CanGiveUp v → CanTurn v (giving_up v)
 can_give_up v can =
-    record { who = λ log. refl; given = λ log. refl; taken = λ log. refl; log_is =
-        λ log. refl; fits = fits }
+    record {
+      who = λ log. refl;
+      given = λ log. refl;
+      taken = λ log. refl;
+      log_is =
+          λ log. refl;
+      fits = fits;
+    }
   where
     fits : (k : About) (log : Log) (image : List ℕ) → Lawful k.start.value.items k.words log
         → Fits k log image v → Fits k log image (giving_up v log)
     fits k log image lawful f =
         let m = well_made_on k.start.value.items k.words v log (later-goes_on f.later)
-                f.well_made in
+        f.well_made in
         let t = f.is_true in
         let made = as_table k log image v f (λ p n. HasMade p n v.log can.number v.calls)
-                can.none in
+        can.none in
         let resolved = as_table k log image v f
-                (λ p n. AllResolvedOf (state_of p n v.log) v.log can.number) can.resolved in
+        (λ p n. AllResolvedOf (state_of p n v.log) v.log can.number) can.resolved in
         let later : Later (Caller can.number) v.log log =
-                subst (λ w. Later w v.log log) can.mine f.later in
+        subst (λ w. Later w v.log log) can.mine f.later in
         record {
           start_is = f.start_is;
           words_is = f.words_is;
@@ -235,42 +265,9 @@ can_give_up v can =
             fresh = t.fresh;
             call = λ n is.
                 subst (λ i. IsBetween k.start.value.items k.words log i v.calls)
-                    (same_number can.number n (sym can.mine ∙ is))
+                (same_number can.number n (sym can.mine ∙ is))
                 (between_later k.start.value.items k.words can.number v.calls v.log log
-                    lawful.enabled later record { made = made; resolved = resolved });
+                lawful.enabled later record { made = made; resolved = resolved });
             taken = t.taken;
           };
         }
-
--- ---- the loads
-
--- a load that begins a call keeps the rule
-pub begins_moves : (k : About) (slots id : ℕ) (me : Seated) (command : Option Command)
-    → me.0.who ≢ Spent → CanBegin me.0
-    → Allows (Kept k) slots id me 0 (λ n. n) (begins command (step slots 0 0 0 maybe.none) me)
-begins_moves k slots id me command live can =
-    turns_moves k slots id me (beginning me.0 command)
-        (begins command (step slots 0 0 0 maybe.none) me) live
-        (can_begin me.0 can.number command can.mine can.in_none) (λ found w t. (t, refl))
-
--- a load that begins a search keeps the rule
-pub searches_moves : (k : About) (slots id : ℕ) (me : Seated) → me.0.who ≢ Spent
-    → Allows (Kept k) slots id me 0 (λ n. n) (searches (step slots 0 0 0 maybe.none) me)
-searches_moves k slots id me live =
-    turns_moves k slots id me (searching me.0) (searches (step slots 0 0 0 maybe.none) me) live
-        (can_search me.0) (λ found w t. (t, refl))
-
--- a load that ends a call keeps the rule
-pub ends_moves : (k : About) (slots id : ℕ) (me : Seated) (call : Call) → me.0.who ≢ Spent
-    → CanEnd me.0 call
-    → Allows (Kept k) slots id me 0 (λ n. n) (ends call (step slots 0 0 0 maybe.none) me)
-ends_moves k slots id me call live can =
-    turns_moves k slots id me (ending me.0 call) (ends call (step slots 0 0 0 maybe.none) me) live
-        (can_end me.0 call can) (λ found w t. (t, refl))
-
--- a load that gives up a call keeps the rule
-pub gives_up_moves : (k : About) (slots id : ℕ) (me : Seated) → me.0.who ≢ Spent → CanGiveUp me.0
-    → Allows (Kept k) slots id me 0 (λ n. n) (gives_up (step slots 0 0 0 maybe.none) me)
-gives_up_moves k slots id me live can =
-    turns_moves k slots id me (giving_up me.0) (gives_up (step slots 0 0 0 maybe.none) me) live
-        (can_give_up me.0 can) (λ found w t. (t, refl))

@@ -1,45 +1,29 @@
 -- Loads that are events may be made as their conditions say. Serves `load_okay`, `load_pass` and
 -- `load_past`.
-use Rattle.std.proofs.Common.{◌≡◌, ◌≢◌, ℕ, ◌+◌, ◌<◌, ◌&&◌, ◌==◌, not, Bool, true, false, if◌then◌else◌, List, [], ◌∷◌, length, slice_get, Option, Some, None, refl, sym, ap, ap₂, ◌∙◌, subst, inl, inr, ⊎_elim, arith}
+use Rattle.std.proofs.Common.{◌≡◌, ◌≢◌, ℕ, ◌+◌, ◌&&◌, ◌==◌, not, Bool, true, false, if◌then◌else◌, List, [], ◌∷◌, slice_get, Option, Some, None, refl, sym, ap, ◌∙◌, subst, ⊎_elim, arith}
 use Rattle.std.proofs.lemmas.Bool.Decides.{eqb_tells}
-use Rattle.std.proofs.lemmas.Option.{slice_get-get_or}
 use Rattle.ist_core.specs.declared.pairs.Pair.{Pair}
 use Rattle.ist_core.specs.declared.states.InnerRow.{InnerRow}
 use Rattle.ist_core.specs.declared.states.ChangeRow.{ChangeRow}
 use Rattle.ist_core.specs.declared.events.Event.{Event}
-use Rattle.ist_core.specs.declared.events.Event.TheVariants.{Okay, Pass, Lose}
-use Rattle.ist_core.specs.RowLayout.{anchor, anchor_status_place, anchor_slot_place, pair_words, inner_status_offset, slot_place}
-use Rattle.ist_core.specs.References.{Ref, ChangeAt, ref_of, unset_word}
-use Rattle.ist_core.specs.Statuses.{open_word, marked_word, undecided}
-use Rattle.ist_core.specs.Pieces.{Piece, Inner, Change, words_of, size_of, as_inner, as_change}
-use Rattle.ist_core.specs.Snapshots.{Snapshot, HoldsRow}
+use Rattle.ist_core.specs.RowLayout.{anchor, anchor_status_place, anchor_slot_place, inner_status_offset, slot_place}
+use Rattle.ist_core.specs.References.{Ref, ChangeAt}
+use Rattle.ist_core.specs.Pieces.{Piece, Inner, Change, words_of, size_of, as_inner}
+use Rattle.ist_core.specs.Snapshots.{Snapshot}
 use Rattle.ist_core.specs.StartLayout.{start}
-use Rattle.ist_core.specs.Naming.{HasDegree}
-use Rattle.ist_core.specs.Slots.{SlotHolds, in_anchor, in_row, IsOpen, anchor_is, row_is}
+use Rattle.ist_core.specs.Slots.{SlotHolds, in_anchor, in_row}
 use Rattle.ist_core.specs.Logs.{Log}
-use Rattle.ist_core.specs.Enabled.{Enabled}
 use Rattle.ist_core.specs.Lawful.{EachEnabled, state_of}
-use Rattle.ist_core.specs.Writing.{place_of_status, place_of_slot, place_in, touch_of, touch_of_okay}
-use Rattle.ist_core.proofs.ImageLemmas.{get_below, get-words_of_slot}
-use Rattle.ist_core.proofs.PlaceLemmas.{placed, claimed_within, claimed_apart, anchor_free, one_piece}
-use Rattle.ist_core.proofs.ShapedLemmas.{shaped}
+use Rattle.ist_core.specs.Writing.{place_of_status, place_of_slot, place_in}
+use Rattle.ist_core.proofs.ImageLemmas.{get_below}
+use Rattle.ist_core.proofs.PlaceLemmas.{placed, claimed_within, claimed_apart, one_piece}
 use Rattle.ist_core.proofs.SoundLemmas.{sound}
 use Rattle.ist_core.proofs.StartLemmas.{sound_start}
-use Rattle.ist_core.proofs.RoomLemmas.{next_within, words_same}
-use Rattle.ist_core.proofs.GrowingLemmas.{inner_there, change_there}
+use Rattle.ist_core.proofs.GrowingLemmas.{inner_there}
 use Rattle.ist_core.proofs.StepLemmas.{grow_step}
-use Rattle.ist_core.proofs.FateLemmas.{grow_between}
-use Rattle.ist_rule.specs.declared.view.View.{View}
-use Rattle.ist_rule.specs.declared.view.Who.TheVariants.{Caller}
-use Rattle.ist_rule.specs.Authors.{author, Later, no_more}
 use Rattle.ist_rule.specs.Shown.{IsShown, shown_next, shown_callers, shown_status, shown_slot, shown_row, shown_free}
-use Rattle.ist_rule.specs.Rule.{IsSound}
-use Rattle.ist_rule.specs.Learning.{now}
-use Rattle.ist_rule.specs.Conditions.{MayCome, CanMake, LeavesAt, IsKnown, CanLoadAs}
-use Rattle.ist_rule.specs.Watching.{number_of, waits, okay_of, CanLoadOkay, is_marked, is_change, pass_of, CanLoadPass, past_of, CanLoadPast}
-use Rattle.ist_rule.proofs.LaterLemmas.{later-goes_on}
-use Rattle.ist_rule.proofs.GoingOnLemmas.{callers_later}
-use Rattle.ist_rule.proofs.HeldLemmas.{held_later, start_no_change}
+use Rattle.ist_rule.specs.Watching.{is_change}
+use Rattle.ist_rule.proofs.HeldLemmas.{start_no_change}
 use Rattle.ist_rule.proofs.ChangeLemmas.{ChangeComes, stood, is_installed, change_comes}
 
 pub some_one : {A : Type 0} (a b : A) → Some a ≡ Some b → a ≡ b
@@ -48,45 +32,45 @@ some_one a b e = cc
 -- ---- the word of a published row
 
 module _ (pairs : List Pair) (words : ℕ) (log : Log) (enabled : EachEnabled (start pairs words) log)
-    where
-  abbrev pub t : Snapshot
-  t = state_of pairs words log
+  where
+    abbrev pub t : Snapshot
+    t = state_of pairs words log
 
-  -- what is shown at a place of a published row is the row's word
-  pub shown_in_row : (base : ℕ) (p : Piece) (k word : ℕ) → t.pieces base ≡ Some p
-      → slice_get (words_of p) k ≡ Some word
-      → (place shown : ℕ) → IsShown t place shown → place ≡ base + k → shown ≡ word
-  shown_in_row base p k word e at _ _ shown_next is = let low =
-      (claimed_within pairs words log base (size_of p) enabled
-      ((placed pairs words log enabled).published base p e)).behind_fixed in absurd (omega arith)
-  shown_in_row base p k word e at _ _ shown_callers is = let low =
-      (claimed_within pairs words log base (size_of p) enabled
-      ((placed pairs words log enabled).published base p e)).behind_fixed in absurd (omega arith)
-  shown_in_row base p k word e at _ _ shown_status is = let low =
-      (claimed_within pairs words log base (size_of p) enabled
-      ((placed pairs words log enabled).published base p e)).behind_fixed in absurd (omega arith)
-  shown_in_row base p k word e at _ _ shown_slot is = let low =
-      (claimed_within pairs words log base (size_of p) enabled
-      ((placed pairs words log enabled).published base p e)).behind_fixed in absurd (omega arith)
-  shown_in_row base p k word e at _ _ (shown_free far in_it) is =
-      let high = (claimed_within pairs words log base (size_of p) enabled
-              ((placed pairs words log enabled).published base p e)).below_next in
-      let less = get_below (words_of p) k word at in
-      absurd (omega arith)
-  shown_in_row base p k word e at _ shown (shown_row other q j there got) is =
-      let less = get_below (words_of p) k word at in
-      let small = get_below (words_of q) j shown got in
-      ⊎_elim
-      (λ one.
-      let same : j ≡ k = omega (arith, one.0) in
-      let piece : q ≡ p = one_piece (t.pieces other) q p there
-              (subst (λ b. t.pieces b ≡ Some p) (sym one.0) e) in
-      some_one shown word (sym got ∙ ap (λ x. slice_get (words_of x) j) piece ∙ ap
-          (slice_get (words_of p)) same ∙ at))
-      (λ two. ⊎_elim (λ le. absurd (omega arith)) (λ le. absurd (omega arith)) two.1)
-      (claimed_apart pairs words log other (size_of q) base (size_of p) enabled
-          ((placed pairs words log enabled).published other q there)
-          ((placed pairs words log enabled).published base p e))
+    -- what is shown at a place of a published row is the row's word
+    pub shown_in_row : (base : ℕ) (p : Piece) (k word : ℕ) → t.pieces base ≡ Some p
+        → slice_get (words_of p) k ≡ Some word
+        → (place shown : ℕ) → IsShown t place shown → place ≡ base + k → shown ≡ word
+    shown_in_row base p k word e at _ _ shown_next is = let low =
+        (claimed_within pairs words log base (size_of p) enabled
+        ((placed pairs words log enabled).published base p e)).behind_fixed in absurd (omega arith)
+    shown_in_row base p k word e at _ _ shown_callers is = let low =
+        (claimed_within pairs words log base (size_of p) enabled
+        ((placed pairs words log enabled).published base p e)).behind_fixed in absurd (omega arith)
+    shown_in_row base p k word e at _ _ shown_status is = let low =
+        (claimed_within pairs words log base (size_of p) enabled
+        ((placed pairs words log enabled).published base p e)).behind_fixed in absurd (omega arith)
+    shown_in_row base p k word e at _ _ shown_slot is = let low =
+        (claimed_within pairs words log base (size_of p) enabled
+        ((placed pairs words log enabled).published base p e)).behind_fixed in absurd (omega arith)
+    shown_in_row base p k word e at _ _ (shown_free far in_it) is =
+        let high = (claimed_within pairs words log base (size_of p) enabled
+        ((placed pairs words log enabled).published base p e)).below_next in
+        let less = get_below (words_of p) k word at in
+        absurd (omega arith)
+    shown_in_row base p k word e at _ shown (shown_row other q j there got) is =
+        let less = get_below (words_of p) k word at in
+        let small = get_below (words_of q) j shown got in
+        ⊎_elim
+        (λ one.
+        let same : j ≡ k = omega (arith, one.0) in
+        let piece : q ≡ p = one_piece (t.pieces other) q p there
+        (subst (λ b. t.pieces b ≡ Some p) (sym one.0) e) in
+        some_one shown word (sym got ∙ ap (λ x. slice_get (words_of x) j) piece ∙ ap
+        (slice_get (words_of p)) same ∙ at))
+        (λ two. ⊎_elim (λ le. absurd (omega arith)) (λ le. absurd (omega arith)) two.1)
+        (claimed_apart pairs words log other (size_of q) base (size_of p) enabled
+        ((placed pairs words log enabled).published other q there)
+        ((placed pairs words log enabled).published base p e))
 
 -- ---- the node of a change
 
@@ -101,9 +85,9 @@ module _ (pairs : List Pair) (words : ℕ) where
   node_on log event enabled node (is_anchor e) = is_anchor e
   node_on log event enabled node (is_inner r e) =
       let it = inner_there (state_of pairs words log).pieces
-              (state_of pairs words (event ∷ log)).pieces
+      (state_of pairs words (event ∷ log)).pieces
       (grow_step (start pairs words) log event enabled.1
-          (sound (start pairs words) log (sound_start pairs words) enabled.0)) node r e in
+      (sound (start pairs words) log (sound_start pairs words) enabled.0)) node r e in
       is_inner it.0 it.1
 
   holds_node : (t : Snapshot) (node i word : ℕ) → SlotHolds t node i word → IsNode t node
@@ -118,20 +102,20 @@ module _ (pairs : List Pair) (words : ℕ) where
   change_node (event ∷ log) enabled base r e =
       node_on log event enabled r.node
       (at (λ old there. change_node log enabled.0 base old there)
-          (change_comes (start pairs words) log event enabled.1
-          (sound (start pairs words) log (sound_start pairs words) enabled.0) base r e))
+      (change_comes (start pairs words) log event enabled.1
+      (sound (start pairs words) log (sound_start pairs words) enabled.0) base r e))
     where
       at : ((old : ChangeRow) → (state_of pairs words log).pieces base ≡ Some (Change old)
           → IsNode (state_of pairs words log) old.node)
           → {ev : Event} → ChangeComes (start pairs words) log base r ev
-              → IsNode (state_of pairs words log) r.node
+          → IsNode (state_of pairs words log) r.node
       at before (stood old there g) =
           subst (IsNode (state_of pairs words log)) (sym (ap (λ x. x.node) g.others))
           (before old there)
       at before (is_installed h g) =
           subst (IsNode (state_of pairs words log)) (sym (ap (λ x. x.node) g.others))
-              (holds_node (state_of pairs words log) h.change.node h.change.index h.change.from
-              h.in_slot)
+          (holds_node (state_of pairs words log) h.change.node h.change.index h.change.from
+          h.in_slot)
 
 -- ---- tests
 
@@ -178,6 +162,6 @@ pub place_inner : (t : Snapshot) (node i : ℕ) (r : InnerRow) → t.pieces node
     → node ≢ anchor → place_of_slot t node i ≡ slot_place node r.degree i
 place_inner t node i r e ne =
     ⊎_elim (λ k. absurd (ne k.1)) (λ k. ap
-        (λ b. if b then anchor_slot_place else place_in node i (as_inner (t.pieces node))) k.0)
-        (eqb_tells node anchor)
+    (λ b. if b then anchor_slot_place else place_in node i (as_inner (t.pieces node))) k.0)
+    (eqb_tells node anchor)
     ∙ ap (λ o. place_in node i (as_inner o)) e

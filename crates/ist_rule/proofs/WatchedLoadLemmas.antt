@@ -1,45 +1,38 @@
 -- Each of the three loads that are events meets what such a load asks. Serves `watching`.
-use Rattle.std.proofs.Common.{◌≡◌, ◌≢◌, ℕ, ◌+◌, ◌<◌, ◌&&◌, ◌==◌, not, Bool, true, false, if◌then◌else◌, List, [], ◌∷◌, length, slice_get, Option, Some, None, refl, sym, ap, ap₂, ◌∙◌, subst, inl, inr, ⊎_elim, arith}
-use Rattle.std.proofs.lemmas.Bool.Decides.{eqb_tells}
+use Rattle.std.proofs.Common.{◌≡◌, ◌≢◌, ℕ, ◌+◌, ◌<◌, ◌&&◌, ◌==◌, not, [], ◌∷◌, length, slice_get, Some, None, refl, sym, ap, ap₂, ◌∙◌, subst, inl, inr, arith}
 use Rattle.std.proofs.lemmas.Option.{slice_get-get_or}
-use Rattle.ist_core.specs.declared.pairs.Pair.{Pair}
 use Rattle.ist_core.specs.declared.states.InnerRow.{InnerRow}
 use Rattle.ist_core.specs.declared.states.ChangeRow.{ChangeRow}
 use Rattle.ist_core.specs.declared.events.Event.{Event}
 use Rattle.ist_core.specs.declared.events.Event.TheVariants.{Okay, Pass, Lose}
-use Rattle.ist_core.specs.RowLayout.{anchor, anchor_status_place, anchor_slot_place, pair_words, inner_status_offset, slot_place}
-use Rattle.ist_core.specs.References.{Ref, ChangeAt, ref_of, unset_word}
+use Rattle.ist_core.specs.RowLayout.{anchor, pair_words, inner_status_offset, slot_place}
+use Rattle.ist_core.specs.References.{ref_of, unset_word}
 use Rattle.ist_core.specs.Statuses.{open_word, marked_word, undecided}
-use Rattle.ist_core.specs.Pieces.{Piece, Inner, Change, words_of, size_of, as_inner, as_change}
+use Rattle.ist_core.specs.Pieces.{Inner, Change, words_of, as_inner, as_change}
 use Rattle.ist_core.specs.Snapshots.{Snapshot, HoldsRow}
 use Rattle.ist_core.specs.StartLayout.{start}
 use Rattle.ist_core.specs.Naming.{HasDegree}
-use Rattle.ist_core.specs.Slots.{SlotHolds, in_anchor, in_row, IsOpen, anchor_is, row_is}
+use Rattle.ist_core.specs.Slots.{IsOpen, anchor_is, row_is}
 use Rattle.ist_core.specs.Logs.{Log}
 use Rattle.ist_core.specs.Enabled.{Enabled}
-use Rattle.ist_core.specs.Lawful.{EachEnabled, state_of}
-use Rattle.ist_core.specs.Writing.{place_of_status, place_of_slot, place_in, touch_of, touch_of_okay}
-use Rattle.ist_core.proofs.ImageLemmas.{get_below, get-words_of_slot}
-use Rattle.ist_core.proofs.PlaceLemmas.{placed, claimed_within, claimed_apart, anchor_free, one_piece}
+use Rattle.ist_core.specs.Lawful.{state_of}
+use Rattle.ist_core.specs.Writing.{place_of_status, place_of_slot, touch_of, touch_of_okay}
+use Rattle.ist_core.proofs.ImageLemmas.{get-words_of_slot}
+use Rattle.ist_core.proofs.PlaceLemmas.{anchor_free}
 use Rattle.ist_core.proofs.ShapedLemmas.{shaped}
-use Rattle.ist_core.proofs.SoundLemmas.{sound}
-use Rattle.ist_core.proofs.StartLemmas.{sound_start}
-use Rattle.ist_core.proofs.RoomLemmas.{next_within, words_same}
 use Rattle.ist_core.proofs.GrowingLemmas.{inner_there, change_there}
-use Rattle.ist_core.proofs.StepLemmas.{grow_step}
 use Rattle.ist_core.proofs.FateLemmas.{grow_between}
 use Rattle.ist_rule.specs.declared.view.View.{View}
 use Rattle.ist_rule.specs.declared.view.Who.TheVariants.{Caller}
-use Rattle.ist_rule.specs.Authors.{author, Later, no_more}
-use Rattle.ist_rule.specs.Shown.{IsShown, shown_next, shown_callers, shown_status, shown_slot, shown_row, shown_free}
+use Rattle.ist_rule.specs.Authors.{author, Later}
+use Rattle.ist_rule.specs.Shown.{IsShown, shown_status, shown_row}
 use Rattle.ist_rule.specs.Rule.{IsSound}
 use Rattle.ist_rule.specs.Learning.{now}
-use Rattle.ist_rule.specs.Conditions.{MayCome, CanMake, LeavesAt, IsKnown, CanLoadAs}
+use Rattle.ist_rule.specs.Conditions.{MayCome, CanMake, LeavesAt, CanLoadAs}
 use Rattle.ist_rule.specs.Watching.{number_of, waits, okay_of, CanLoadOkay, is_marked, is_change, pass_of, CanLoadPass, past_of, CanLoadPast}
 use Rattle.ist_rule.proofs.LaterLemmas.{later-goes_on}
 use Rattle.ist_rule.proofs.GoingOnLemmas.{callers_later}
-use Rattle.ist_rule.proofs.HeldLemmas.{held_later, start_no_change}
-use Rattle.ist_rule.proofs.ChangeLemmas.{ChangeComes, stood, is_installed, change_comes}
+use Rattle.ist_rule.proofs.HeldLemmas.{held_later}
 use Rattle.ist_rule.proofs.WatchLemmas.{some_one, is_inner, is_anchor, shown_in_row, IsNode, change_node, both_true, if_some, eq_true, not_true, no_change, status_place_inner, status_place_anchor, place_inner}
 
 -- ---- the three loads
@@ -57,8 +50,8 @@ module _ (v : View) (s : IsSound v) (log : Log) (m : MayCome v log) where
       → (r : InnerRow) × (u.pieces node ≡ Some (Inner r)) × (r.degree ≡ row.degree)
   inner_later node row e =
       let it = inner_there (now v).pieces u.pieces
-              (grow_between v.start v.words v.log log m.lawful.enabled (later-goes_on m.later)) node
-              row e in
+      (grow_between v.start v.words v.log log m.lawful.enabled (later-goes_on m.later)) node
+      row e in
       (it.0, it.1, it.2.degree)
 
   -- and so does a change
@@ -66,8 +59,8 @@ module _ (v : View) (s : IsSound v) (log : Log) (m : MayCome v log) where
       → (r : ChangeRow) × (u.pieces base ≡ Some (Change r)) × (r.node ≡ row.node)
   change_later base row e =
       let it = change_there (now v).pieces u.pieces
-              (grow_between v.start v.words v.log log m.lawful.enabled (later-goes_on m.later)) base
-              row e in
+      (grow_between v.start v.words v.log log m.lawful.enabled (later-goes_on m.later)) base
+      row e in
       (it.0, it.1, ap (λ x. x.node) it.2.others)
 
   -- no row lies at the anchor
@@ -81,13 +74,18 @@ module _ (v : View) (s : IsSound v) (log : Log) (m : MayCome v log) where
   -- the status of a node is shown at its place
   status_shown : (node : ℕ) → IsNode u node → (word : ℕ) × IsShown u (place_of_status node) word
       × (word ≡ open_word → IsOpen u node)
-  status_shown node (is_anchor e) =
-      (open_word, subst (λ p. IsShown u p open_word) (sym (status_place_anchor node e))
-      shown_status, (λ _. anchor_is e))
-  status_shown node (is_inner r e) =
-      (r.status, subst (λ p. IsShown u p r.status)
-          (sym (status_place_inner node (not_anchor node r e))) (shown_row node (Inner r) 0 e refl),
-          (λ is. row_is r e is))
+  status_shown node (is_anchor e) = (
+    open_word,
+    subst (λ p. IsShown u p open_word) (sym (status_place_anchor node e))
+        shown_status,
+    (λ _. anchor_is e),
+  )
+  status_shown node (is_inner r e) = (
+    r.status,
+    subst (λ p. IsShown u p r.status)
+        (sym (status_place_inner node (not_anchor node r e))) (shown_row node (Inner r) 0 e refl),
+    (λ is. row_is r e is),
+  )
 
   -- a load of the status that gives an open one shows the node open
   open_seen : (node : ℕ) → IsNode u node → (word : ℕ) → IsShown u (place_of_status node) word
@@ -95,8 +93,8 @@ module _ (v : View) (s : IsSound v) (log : Log) (m : MayCome v log) where
   open_seen node (is_anchor e) word shown is = anchor_is e
   open_seen node (is_inner r e) word shown is =
       row_is r e (sym (shown_in_row v.start v.words log m.lawful.enabled node (Inner r) 0 r.status e
-          refl (place_of_status node) word shown (status_place_inner node (not_anchor node r e))) ∙
-          is)
+      refl (place_of_status node) word shown (status_place_inner node (not_anchor node r e))) ∙
+      is)
 
 -- a caller may load the status of a change's node, and so see the node open
 pub can_load_okay : (v : View) (change place : ℕ) → IsSound v → CanLoadOkay v change place
@@ -106,7 +104,7 @@ can_load_okay v change place s can =
       known = λ log m.
           let r = change_later v s log m change can.row can.installed in
           let node = subst (λ n. IsNode (state_of v.start v.words log) n) r.2
-                  (change_node v.start v.words log m.lawful.enabled change r.0 r.1) in
+          (change_node v.start v.words log m.lawful.enabled change r.0 r.1) in
           let it = status_shown v s log m can.row.node node in
           (it.0, subst (λ p. IsShown (state_of v.start v.words log) p it.0) (sym can.at) it.1);
       comes = λ log m word shown event named. okay_comes log m word shown event named;
@@ -119,18 +117,18 @@ can_load_okay v change place s can =
         let t = state_of v.start v.words log in
         let r = change_later v s log m change can.row can.installed in
         let node = subst (λ n. IsNode t n) r.2
-                (change_node v.start v.words log m.lawful.enabled change r.0 r.1) in
+        (change_node v.start v.words log m.lawful.enabled change r.0 r.1) in
         let it = if_some ((word == open_word) && waits (as_change (t.pieces change)))
-                (Okay (number_of v.who) change) event named in
+        (Okay (number_of v.who) change) event named in
         let both = both_true (word == open_word) (waits (as_change (t.pieces change))) it.0 in
         let zero_is = eq_true word open_word both.0 in
         let unset = eq_true r.0.decision undecided
-                (sym (ap (λ o. waits (as_change o)) r.1) ∙ both.1) in
+        (sym (ap (λ o. waits (as_change o)) r.1) ∙ both.1) in
         let number = ap number_of can.mine in
         let opened = open_seen v s log m can.row.node node word
-                (subst (λ p. IsShown t p word) can.at shown) zero_is in
+        (subst (λ p. IsShown t p word) can.at shown) zero_is in
         let mine : author (Okay (number_of v.who) change) ≡ v.who =
-                ap Caller number ∙ sym can.mine in
+        ap Caller number ∙ sym can.mine in
         let enabled : Enabled (start v.start v.words) log (Okay (number_of v.who) change) =
         record {
           known = subst (λ n. n < t.callers) (sym number) (low v s log m can.number can.mine);
@@ -138,14 +136,21 @@ can_load_okay v change place s can =
           pending = record { published = r.1; unset = unset };
           node_open = subst (IsOpen t) (sym r.2) opened;
         } in
-        let touches : touch_of t (Okay (number_of v.who) change) ≡ Some record { place =
-                place; found = word; left = word } =
+        let touches : touch_of t (Okay (number_of v.who) change) ≡ Some record {
+          place =
+              place;
+          found = word;
+          left = word;
+        } =
         ap (λ o. touch_of_okay (as_change o)) r.1
         ∙ ap₂ (λ p n. Some record { place = p; found = n; left = n })
-            (ap place_of_status r.2 ∙ sym can.at) (sym zero_is) in (
+        (ap place_of_status r.2 ∙ sym can.at) (sym zero_is) in (
           subst (CanMake v) it.1 record { mine = mine; stored = tt; allowed = tt },
-          subst (λ e. LeavesAt v log e place word) it.1 record { enabled = enabled; leaves =
-              inl touches },
+          subst (λ e. LeavesAt v log e place word) it.1 record {
+            enabled = enabled;
+            leaves =
+                inl touches;
+          },
         )
 
 -- a slot of an inner row is shown at its place
@@ -159,7 +164,7 @@ module _ (v : View) (s : IsSound v) (log : Log) (m : MayCome v log) (node i plac
   pub slot_later : (r : InnerRow) × (st.pieces node ≡ Some (Inner r)) × (r.degree ≡ row.degree)
       × ((word : ℕ) × (slice_get r.slots i ≡ Some word)
       × (slice_get (words_of (Inner r)) (4 + length r.keys + i) ≡ Some word)
-          × (place ≡ node + (4 + length r.keys + i)))
+      × (place ≡ node + (4 + length r.keys + i)))
   slot_later =
       let it = inner_later v s log m node row there in
       let r = it.0 in
@@ -176,9 +181,11 @@ pub can_load_pass : (v : View) (node i place : ℕ) → IsSound v → CanLoadPas
 can_load_pass v node i place s can =
     record {
       known = λ log m.
-          let it = slot_later v s log m node i place can.row can.published can.within can.at in
-          (it.3.0, subst (λ p. IsShown (state_of v.start v.words log) p it.3.0) (sym it.3.3)
-              (shown_row node (Inner it.0) (4 + length it.0.keys + i) it.1 it.3.2));
+          let it = slot_later v s log m node i place can.row can.published can.within can.at in (
+            it.3.0,
+            subst (λ p. IsShown (state_of v.start v.words log) p it.3.0) (sym it.3.3)
+                (shown_row node (Inner it.0) (4 + length it.0.keys + i) it.1 it.3.2),
+          );
       comes = pass_comes;
     }
   where
@@ -190,15 +197,15 @@ can_load_pass v node i place s can =
         let it = slot_later v s log m node i place can.row can.published can.within can.at in
         let r = it.0 in
         let same = shown_in_row v.start v.words log m.lawful.enabled node (Inner r)
-                (4 + length r.keys + i) it.3.0 it.1 it.3.2 place word shown it.3.3 in
+        (4 + length r.keys + i) it.3.0 it.1 it.3.2 place word shown it.3.3 in
         let tests = if_some (is_marked (as_inner (t.pieces node))
-                && (not (is_change (ref_of word)) && not (word == unset_word)))
-                (Pass (number_of v.who) node i word) event named in
+        && (not (is_change (ref_of word)) && not (word == unset_word)))
+        (Pass (number_of v.who) node i word) event named in
         let both = both_true (is_marked (as_inner (t.pieces node)))
-                (not (is_change (ref_of word)) && not (word == unset_word)) tests.0 in
+        (not (is_change (ref_of word)) && not (word == unset_word)) tests.0 in
         let rest = both_true (not (is_change (ref_of word))) (not (word == unset_word)) both.1 in
         let marked = eq_true r.status marked_word
-                (sym (ap (λ o. is_marked (as_inner o)) it.1) ∙ both.0) in
+        (sym (ap (λ o. is_marked (as_inner o)) it.1) ∙ both.0) in
         let number = ap number_of can.mine in
         let enabled : Enabled (start v.start v.words) log (Pass (number_of v.who) node i word) =
         record {
@@ -211,13 +218,16 @@ can_load_pass v node i place s can =
           set = not_true word unset_word rest.1;
         } in
         let mine : author (Pass (number_of v.who) node i word) ≡ v.who =
-                ap Caller number ∙ sym can.mine in
+        ap Caller number ∙ sym can.mine in
         let at_place : place_of_slot t node i ≡ place =
         place_inner t node i r it.1 (not_anchor v s log m node r it.1) ∙ ap
-            (λ d. slot_place node d i) it.2 ∙ sym can.at in (
+        (λ d. slot_place node d i) it.2 ∙ sym can.at in (
           subst (CanMake v) tests.1 record { mine = mine; stored = tt; allowed = tt },
-          subst (λ e. LeavesAt v log e place word) tests.1 record { enabled = enabled; leaves =
-              inl (ap (λ p. Some record { place = p; found = word; left = word }) at_place) },
+          subst (λ e. LeavesAt v log e place word) tests.1 record {
+            enabled = enabled;
+            leaves =
+                inl (ap (λ p. Some record { place = p; found = word; left = word }) at_place);
+          },
         )
 
 -- a caller may give up a pair row by a load beside
@@ -233,15 +243,19 @@ can_load_past v pair node s can =
     past_comes : (log : Log) (m : MayCome v log) (word : ℕ)
         → IsShown (state_of v.start v.words log) (node + inner_status_offset) word → (event : Event)
         → past_of v pair log word ≡ Some event → CanMake v event
-            × LeavesAt v log event (node + inner_status_offset) word
+        × LeavesAt v log event (node + inner_status_offset) word
     past_comes log m word shown event named =
         let t = state_of v.start v.words log in
         let it = inner_later v s log m node can.row can.published in
         let number = ap number_of can.mine in
         let is = some_one (Lose (number_of v.who) (pair ∷ [])) event named in
-        let held = held_later v.start v.words record { caller = can.number; base = pair; size =
-                pair_words } v.log log m.lawful.enabled
-                (subst (λ w. Later w v.log log) can.mine m.later) can.held in
+        let held = held_later v.start v.words record {
+          caller = can.number;
+          base = pair;
+          size =
+              pair_words;
+        } v.log log m.lawful.enabled
+        (subst (λ w. Later w v.log log) can.mine m.later) can.held in
         let enabled : Enabled (start v.start v.words) log (Lose (number_of v.who) (pair ∷ [])) =
         record {
           known = subst (λ n. n < t.callers) (sym number) (low v s log m can.number can.mine);
@@ -256,30 +270,11 @@ can_load_past v pair node s can =
           };
         } in
         let mine : author (Lose (number_of v.who) (pair ∷ [])) ≡ v.who =
-                ap Caller number ∙ sym can.mine in (
+        ap Caller number ∙ sym can.mine in (
           subst (CanMake v) is record { mine = mine; stored = tt; allowed = tt },
-          subst (λ e. LeavesAt v log e (node + inner_status_offset) word) is record { enabled =
-              enabled; leaves = inr refl },
+          subst (λ e. LeavesAt v log e (node + inner_status_offset) word) is record {
+            enabled =
+                enabled;
+            leaves = inr refl;
+          },
         )
-
--- a place that is known lies within the table
-pub known_low : (v : View) (place : ℕ) → IsSound v → IsKnown v place → place < v.words
-known_low v place s known =
-    let it = known v.log record { later = no_more; lawful = s.lawful } in
-    at place it.0 it.1
-  where
-    at : (q word : ℕ) → IsShown (now v) q word → q < v.words
-    at _ _ shown_next = let room = s.lawful.opens.room in omega arith
-    at _ _ shown_callers = let room = s.lawful.opens.room in omega arith
-    at _ _ shown_status = let room = s.lawful.opens.room in omega arith
-    at _ _ shown_slot = let room = s.lawful.opens.room in omega arith
-    at _ word (shown_row base p k there got) =
-        let high = (claimed_within v.start v.words v.log base (size_of p) s.lawful.enabled
-                ((placed v.start v.words v.log s.lawful.enabled).published base p
-                there)).below_next in
-        let less = get_below (words_of p) k word got in
-        let low = next_within v.start v.words s.lawful.opens v.log s.lawful.enabled in
-        let all = words_same v.start v.words s.lawful.opens v.log in
-        omega arith
-    at _ _ (shown_free far in_it) = let all =
-        words_same v.start v.words s.lawful.opens v.log in omega arith

@@ -35,7 +35,7 @@ pub record MayCome (v : View) (log : Log) : Type 0 where
 abbrev pub StoredAll : View → List Row → Type 0
 StoredAll v rows =
     Each (λ row. (k : ℕ) → k < length row.words
-        → slice_get row.words k ≡ Some (own_at v.own (row.base + k))) rows
+    → slice_get row.words k ≡ Some (own_at v.own (row.base + k))) rows
 
 -- ---- an Install in a call
 
@@ -44,8 +44,7 @@ abbrev pub IsResolved : View → ℕ → Type 0
 IsResolved v number = AllResolvedOf (now v) v.log number
 
 -- the seat is in a call, in which all its earlier changes are resolved; a put or remove is the
--- call's command, and none of
--- this call was decided yes
+-- call's command, and none of this call was decided yes
 pub record MayInstall (v : View) (caller : ℕ) (change : ChangeRow) : Type 0 where
   pub pending : Pending
   pub in_call : v.pending ≡ Some pending
@@ -72,8 +71,8 @@ pub record CanMake (v : View) (event : Event) : Type 0 where
 -- the event is enabled behind the log, and its step finds one word at the place and leaves another
 pub record ComesAt (v : View) (log : Log) (event : Event) (place found left : ℕ) : Type 0 where
   pub enabled : Enabled (start v.start v.words) log event
-  pub touches : touch_of (state_of v.start v.words log) event ≡ Some record { place = place; found =
-      found; left = left }
+  pub touches : touch_of (state_of v.start v.words log) event
+      ≡ Some record { place = place; found = found; left = left }
 
 -- the word at the place is one that all know, behind each log that may come
 abbrev pub IsKnown : View → ℕ → Type 0
@@ -82,6 +81,9 @@ IsKnown v place = (log : Log) → MayCome v log → (word : ℕ)
 
 -- an exchange of `old` for `new` is the event: behind each log that may come and has `old` there,
 -- the event is enabled
+-- Who meets it: of a Reserve `ist_rows`, by the rows that its caller holds; of an Install and what
+-- follows it the crate of changes, by the filled row and by the Okay, or the mark, in its log; of a
+-- Mark and a Finish the crate that marks, by the passes in its log; each by laws over lawful logs
 pub record CanExchange (v : View) (place old new : ℕ) (event : Event) : Type 0 where
   pub make : CanMake v event
   pub known : IsKnown v place
@@ -90,6 +92,8 @@ pub record CanExchange (v : View) (place old new : ℕ) (event : Event) : Type 0
 
 -- an add is the event that is named for the word found: behind each log that may come it is
 -- enabled, and leaves one more
+-- Who meets it: of an Enter `ist_rows`, as the maker has entered all callers; of a Count the owner
+-- of a change behind its yes; of a Draw who fills the parts of a root, by the finished target
 pub record CanAdd (v : View) (place : ℕ) (named : ℕ → Event) : Type 0 where
   pub make : (found : ℕ) → CanMake v (named found)
   pub known : IsKnown v place
@@ -104,11 +108,12 @@ pub record CanAdd (v : View) (place : ℕ) (named : ℕ → Event) : Type 0 wher
 -- it
 pub record LeavesAt (v : View) (log : Log) (event : Event) (place word : ℕ) : Type 0 where
   pub enabled : Enabled (start v.start v.words) log event
-  pub leaves : (touch_of (state_of v.start v.words log) event ≡ Some record { place = place; found =
-      word; left = word })
+  pub leaves : (touch_of (state_of v.start v.words log) event
+      ≡ Some record { place = place; found = word; left = word })
       ⊎ (touch_of (state_of v.start v.words log) event ≡ None)
 
 -- a load of the place is the event that is named for the log before it and the word, where one is
+-- Who meets it: `load_okay`, `load_pass` and `load_past`, each by its own condition (`Watching`)
 pub record CanLoadAs (v : View) (place : ℕ) (named : Naming) : Type 0 where
   pub known : IsKnown v place
   pub comes : (log : Log) → MayCome v log → (word : ℕ)
@@ -117,6 +122,8 @@ pub record CanLoadAs (v : View) (place : ℕ) (named : Naming) : Type 0 where
       → CanMake v event × LeavesAt v log event place word
 
 -- an exchange is the event where it finds `old`, and otherwise the other one
+-- Who meets it: who publishes a root or a part, by the held rows that it built over the finished
+-- target; the other event is the Lose of just these rows
 pub record CanExchangeOrLose (v : View) (place old new : ℕ) (event lost : Event) : Type 0 where
   pub hit : CanExchange v place old new event
   pub make : CanMake v lost
@@ -127,6 +134,7 @@ pub record CanExchangeOrLose (v : View) (place old new : ℕ) (event lost : Even
 -- ---- own rows
 
 -- the place lies in a row that the seat's caller holds
+-- Who meets it: `fill` of `ist_rows`, by the rows that its caller holds
 pub record IsOwn (v : View) (place : ℕ) : Type 0 where
   pub row : HeldRow
   pub held : Among row (now v).held
@@ -138,15 +146,17 @@ pub record IsOwn (v : View) (place : ℕ) : Type 0 where
 -- ---- calls
 
 -- a call may begin: the seat is a caller's, and in no call
+-- Who meets it: each call of a pass on the tree, at its beginning
 pub record CanBegin (v : View) : Type 0 where
   pub number : ℕ
   pub mine : v.who ≡ Caller number
   pub in_none : v.pending ≡ None
 
 -- the seat's call may end as this call: its command is the one in progress and its stamp the next,
--- all that was installed is
--- resolved, the calls of the seat stand in its log with it, and it is fresh for what was seen when
--- it began
+-- all that was installed is resolved, the calls of the seat stand in its log with it, and it is
+-- fresh for what was seen when it began
+-- Who meets it: each call of a pass that answers, by the laws on standing: a get by its search, an
+-- update by its yes
 pub record CanEnd (v : View) (call : Call) : Type 0 where
   pub number : ℕ
   pub mine : v.who ≡ Caller number
@@ -163,6 +173,7 @@ pub record CanEnd (v : View) (call : Call) : Type 0 where
 
 -- the call may be given up: all that it installed is resolved, and no put or remove of it was
 -- decided yes
+-- Who meets it: each call of a pass that is refused for want of words
 pub record CanGiveUp (v : View) : Type 0 where
   pub number : ℕ
   pub mine : v.who ≡ Caller number

@@ -121,19 +121,19 @@ pub record Turned (v : View) (turn : Log → View) (w : View) : Type 0 where
 -- the view that has begun a call with this command
 abbrev pub beginning : View → Option Command → Log → View
 beginning v command log =
-    record v { log = log; pending = Some record { command = command; length = length log }; loaded =
-        v.loaded + 1 }
+    let pending = Some record { command = command; length = length log } in
+    record v { log = log; pending = pending; loaded = v.loaded + 1 }
 
 -- the view that has begun a search
 abbrev pub searching : View → Log → View
-searching v log = record v { log = log; loads = record { since = length log; list = [] }; loaded =
-    v.loaded + 1 }
+searching v log =
+    record v { log = log; loads = record { since = length log; list = [] }; loaded = v.loaded + 1 }
 
 -- the view that has ended its call
 abbrev pub ending : View → Call → Log → View
 ending v call log =
-    record v { log = log; calls = v.calls ++ call ∷ []; stamp = call.stamp; pending = None; loaded =
-        v.loaded + 1 }
+    let calls = v.calls ++ call ∷ [] in
+    record v { log = log; calls = calls; stamp = call.stamp; pending = None; loaded = v.loaded + 1 }
 
 -- the view that has given up its call
 abbrev pub giving_up : View → Log → View

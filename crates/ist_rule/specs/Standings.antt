@@ -69,4 +69,4 @@ abbrev pub CallStands : List Pair → ℕ → Log → ℕ → List Call → Opti
 CallStands pairs words log number calls None = IsBetween pairs words log number calls
 CallStands pairs words log number calls (Some pending) =
     IsAtWork pairs words log number calls pending.command
-        ⊎ IsEntered pairs words log number calls pending.command
+    ⊎ IsEntered pairs words log number calls pending.command

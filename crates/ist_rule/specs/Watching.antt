@@ -37,6 +37,7 @@ okay_of v change log word =
 
 -- a caller may look whether the node of an installed change is open: at the place of the node's
 -- status
+-- Who meets it: who helps a change, by its Install in the log
 pub record CanLoadOkay (v : View) (change place : ℕ) : Type 0 where
   pub number : ℕ
   pub mine : v.who ≡ Caller number
@@ -60,10 +61,11 @@ is_change _ = false
 abbrev pub pass_of : View → ℕ → ℕ → Naming
 pass_of v node i log word =
     if is_marked (as_inner ((state_of v.start v.words log).pieces node))
-        && (not (is_change (ref_of word)) && not (word == unset_word))
+    && (not (is_change (ref_of word)) && not (word == unset_word))
     then Some (Pass (number_of v.who) node i word) else None
 
--- a caller may pass a slot of a node that it has seen marked or finished: at the place of the slot
+-- a caller may try to pass a slot of a published node: at the place of the slot
+-- Who meets it: who marks a subtree, at each slot of a node behind its mark
 pub record CanLoadPass (v : View) (node i place : ℕ) : Type 0 where
   pub number : ℕ
   pub mine : v.who ≡ Caller number
@@ -79,6 +81,7 @@ abbrev pub past_of : View → ℕ → Naming
 past_of v pair log word = Some (Lose (number_of v.who) (pair ∷ []))
 
 -- a caller may give up a pair row below a published inner row
+-- Who meets it: who gives up a pair row before it may be too late
 pub record CanLoadPast (v : View) (pair node : ℕ) : Type 0 where
   pub number : ℕ
   pub mine : v.who ≡ Caller number

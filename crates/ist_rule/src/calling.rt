@@ -1,4 +1,5 @@
-//! Beginning and ending calls and searches. Each is a load of word 0 that turns the view of its seat.
+//! Beginning and ending calls and searches. Each is a load of word 0 that turns the view of its
+//! seat.
 ghost use Rattle.std.specs.Prelude.{◌≡◌};
 ghost use Rattle.ist_core.specs.declared.calls.Call.{Call as CallOf};
 ghost use Rattle.ist_rule.specs.Learning.{Turned, beginning, searching, ending, giving_up};

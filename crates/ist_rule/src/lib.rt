@@ -1,5 +1,5 @@
-//! The table under its rule: between any two atomic steps its words are the image of a lawful log, and each step is one
-//! event of it or changes no state.
+//! The table under its rule: between any two atomic steps its words are the image of a lawful log,
+//! and each step is one event of it or changes no state.
 //!
 //! Read `specs/Lib.antt`, then `view.rt`, then `steps.rt`. Stands on `ist_core`,
 //! `ist_layout` and `atomic_table`.

@@ -25,8 +25,10 @@ pub fn open_table(
 ) -> Result<(TreeTable, TreeSeat), AllocError>
     requires opens { CanOpen pairs.now.items (length image.items) }
     requires image { IsImage (start pairs.now.items (length image.items)) image.items }
-    ensures table { IfOk result (λ t. (word_count_of t.0 ≡ length image.items) × (t.0.start ≡ pairs.now.items)) }
-    ensures seat { IfOk result (λ t. (t.1.table ≡ t.0.table) × (t.1.view ≡ opened_view pairs.now.items (length image.items))) }
+    ensures words { IfOk result (λ t. word_count_of t.0 ≡ length image.items) }
+    ensures start { IfOk result (λ t. t.0.start ≡ pairs.now.items) }
+    ensures same_table { IfOk result (λ t. t.1.table ≡ t.0.table) }
+    ensures seat { IfOk result (λ t. t.1.view ≡ opened_view pairs.now.items (length image.items)) }
 {
     let about = About {
         start: Snapshot::of(pairs),

@@ -45,7 +45,8 @@ impl Model for TreeSeat {
 
     ghost view = { λ s. record { table = s.seat.table_id; view = s.seat.me.0 } };
 
-    ghost invariant = { λ s. (s.seat.me.1 ≡ []) × IsSound s.seat.me.0 × (s.seat.me.0.words ≡ s.seat.table_id.words) };
+    ghost invariant = { λ s. (s.seat.me.1 ≡ []) × IsSound s.seat.me.0
+        × (s.seat.me.0.words ≡ s.seat.table_id.words) };
 }
 
 /// How many words the table has.

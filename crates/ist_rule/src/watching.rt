@@ -1,4 +1,5 @@
-//! Loads that are events: a status that shows a node open, a slot of a marked node, and beside a pair row that is given up.
+//! Loads that are events: a status that shows a node open, a slot of a marked node, and beside a
+//! pair row that is given up.
 ghost use Rattle.std.specs.Prelude.{◌≡◌, ◌+◌, ◌<◌};
 ghost use Rattle.ist_core.specs.RowLayout.{inner_status_offset};
 ghost use Rattle.ist_rule.specs.Faces.{word_count_of};
@@ -47,10 +48,10 @@ pub fn load_okay(table: &TreeTable, seat: &mut TreeSeat, change: u32, place: u64
     load_as::<Brand>(table, seat, place, change, 0)
 }
 
-/// Loads slot `index` of a node that was seen marked or finished. The slot lies at `place`.
+/// Loads slot `index` of a published node. The slot lies at `place`.
 ///
-/// Where the node isn't finished at this step and the word is neither a change nor Unset, the step is
-/// the Pass of the slot: it is frozen from then on. Meets an installing in the slot.
+/// Where the node is marked at this step, and not finished, and the word is neither a change nor
+/// Unset, the step is the Pass of the slot: it is frozen from then on. Meets an installing in it.
 pub fn load_pass(table: &TreeTable, seat: &mut TreeSeat, node: u32, index: u64, place: u64) -> u64
     requires same_table { seat.old.table ≡ table.now.table }
     requires may_load { CanLoadPass seat.old.view node index place }

@@ -2,6 +2,7 @@ use Rattle.std.proofs.Common.{◌≤◌, ◌∙◌, ap, length, Some, None, arit
 use Rattle.ist_core.specs.References.{LeafAt}
 use Rattle.ist_check.proofs.RowLemmas.{behind}
 use Rattle.ist_ideal.proofs.BuiltLemmas as built
+use Rattle.ist_ideal.proofs.BuiltSizeLemmas as sizes
 use Rattle.ist_ideal.proofs.ideals.+built.Goals as goal
 
 pub built-returns-then-names_nothing-clause-exact : goal.built-returns-then-names_nothing-clause-exact
@@ -23,18 +24,18 @@ built-returns-in-None-parts_built-clause-exact t c =
     let two : 2 ≤ length c.args.leaves.now = omega arith in
     built.counts_no_parts c.args.word c.args.leaves.now c.args.above c.args.rows.now c.row-item.result c.in-Some.base two c.in-len1-up.len_at_least c.row-item.is c.in-Some.ensures.exact.0
     c.in-Some-top_slots.slots.now c.in-Some-top_slots.ensures.exact
-    (built.parts_by_degree c.args.leaves.now c.degree_of.result c.in-Some-top_slots.slots.now c.in-Some.base (behind c.args.rows.now) None c.degree_of.ensures.value c.in-None-parts_built.ensures.exact)
+    (sizes.parts_by_degree c.args.leaves.now c.degree_of.result c.in-Some-top_slots.slots.now c.in-Some.base (behind c.args.rows.now) None c.degree_of.ensures.value c.in-None-parts_built.ensures.exact)
 
 pub built-returns-in-Some-parts_built-clause-exact : goal.built-returns-in-Some-parts_built-clause-exact
 built-returns-in-Some-parts_built-clause-exact t c =
     let two : 2 ≤ length c.args.leaves.now = omega arith in
     built.counts_parts c.args.word c.args.leaves.now c.args.above c.args.rows.now c.row-item.result c.in-Some.base two c.in-len1-up.len_at_least c.row-item.is c.in-Some.ensures.exact.0
     c.in-Some-top_slots.slots.now c.in-Some-top_slots.ensures.exact c.in-Some-parts_built.used c.if-row-base.false
-    (built.parts_by_degree c.args.leaves.now c.degree_of.result c.in-Some-top_slots.slots.now c.in-Some.base (behind c.args.rows.now) (Some c.in-Some-parts_built.used) c.degree_of.ensures.value c.in-Some-parts_built.ensures.exact)
+    (sizes.parts_by_degree c.args.leaves.now c.degree_of.result c.in-Some-top_slots.slots.now c.in-Some.base (behind c.args.rows.now) (Some c.in-Some-parts_built.used) c.degree_of.ensures.value c.in-Some-parts_built.ensures.exact)
 
 pub parts_built-built-requires : goal.parts_built-built-requires
 parts_built-built-requires t c =
-    let smaller = built.part_smaller c.args.n c.args.j c.part_end-end.result c.args.leaves.now (length c.args.slots.now) c.requires.two c.part_end-end.ensures.value in
+    let smaller = sizes.part_smaller c.args.n c.args.j c.part_end-end.result c.args.leaves.now (length c.args.slots.now) c.requires.two c.part_end-end.ensures.value in
     (omega (arith, c.decreases), tt)
 
 pub parts_built-returns-then-left-eq0-clause-exact : goal.parts_built-returns-then-left-eq0-clause-exact

@@ -26,4 +26,4 @@ store-requires-clause-within c =
 pub store-requires-clause-own : goal.store-requires-clause-own
 store-requires-clause-own c =
     subst (λ n. IsOwn c.args.who.now.seat.view (n + c.args.at)) (sym c.from.ensures)
-        (place_low _ _ _ c.know.ensures.sound c.requires.caller c.requires.held).0
+    (place_low _ _ _ c.know.ensures.sound c.requires.caller c.requires.held).0

@@ -12,7 +12,7 @@ pub take-requires-clause-fair : goal.take-requires-clause-fair
 take-requires-clause-fair g c =
     subst (MayTake c.args.who.now.seat.view c.args.who.now.number) (sym c.words.ensures.value)
     (may_take c.args.who.now c.args.kind c.know.ensures.sound c.requires.caller
-        (sym c.row.ensures.value ∙ c.in_default.is))
+    (sym c.row.ensures.value ∙ c.in_default.is))
 
 -- a refused caller is one still
 pub returns-in_err-base-clause-caller : goal.returns-in_err-base-clause-caller
@@ -23,10 +23,10 @@ returns-in_err-base-clause-caller g c =
 pub returns-clause-caller : goal.returns-clause-caller
 returns-clause-caller g c =
     let took = subst (λ size. Reserved c.args.who.now.seat.view c.args.who.now.number
-            c.in_ok-base.base size c.take.new.seat.view) c.words.ensures.value
-            c.in_ok-base.ensures.reserved in
+    c.in_ok-base.base size c.take.new.seat.view) c.words.ensures.value
+    c.in_ok-base.ensures.reserved in
     caller_reserved c.args.who.now c.hold.new.self c.args.kind c.in_ok-base.base c.requires.caller
-        (sym c.row.ensures.value ∙ c.in_default.is)
+    (sym c.row.ensures.value ∙ c.in_default.is)
     (subst (λ (seat : SeatFace). Reserved c.args.who.now.seat.view c.args.who.now.number
-        c.in_ok-base.base (kind_words c.args.kind) seat.view) (sym c.hold.ensures.same.0) took)
+    c.in_ok-base.base (kind_words c.args.kind) seat.view) (sym c.hold.ensures.same.0) took)
     c.hold.ensures.same.1 c.hold.ensures.value

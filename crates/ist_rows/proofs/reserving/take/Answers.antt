@@ -45,7 +45,7 @@ exchange-requires g c =
             (c.load-next.result + c.args.size) e)
             (sym (reserving_is v c.args.number c.load-next.result c.args.size who))
             (can_reserve v c.args.number _ _ looked.sound who (omega arith)
-                (may_take_on _ v c.args.number c.args.size on c.requires.fair)),
+            (may_take_on _ v c.args.number c.args.size on c.requires.fair)),
       ),
     )
 
@@ -67,7 +67,8 @@ returns-then-exchange-next-clause-reserved g c =
 pub loop-preserved : goal.loop-preserved
 loop-preserved g c =
     let looked = c.load-next.ensures.looked in
-    let on = goes_on_more _ _ _ c.loop.invariant.1 (looked_goes_on _ _ _ _ looked) in
-    (c.exchange.ensures.same_table ∙ c.load-next.ensures.same_table ∙ c.loop.invariant.0,
-        goes_on_more _ _ _ on (looked_goes_on _ _ _ _
-        (c.exchange.ensures.exchanged.1 c.if-exchange-next.false)))
+    let on = goes_on_more _ _ _ c.loop.invariant.1 (looked_goes_on _ _ _ _ looked) in (
+      c.exchange.ensures.same_table ∙ c.load-next.ensures.same_table ∙ c.loop.invariant.0,
+      goes_on_more _ _ _ on (looked_goes_on _ _ _ _
+          (c.exchange.ensures.exchanged.1 c.if-exchange-next.false)),
+    )

@@ -1,7 +1,7 @@
 use Rattle.std.proofs.Common.{sym, ap, subst, ◌∙◌, arith}
 use Rattle.ist_rule.specs.Faces.{SeatFace, TableFace}
 use Rattle.ist_rule.specs.Conditions.{CanBegin}
-use Rattle.ist_rule.proofs.TurnLemmas.{begins_moves}
+use Rattle.ist_rule.proofs.TurnedSeatLemmas.{begins_moves}
 use Rattle.ist_rule.proofs.calling.begin_as.Goals as goal
 
 -- a load that begins a call keeps the rule
@@ -9,7 +9,7 @@ pub load-requires : goal.load-requires
 load-requires g c =
     let i = c.table.invariant in
     let can = subst CanBegin (ap (λ (s : SeatFace). s.view) (sym c.seat.view_is))
-            c.requires.may_begin in (
+    c.requires.may_begin in (
       ap (λ (s : SeatFace). s.table) c.seat.view_is ∙ c.requires.same_table ∙ sym
           (ap (λ (t : TableFace). t.table) c.table.view_is),
       omega arith,

@@ -2,7 +2,7 @@ use Rattle.std.proofs.Common.{sym, ap, subst, ◌∙◌, arith}
 use Rattle.ist_rule.specs.declared.view.View.{View}
 use Rattle.ist_rule.specs.Faces.{SeatFace, TableFace}
 use Rattle.ist_rule.specs.Conditions.{CanEnd}
-use Rattle.ist_rule.proofs.TurnLemmas.{ends_moves}
+use Rattle.ist_rule.proofs.TurnedSeatLemmas.{ends_moves}
 use Rattle.ist_rule.proofs.calling.end_as.Goals as goal
 
 -- a load that ends a call keeps the rule
@@ -11,7 +11,7 @@ load-requires g c =
     let i = c.table.invariant in
     let v : View = c.seat.inside.seat.me.0 in
     let can = subst (λ (x : View). CanEnd x g.A.Answered.call)
-            (ap (λ (s : SeatFace). s.view) (sym c.seat.view_is)) c.requires.may_end in (
+    (ap (λ (s : SeatFace). s.view) (sym c.seat.view_is)) c.requires.may_end in (
       ap (λ (s : SeatFace). s.table) c.seat.view_is ∙ c.requires.same_table ∙ sym
           (ap (λ (t : TableFace). t.table) c.table.view_is),
       omega arith,

@@ -1,7 +1,7 @@
 use Rattle.std.proofs.Common.{sym, ap, subst, ◌∙◌, arith}
 use Rattle.ist_rule.specs.Faces.{SeatFace, TableFace}
 use Rattle.ist_rule.specs.Conditions.{CanGiveUp}
-use Rattle.ist_rule.proofs.TurnLemmas.{gives_up_moves}
+use Rattle.ist_rule.proofs.TurnedSeatLemmas.{gives_up_moves}
 use Rattle.ist_rule.proofs.calling.give_up.Goals as goal
 
 -- a load that gives up a call keeps the rule
@@ -9,7 +9,7 @@ pub load-requires : goal.load-requires
 load-requires c =
     let i = c.table.invariant in
     let can = subst CanGiveUp (ap (λ (s : SeatFace). s.view) (sym c.seat.view_is))
-            c.requires.may_give_up in (
+    c.requires.may_give_up in (
       ap (λ (s : SeatFace). s.table) c.seat.view_is ∙ c.requires.same_table ∙ sym
           (ap (λ (t : TableFace). t.table) c.table.view_is),
       omega arith,

@@ -12,8 +12,8 @@ of_words-requires c =
     let size : length c.args.image.items ≡ c.len.result = sym (c.len.ensures ∙ c.args.image.ok.0) in
     opens record { start = c.of.result; words = c.len.result } c.as_slice.result.now
     (subst (λ p. CanOpen p c.len.result) (sym pairs)
-        (subst (CanOpen c.args.pairs.now.items) size c.requires.opens))
+    (subst (CanOpen c.args.pairs.now.items) size c.requires.opens))
     (subst (λ p. IsImage (start p c.len.result) c.as_slice.result.now) (sym pairs)
     (subst (λ n. IsImage (start c.args.pairs.now.items n) c.as_slice.result.now) size
     (subst (IsImage (start c.args.pairs.now.items (length c.args.image.items)))
-        (sym c.as_slice.ensures.value) c.requires.image)))
+    (sym c.as_slice.ensures.value) c.requires.image)))

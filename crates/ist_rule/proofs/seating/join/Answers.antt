@@ -14,9 +14,9 @@ join_seat-requires c =
     let v : View = c.seat.inside.seat.me.0 in
     let w : View = c.other.inside.seat.me.0 in
     let can : CanJoin v w = subst (λ x. CanJoin x w)
-            (ap (λ (s : SeatFace). s.view) (sym c.seat.view_is))
+    (ap (λ (s : SeatFace). s.view) (sym c.seat.view_is))
     (subst (λ x. CanJoin c.args.seat.now.view x)
-        (ap (λ (s : SeatFace). s.view) (sym c.other.view_is)) c.requires.may_join) in (
+    (ap (λ (s : SeatFace). s.view) (sym c.other.view_is)) c.requires.may_join) in (
       ap (λ (s : SeatFace). s.table) c.seat.view_is ∙ c.requires.same_table ∙ sym
           (ap (λ (t : TableFace). t.table) c.table.view_is),
       ap (λ (s : SeatFace). s.table) c.other.view_is ∙ c.requires.other_table ∙ sym

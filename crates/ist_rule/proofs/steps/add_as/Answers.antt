@@ -10,7 +10,7 @@ fetch_add-requires g c =
     let w = ap (λ (t : TableFace). t.table.words) c.table.view_is in
     let p = c.requires.within in
     let can = subst (λ x. CanAdd x c.args.place g.N.NamedByWord.event)
-            (ap (λ (s : SeatFace). s.view) (sym c.seat.view_is)) c.requires.event in (
+    (ap (λ (s : SeatFace). s.view) (sym c.seat.view_is)) c.requires.event in (
       ap (λ (s : SeatFace). s.table) c.seat.view_is ∙ c.requires.same_table ∙ sym
           (ap (λ (t : TableFace). t.table) c.table.view_is),
       omega arith,

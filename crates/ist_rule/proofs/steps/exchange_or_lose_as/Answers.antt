@@ -10,8 +10,8 @@ compare_exchange-requires g c =
     let w = ap (λ (t : TableFace). t.table.words) c.table.view_is in
     let p = c.requires.within in
     let can = subst (λ x. CanExchangeOrLose x c.args.place c.args.old c.args.new
-            g.N.NamedEitherWay.events.0 g.N.NamedEitherWay.events.1)
-            (ap (λ (s : SeatFace). s.view) (sym c.seat.view_is)) c.requires.events in (
+    g.N.NamedEitherWay.events.0 g.N.NamedEitherWay.events.1)
+    (ap (λ (s : SeatFace). s.view) (sym c.seat.view_is)) c.requires.events in (
       ap (λ (s : SeatFace). s.table) c.seat.view_is ∙ c.requires.same_table ∙ sym
           (ap (λ (t : TableFace). t.table) c.table.view_is),
       omega arith,

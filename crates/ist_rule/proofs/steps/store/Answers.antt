@@ -12,7 +12,7 @@ store-requires c =
     let w = ap (λ (t : TableFace). t.table.words) c.table.view_is in
     let p = c.requires.within in
     let own = subst (λ x. IsOwn x c.args.place) (ap (λ (s : SeatFace). s.view) (sym c.seat.view_is))
-            c.requires.own in (
+    c.requires.own in (
       ap (λ (s : SeatFace). s.table) c.seat.view_is ∙ c.requires.same_table ∙ sym
           (ap (λ (t : TableFace). t.table) c.table.view_is),
       omega arith,
@@ -25,7 +25,7 @@ invariant_of-seat c =
     let e = c.store.ensures in
     let v : View = c.seat.inside.seat.me.0 in
     let own = subst (λ x. IsOwn x c.args.place) (ap (λ (s : SeatFace). s.view) (sym c.seat.view_is))
-            c.requires.own in (
+    c.requires.own in (
       e.2.1 ∙ c.seat.invariant.0,
       subst IsSound (sym e.2.0) (storing_sound v c.args.place c.args.word own c.seat.invariant.1),
       ap (λ (x : View). x.words) e.2.0 ∙ c.seat.invariant.2 ∙ sym (ap (λ t. t.words) e.0),

@@ -10,7 +10,7 @@ load-requires g c =
     let w = ap (λ (t : TableFace). t.table.words) c.table.view_is in
     let p = c.requires.within in
     let can = subst (λ x. CanLoadAs x c.args.place g.N.NamedByLog.event)
-            (ap (λ (s : SeatFace). s.view) (sym c.seat.view_is)) c.requires.event in (
+    (ap (λ (s : SeatFace). s.view) (sym c.seat.view_is)) c.requires.event in (
       ap (λ (s : SeatFace). s.table) c.seat.view_is ∙ c.requires.same_table ∙ sym
           (ap (λ (t : TableFace). t.table) c.table.view_is),
       omega arith,

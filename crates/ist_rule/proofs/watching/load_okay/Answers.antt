@@ -1,12 +1,13 @@
 use Rattle.std.proofs.Common.{ap, arith}
-use Rattle.ist_rule.proofs.WatchedLoadLemmas.{can_load_okay, known_low}
+use Rattle.ist_rule.proofs.WatchedLoadLemmas.{can_load_okay}
+use Rattle.ist_rule.proofs.KnownPlaceLemmas.{known_low}
 use Rattle.ist_rule.proofs.watching.load_okay.Goals as goal
 
 -- the place lies within the table
 pub load_as-requires-clause-within : goal.load_as-requires-clause-within
 load_as-requires-clause-within c =
     let low = known_low _ _ c.know.ensures.sound
-            (can_load_okay _ _ c.args.place c.know.ensures.sound c.requires.may_load).known in
+    (can_load_okay _ _ c.args.place c.know.ensures.sound c.requires.may_load).known in
     let known = c.know.ensures.words in
     let same = ap (λ t. t.words) c.requires.same_table in
     omega arith

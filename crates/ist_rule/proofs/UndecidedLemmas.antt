@@ -1,0 +1,193 @@
+-- Where undecided changes come from at each event, and which stay decided. Serves the conjunct `call`.
+use Rattle.std.proofs.Common.{◌≡◌, ◌≢◌, ℕ, Bool, true, false, List, [], ◌∷◌, Option, Some, option_map, sym, ap, ◌∙◌, subst, inl, inr}
+use Rattle.ist_core.specs.declared.commands.Command.{Command}
+use Rattle.ist_core.specs.declared.pairs.Pair.{Pair}
+use Rattle.ist_core.specs.declared.states.ChangeRow.{ChangeRow}
+use Rattle.ist_core.specs.declared.lists.Row.{Row}
+use Rattle.ist_core.specs.declared.events.Event.{Event}
+use Rattle.ist_core.specs.declared.events.Event.TheVariants.{Enter, Reserve, Install, Okay, Decide, Resolve, Count, Mark, Pass, Finish, Root, Draw, Place, Lose}
+use Rattle.ist_core.specs.Statuses.{undecided}
+use Rattle.ist_core.specs.Pieces.{Piece, Change, with_decision}
+use Rattle.ist_core.specs.Snapshots.{Snapshot}
+use Rattle.ist_core.specs.After.{decision_word}
+use Rattle.ist_core.specs.StartLayout.{start}
+use Rattle.ist_core.specs.Logs.{Log, state, Happened, Resolves}
+use Rattle.ist_core.specs.Growing.{ChangeGrows}
+use Rattle.ist_core.specs.Installing.{CanInstall}
+use Rattle.ist_core.specs.Rebuilding.{IsUpdate}
+use Rattle.ist_core.specs.Deciding.{AllResolvedOf}
+use Rattle.ist_core.specs.Enabled.{Enabled}
+use Rattle.ist_core.specs.Lawful.{EachEnabled, state_of}
+use Rattle.ist_core.specs.Changes.{command_of}
+use Rattle.ist_core.proofs.RowLemmas.{changed_at-same}
+use Rattle.ist_core.proofs.GrowingLemmas.{change_there}
+use Rattle.ist_core.proofs.StepLemmas.{grow_step}
+use Rattle.ist_core.proofs.SoundLemmas.{sound}
+use Rattle.ist_core.proofs.StartLemmas.{sound_start}
+use Rattle.ist_rule.specs.Standings.{IsUndecided}
+use Rattle.ist_rule.proofs.ChangeLemmas.{ChangeComes, stood, is_installed, change_comes, grows_same_change, grows_undecided}
+
+-- ---- changes that are undecided, and changes that are resolved
+
+-- an undecided put or remove behind an event was undecided, with the same command, or is the one
+-- that the event installs
+pub data UndecidedComes (first : Snapshot) (log : Log) (number base : ℕ)
+    (command : Option Command) : Event → Type 0 where
+  was_undecided : {event : Event} (u : IsUndecided (state first log) number base)
+      → command_of u.change ≡ command
+      → UndecidedComes first log number base command event
+  now_installed : {rows : List Row} (h : CanInstall first log number base rows)
+      → IsUpdate h.change.kind → command_of h.change ≡ command
+      → UndecidedComes first log number base command (Install number base rows)
+
+same_command : {old new : ChangeRow} → ChangeGrows old new → command_of new ≡ command_of old
+same_command g = ap command_of (g.others)
+
+module _ (pairs : List Pair) (words : ℕ) (log : Log) (event : Event)
+    (enabled : EachEnabled (start pairs words) (event ∷ log)) where
+  abbrev first : Snapshot
+  first = start pairs words
+
+  pub undecided_comes : (number base : ℕ)
+      (u : IsUndecided (state_of pairs words (event ∷ log)) number base)
+      → UndecidedComes first log number base (command_of u.change) event
+  undecided_comes number base u =
+      at (change_comes first log event enabled.1
+      (sound first log (sound_start pairs words) enabled.0) base u.change u.pending.published)
+    where
+      at : {e : Event} → ChangeComes first log base u.change e
+          → UndecidedComes first log number base (command_of u.change) e
+      at (stood old there g) =
+          let same = grows_same_change g in
+          was_undecided
+          record {
+            change = old;
+            pending = record { published = there; unset = grows_undecided g u.pending.unset };
+            owned = sym same.1 ∙ u.owned;
+            update = subst IsUpdate same.0 u.update;
+          }
+          (sym (same_command g))
+      at (is_installed {caller = caller} {rows = rows} h g) =
+          let same = grows_same_change g in
+          by (sym h.owned ∙ sym same.1 ∙ u.owned) h (subst IsUpdate same.0 u.update)
+          (sym (same_command g))
+        where
+          by : {c : ℕ} → c ≡ number → (k : CanInstall first log c base rows)
+              → IsUpdate k.change.kind → command_of k.change ≡ command_of u.change
+              → UndecidedComes first log number base (command_of u.change) (Install c base rows)
+          by {c} e = subst (λ n. (k : CanInstall first log n base rows) → IsUpdate k.change.kind
+              → command_of k.change ≡ command_of u.change
+              → UndecidedComes first log number base (command_of u.change) (Install n base rows))
+              (sym e) (λ k up co. now_installed k up co)
+
+  -- a change that is decided doesn't wait
+  pub decided_now : (by base : ℕ) (said : Bool) → event ≡ Decide by base said → (r : ChangeRow)
+      → (state_of pairs words log).pieces base ≡ Some (Change r)
+      → (new : ChangeRow) → (state_of pairs words (event ∷ log)).pieces base ≡ Some (Change new)
+      → new.decision ≢ undecided
+  decided_now by base said is r there new now =
+      at said (subst (λ e. (state first (e ∷ log)).pieces base ≡ Some (Change new)) is now)
+    where
+      at : (b : Bool) → (state first (Decide by base b ∷ log)).pieces base ≡ Some (Change new)
+          → new.decision ≢ undecided
+      at b e f =
+          let made = changed_at-same (state_of pairs words log).pieces base
+          (with_decision (decision_word b)) ∙ ap
+          (option_map (with_decision (decision_word b))) there in
+          word_decides b (ap (λ x. x.decision) (same_row _ _ (sym made ∙ e)) ∙ f)
+        where
+          same_row : (x y : ChangeRow) → Some (Change x) ≡ Some (Change y) → x ≡ y
+          same_row x y k = cc
+
+          word_decides : (b : Bool) → decision_word b ≢ undecided
+          word_decides true k = cc
+          word_decides false k = cc
+
+-- what was resolved is decided
+pub record IsDecided (t : Snapshot) (base : ℕ) : Type 0 where
+  pub change : ChangeRow
+  pub published : t.pieces base ≡ Some (Change change)
+  pub decided : change.decision ≢ undecided
+
+module _ (pairs : List Pair) (words : ℕ) where
+  decided_on : (log : Log) (event : Event) → EachEnabled (start pairs words) (event ∷ log)
+      → (base : ℕ)
+      → IsDecided (state_of pairs words log) base
+      → IsDecided (state_of pairs words (event ∷ log)) base
+  decided_on log event enabled base d =
+      let grow = grow_step (start pairs words) log event enabled.1
+      (sound (start pairs words) log (sound_start pairs words) enabled.0) in
+      let it = change_there (state_of pairs words log).pieces
+      (state_of pairs words (event ∷ log)).pieces grow base d.change d.published in
+      record {
+        change = it.0;
+        published = it.1;
+        decided =
+            λ e. d.decided (sym (it.2.decided d.decided) ∙ e);
+      }
+
+  resolved_now : (log : Log) (event : Event) → Enabled (start pairs words) log event → (base : ℕ)
+      → Resolves base event
+      → IsDecided (state_of pairs words log) base
+  resolved_now log (Resolve caller change) h base is =
+      subst (IsDecided (state_of pairs words log)) is record {
+        change = h.change;
+        published =
+            h.published;
+        decided = h.decided;
+      }
+  resolved_now log (Enter caller) h base is = absurd is
+  resolved_now log (Reserve caller b size) h base is = absurd is
+  resolved_now log (Install caller change rows) h base is = absurd is
+  resolved_now log (Okay caller change) h base is = absurd is
+  resolved_now log (Decide caller change said) h base is = absurd is
+  resolved_now log (Count caller node) h base is = absurd is
+  resolved_now log (Mark caller node) h base is = absurd is
+  resolved_now log (Pass caller node i word) h base is = absurd is
+  resolved_now log (Finish caller node keys) h base is = absurd is
+  resolved_now log (Root caller rebuild word rows) h base is = absurd is
+  resolved_now log (Draw caller rebuild part) h base is = absurd is
+  resolved_now log (Place caller rebuild i word rows) h base is = absurd is
+  resolved_now log (Lose caller bases) h base is = absurd is
+
+  -- a change that was resolved is decided
+  pub resolved_decided : (log : Log) → EachEnabled (start pairs words) log → (base : ℕ)
+      → Happened (Resolves base) log
+      → IsDecided (state_of pairs words log) base
+  resolved_decided [] enabled base is = absurd is
+  resolved_decided (event ∷ log) enabled base (inl is) =
+      decided_on log event enabled base (resolved_now log event enabled.1 base is)
+  resolved_decided (event ∷ log) enabled base (inr is) =
+      decided_on log event enabled base (resolved_decided log enabled.0 base is)
+
+  -- where all is resolved, nothing is undecided
+  pub none_undecided : (log : Log) → EachEnabled (start pairs words) log → (number : ℕ)
+      → AllResolvedOf (state_of pairs words log) log number → (base : ℕ)
+      → ¬ (IsUndecided (state_of pairs words log) number base)
+  none_undecided log enabled number all base u =
+      let d = resolved_decided log enabled base (all base u.change u.pending.published u.owned) in
+      d.decided (ap (λ r. r.decision)
+      (same_row ((state_of pairs words log).pieces base) d.change u.change d.published
+      u.pending.published) ∙ u.pending.unset)
+    where
+      same_row : (o : Option Piece) (r s : ChangeRow) → o ≡ Some (Change r) → o ≡ Some (Change s)
+          → r ≡ s
+      same_row o r s e f = cc
+
+  -- what is resolved stays so, where the caller installs nothing
+  pub resolved_on : (log : Log) (event : Event) → EachEnabled (start pairs words) (event ∷ log)
+      → (number : ℕ)
+      → ((base : ℕ) (rows : List Row) → event ≢ Install number base rows)
+      → AllResolvedOf (state_of pairs words log) log number
+      → AllResolvedOf (state_of pairs words (event ∷ log)) (event ∷ log) number
+  resolved_on log event enabled number idle all base r there owned =
+      inr (at (change_comes (start pairs words) log event enabled.1
+      (sound (start pairs words) log (sound_start pairs words) enabled.0) base r there) idle)
+    where
+      at : {e : Event} → ChangeComes (start pairs words) log base r e
+          → ((b : ℕ) (rows : List Row) → e ≢ Install number b rows)
+          → Happened (Resolves base) log
+      at (stood past was g) out = all base past was (sym (grows_same_change g).1 ∙ owned)
+      at (is_installed {rows = rows} h g) out =
+          absurd (out base rows (ap (λ c. Install c base rows)
+          (sym h.owned ∙ sym (grows_same_change g).1 ∙ owned)))

@@ -1,0 +1,17 @@
+pub mod LaterLemmas
+pub mod WordLemmas
+pub mod SlotWordLemmas
+pub mod HoldingLemmas
+pub mod OwnLemmas
+pub mod SetLemmas
+pub mod IdealLemmas
+pub mod NodeEventLemmas
+pub mod ChangeEventLemmas
+pub mod InstallEventLemmas
+pub mod CountEventLemmas
+pub mod BuildEventLemmas
+pub mod SpareEventLemmas
+pub mod QuietLemmas
+pub mod TouchLemmas
+pub mod FoundWordLemmas
+pub mod NeedLemmas

@@ -1,0 +1,169 @@
+-- The stability law: an event that is enabled stays enabled under events of others. `src/laws.rt`
+-- lists its clauses.
+use Rattle.std.specs.Prelude.{Bool, List, Some, ℕ, ◌+◌, ◌≡◌}
+use Rattle.ist_core.specs.declared.events.Event.{Event}
+use Rattle.ist_core.specs.declared.events.Event.TheVariants.{Count, Decide, Draw, Enter, Finish, Install, Lose, Mark, Okay, Pass, Place, Reserve, Resolve, Root}
+use Rattle.ist_core.specs.declared.lists.Row.{Row}
+use Rattle.ist_core.specs.declared.pairs.Pair.{Pair}
+use Rattle.ist_core.specs.declared.states.ChangeRow.{ChangeRow}
+use Rattle.ist_core.specs.Deciding.{AllResolvedOf}
+use Rattle.ist_core.specs.Enabled.{Enabled}
+use Rattle.ist_core.specs.ImageLaws.{IsNoLose}
+use Rattle.ist_core.specs.Lawful.{Lawful, state_of}
+use Rattle.ist_core.specs.Logs.{GoesOn, Log}
+use Rattle.ist_core.specs.RowLayout.{rebuild_draw_offset}
+use Rattle.ist_core.specs.Snapshots.{Snapshot}
+use Rattle.ist_core.specs.StartLayout.{start}
+use Rattle.ist_core.specs.Writing.{first_change, touch_of}
+use Rattle.ist_stability.specs.Meanwhile.{IsMarked, IsUndecided, NoneAccepted, NoneRefused}
+use Rattle.ist_stability.specs.Others.{GoesOnByOthers, author}
+use Rattle.ist_stability.specs.Words.{FindsItsWord, PlaceHas}
+
+-- where the event is enabled behind a log, it is so behind each longer lawful log whose further
+-- events are made by others, if P is true of the states behind the two logs
+abbrev pub StaysWhere : (Snapshot → Snapshot → Type 0) → Event → Type 0
+StaysWhere P event =
+    (pairs : List Pair) (words : ℕ) (earlier log : Log) → Lawful pairs words log
+    → GoesOnByOthers (author event) earlier log → Enabled (start pairs words) earlier event
+    → P (state_of pairs words earlier) (state_of pairs words log)
+    → Enabled (start pairs words) log event
+
+-- the event stays enabled where its word is still the one that it is to find
+abbrev pub StaysAtItsWord : Event → Type 0
+StaysAtItsWord event = StaysWhere (λ t u. FindsItsWord t u event) event
+
+-- the event stays enabled, whatever its word
+abbrev pub StaysAlways : Event → Type 0
+StaysAlways event = StaysWhere (λ t u. Unit {0}) event
+
+-- ---- events that need their word alone, or nothing
+
+-- an Enter needs nothing: others than the maker enter no one
+abbrev pub EntersStay : Type 0
+EntersStay = (caller : ℕ) → StaysAlways (Enter caller)
+
+-- a Reserve needs the first free word
+abbrev pub ReservesStay : Type 0
+ReservesStay = (caller base size : ℕ) → StaysAtItsWord (Reserve caller base size)
+
+-- a Decide, whether yes or no, needs the change undecided
+abbrev pub DecidesStay : Type 0
+DecidesStay = (caller base : ℕ) (said : Bool) → StaysAtItsWord (Decide caller base said)
+
+-- a Resolve needs the change in its slot
+abbrev pub ResolvesStay : Type 0
+ResolvesStay = (caller base : ℕ) → StaysAtItsWord (Resolve caller base)
+
+-- a Mark needs the node open
+abbrev pub MarksStay : Type 0
+MarksStay = (caller node : ℕ) → StaysAtItsWord (Mark caller node)
+
+-- a Finish needs the node marked
+abbrev pub FinishesStay : Type 0
+FinishesStay = (caller node keys : ℕ) → StaysAtItsWord (Finish caller node keys)
+
+-- a Root needs the rebuild without a root
+abbrev pub RootsStay : Type 0
+RootsStay =
+    (caller rebuild word : ℕ) (rows : List Row)
+    → StaysAtItsWord (Root caller rebuild word rows)
+
+-- a Place needs the slot Unset
+abbrev pub PlacesStay : Type 0
+PlacesStay =
+    (caller rebuild i word : ℕ) (rows : List Row)
+    → StaysAtItsWord (Place caller rebuild i word rows)
+
+-- a Draw needs the draw word
+abbrev pub DrawsStay : Type 0
+DrawsStay = (caller rebuild part : ℕ) → StaysAtItsWord (Draw caller rebuild part)
+
+-- where the draw word has risen, the Draw of the part that it names then is enabled
+abbrev pub DrawsGoOn : Type 0
+DrawsGoOn =
+    (pairs : List Pair) (words : ℕ) (earlier log : Log) → Lawful pairs words log
+    → (caller rebuild part now : ℕ) → GoesOnByOthers (Some caller) earlier log
+    → Enabled (start pairs words) earlier (Draw caller rebuild part)
+    → PlaceHas (state_of pairs words log) (rebuild + rebuild_draw_offset) now
+    → Enabled (start pairs words) log (Draw caller rebuild now)
+
+-- a Lose touches no word, and needs nothing
+abbrev pub LosesStay : Type 0
+LosesStay = (caller : ℕ) (bases : List ℕ) → StaysAlways (Lose caller bases)
+
+-- ---- events that others may take away though their word stays
+
+-- an Install needs `from` in its slot, and that no change of the caller on that node was decided no
+-- meanwhile
+abbrev pub InstallsStay : Type 0
+InstallsStay =
+    (caller base : ℕ) (rows : List Row)
+    → StaysWhere
+    (λ t u. FindsItsWord t u (Install caller base rows)
+    × ((change : ChangeRow) → first_change rows ≡ Some change
+    → NoneRefused t u caller change.node))
+    (Install caller base rows)
+
+-- a Count needs no word of its own, but that no put or remove of the caller was decided yes
+-- meanwhile
+abbrev pub CountsStay : Type 0
+CountsStay = (caller node : ℕ) → StaysWhere (λ t u. NoneAccepted t u caller) (Count caller node)
+
+-- an Okay loads a status, and needs the change undecided too
+abbrev pub OkaysStay : Type 0
+OkaysStay =
+    (caller base : ℕ)
+    → StaysWhere (λ t u. FindsItsWord t u (Okay caller base) × IsUndecided u base)
+    (Okay caller base)
+
+-- a Pass loads a slot, and needs the node marked too
+abbrev pub PassesStay : Type 0
+PassesStay =
+    (caller node i word : ℕ)
+    → StaysWhere (λ t u. FindsItsWord t u (Pass caller node i word) × IsMarked u node)
+    (Pass caller node i word)
+
+-- ---- the premises
+
+-- where all that the caller installed is resolved, nothing of it is pending, so that nothing of it
+-- is decided meanwhile
+abbrev pub ResolvedChangesAreQuiet : Type 0
+ResolvedChangesAreQuiet =
+    (pairs : List Pair) (words : ℕ) (earlier log : Log) → Lawful pairs words log
+    → GoesOn earlier log → (caller : ℕ)
+    → AllResolvedOf (state_of pairs words earlier) earlier caller
+    → ((node : ℕ)
+    → NoneRefused (state_of pairs words earlier) (state_of pairs words log) caller node)
+    × NoneAccepted (state_of pairs words earlier) (state_of pairs words log) caller
+
+-- ---- places
+
+-- a place has one word at most
+abbrev pub PlacesHaveOneWord : Type 0
+PlacesHaveOneWord =
+    (pairs : List Pair) (words : ℕ) (log : Log) → Lawful pairs words log → (place word other : ℕ)
+    → PlaceHas (state_of pairs words log) place word
+    → PlaceHas (state_of pairs words log) place other
+    → word ≡ other
+
+-- where an event but a Lose is enabled, its word is the one that it is to find
+abbrev pub EventsFindTheirWord : Type 0
+EventsFindTheirWord =
+    (pairs : List Pair) (words : ℕ) (log : Log) (event : Event) → Lawful pairs words log
+    → Enabled (start pairs words) log event → IsNoLose event
+    → FindsItsWord (state_of pairs words log) (state_of pairs words log) event
+
+-- every event but an Enter, a Count and a Draw, which add to what they find
+abbrev pub AddsNothing : Event → Type 0
+AddsNothing (Enter caller) = ⊥
+AddsNothing (Count caller node) = ⊥
+AddsNothing (Draw caller rebuild part) = ⊥
+AddsNothing _ = Unit {0}
+
+-- such an event touches behind the longer log what it touched behind the shorter one: the same
+-- place, to find and to leave there the same words
+abbrev pub TouchesStay : Type 0
+TouchesStay =
+    (pairs : List Pair) (words : ℕ) (earlier log : Log) (event : Event) → Lawful pairs words log
+    → GoesOn earlier log → Enabled (start pairs words) earlier event → AddsNothing event
+    → touch_of (state_of pairs words log) event ≡ touch_of (state_of pairs words earlier) event
