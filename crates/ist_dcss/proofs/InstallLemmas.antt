@@ -37,7 +37,7 @@ use Rattle.ist_rule.proofs.FitLemmas.{each_map}
 use Rattle.ist_rule.proofs.ShownLemmas.{held_loose}
 use Rattle.ist_rule.proofs.HeldLemmas.{held_later}
 use Rattle.ist_rule.proofs.ChangeLemmas.{ChangeComes, stood, is_installed, change_comes}
-use Rattle.ist_rule.proofs.StandingLemmas.{resolved_decided}
+use Rattle.ist_rule.proofs.UndecidedLemmas.{resolved_decided}
 use Rattle.ist_rule.proofs.CallLemmas.{between_later, resolved_later}
 use Rattle.ist_dcss.specs.Installing.{Filling, rows_of, IsInstallable}
 use Rattle.ist_dcss.specs.Naming.{IsFilled, IsSlot}

@@ -3,7 +3,7 @@ use Rattle.ist_core.specs.declared.events.Event.{Event}
 use Rattle.ist_core.specs.Pieces.{Change}
 use Rattle.ist_rule.specs.Conditions.{CanExchange}
 use Rattle.ist_rule.specs.Learning.{Exchanged}
-use Rattle.ist_rule.proofs.WatchedLoadLemmas.{known_low}
+use Rattle.ist_rule.proofs.KnownPlaceLemmas.{known_low}
 use Rattle.ist_dcss.specs.Helping.{is_yes}
 use Rattle.ist_dcss.specs.Naming.{IsField}
 use Rattle.ist_dcss.proofs.GoingLemmas.{helped_more}

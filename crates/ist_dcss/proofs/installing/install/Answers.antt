@@ -3,7 +3,7 @@ use Rattle.ist_core.specs.declared.events.Event.{Event}
 use Rattle.ist_rule.specs.Learning.{Logged}
 use Rattle.ist_rule.specs.Conditions.{CanExchange}
 use Rattle.ist_rule.proofs.GoingOnLemmas.{goes_on_more, goes_on_who}
-use Rattle.ist_rule.proofs.WatchedLoadLemmas.{known_low}
+use Rattle.ist_rule.proofs.KnownPlaceLemmas.{known_low}
 use Rattle.ist_dcss.specs.declared.decisions.Installed.TheVariants.{Other}
 use Rattle.ist_dcss.specs.Installing.{IsOther}
 use Rattle.ist_dcss.proofs.InstallLemmas.{filled, filled_on, can_install}
