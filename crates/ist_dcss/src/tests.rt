@@ -1,4 +1,4 @@
-//! The worked row: one caller installs a put, and both help it.
+//! A worked example: one caller installs a put, and both help it.
 ghost use Rattle.std.specs.Prelude.{◌≡◌, ◌+◌, ◌<◌, ◌≤◌, [], None, Some, IfOk};
 ghost use Rattle.ist_core.specs.RowLayout.{place_limit};
 ghost use Rattle.ist_core.specs.Enabled.{caller_limit};
@@ -136,7 +136,7 @@ fn help_met(table: &TreeTable, who: &mut Caller) -> Option<Decision>
 }
 
 #[test]
-fn the_worked_row(rt: HostRuntime) -> Result<(), Fail> {
+fn the_worked_example(rt: HostRuntime) -> Result<(), Fail> {
     let (table, mut maker) = empty_table(rt.alloc(), 26)?;
     let mut first = enter(&table, &mut maker);
     let mut second = enter(&table, &mut maker);

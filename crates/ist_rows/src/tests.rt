@@ -1,4 +1,4 @@
-//! The worked row, seats that part and meet, and two threads that reserve until the table is full.
+//! A worked example, seats that part and meet, and two threads that reserve until the table is full.
 ghost use Rattle.std.specs.Prelude.{◌≡◌, ◌≤◌, [], IfOk};
 ghost use Rattle.ist_core.specs.RowLayout.{place_limit};
 ghost use Rattle.ist_rule.specs.Rule.{opened_view};
@@ -27,7 +27,7 @@ fn empty_table(alloc: Global, words: usize) -> Result<(TreeTable, TreeSeat), All
 }
 
 #[test]
-fn the_worked_row(rt: HostRuntime) -> Result<(), Fail> {
+fn the_worked_example(rt: HostRuntime) -> Result<(), Fail> {
     let (table, mut maker) = empty_table(rt.alloc(), 14)?;
     let mut first = enter(&table, &mut maker);
     let second = enter(&table, &mut maker);

@@ -1,6 +1,6 @@
 use Rattle.std.proofs.Common.{arith}
 use Rattle.ist_rows.specs.declared.kinds.Kind.TheVariants.{Leaf}
-use Rattle.ist_rows.proofs.tests.the_worked_row.Goals as goal
+use Rattle.ist_rows.proofs.tests.the_worked_example.Goals as goal
 
 -- the caller holds its leaf row
 pub fill-requires-clause-held : goal.fill-requires-clause-held
