@@ -1,5 +1,5 @@
 //! Entering: one caller more.
-ghost use Rattle.std.specs.Prelude.{◌≡◌, ◌+◌, ◌<◌, ◌-◌, ◌^◌};
+ghost use Rattle.std.specs.Prelude.{◌≡◌, ◌+◌, ◌<◌, ◌-◌, ◌^◌, [], None};
 ghost use Rattle.ist_rule.specs.declared.view.Who.TheVariants.{Maker};
 ghost use Rattle.ist_core.specs.Enabled.{caller_limit};
 ghost use Rattle.ist_rows.specs.Rows.{IsCaller, spares_of, no_spares};
@@ -21,6 +21,9 @@ pub fn enter(table: &TreeTable, maker: &mut TreeSeat) -> Caller
     ensures maker_table { maker.new.table ≡ table.now.table }
     ensures number { result.number ≡ maker.old.view.made }
     ensures no_rows { spares_of result ≡ no_spares }
+    ensures no_calls { result.seat.view.calls ≡ [] }
+    ensures in_none { result.seat.view.pending ≡ None }
+    ensures seen { result.seat.view.log ≡ maker.new.view.log }
     ensures made { (maker.new.view.who ≡ Maker) × (maker.new.view.made ≡ maker.old.view.made + 1) }
     ensures given { maker.new.view.given ≡ maker.new.view.made }
 {
