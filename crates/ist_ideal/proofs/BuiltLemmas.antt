@@ -7,7 +7,7 @@ use Rattle.ist_core.specs.References.{Ref, Empty, LeafAt, InnerAt, ref_of}
 use Rattle.ist_core.specs.Parts.{cut, parts}
 use Rattle.ist_core.specs.Pieces.{Inner, inner_of}
 use Rattle.ist_core.specs.Leaves.{PlacedLeaf}
-use Rattle.ist_check.proofs.RowLemmas.{behind, split_first}
+use Rattle.ist_enabled.proofs.RowLemmas.{behind, split_first}
 use Rattle.ist_ideal.specs.Built.{lens_from, IsTopRow, Builds, builds_none, builds_one, builds_more, BuildsAll, builds_end, builds_part, BuildsAt, Counts, HasTopSlots}
 use Rattle.ist_ideal.proofs.GatherLemmas.{first_word}
 use Rattle.ist_ideal.proofs.PartCutLemmas.{from, from-drop, cut_first, cut_last}

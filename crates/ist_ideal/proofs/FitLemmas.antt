@@ -14,8 +14,8 @@ use Rattle.ist_core.specs.Rebuilding.{IsStarted, IsFinishedWith}
 use Rattle.ist_core.specs.Building.{IsRoot, root_whole, root_top, CanRoot, CanPlace}
 use Rattle.ist_core.proofs.LeafLemmas.{same_leaves}
 use Rattle.ist_core.proofs.RisingLemmas.{each_of_cut, part_of_each}
-use Rattle.ist_check.specs.Mirroring.{RowHolds}
-use Rattle.ist_check.proofs.MirrorLemmas.{one_inner, one_rebuild}
+use Rattle.ist_enabled.specs.Mirroring.{RowHolds}
+use Rattle.ist_enabled.proofs.MirrorLemmas.{one_inner, one_rebuild}
 use Rattle.ist_ideal.specs.Standing.{HeldAreFree}
 use Rattle.ist_ideal.specs.Reading.{Gathers}
 use Rattle.ist_ideal.specs.Publishing.{MayPublish, HasRoot, HasPart, IsPartOf}

@@ -11,9 +11,9 @@ use Rattle.ist_core.specs.Snapshots.{Snapshot}
 use Rattle.ist_core.specs.Slots.{logical}
 use Rattle.ist_core.specs.Leaves.{PlacedLeaf, HasLeaves, SlotsHaveLeaves, none_here, leaf_here, row_here, no_slot, one_slot}
 use Rattle.ist_core.proofs.LeafLemmas.{reached, slots_reached}
-use Rattle.ist_check.specs.declared.replicas.Replica.{Replica}
-use Rattle.ist_check.specs.Mirroring.{Mirrors}
-use Rattle.ist_check.proofs.RowLemmas.{behind}
+use Rattle.ist_enabled.specs.declared.replicas.Replica.{Replica}
+use Rattle.ist_enabled.specs.Mirroring.{Mirrors}
+use Rattle.ist_enabled.proofs.RowLemmas.{behind}
 use Rattle.ist_ideal.specs.Standing.{IsAbove, SlotsAbove}
 use Rattle.ist_ideal.specs.Reading.{Gathers}
 

@@ -6,7 +6,7 @@ use Rattle.std.proofs.Math.ListN.{drop_of_length-le}
 use Rattle.ist_core.specs.Arithmetic.{part_len}
 use Rattle.ist_core.specs.Parts.{cut, first_keys}
 use Rattle.ist_core.specs.Leaves.{PlacedLeaf}
-use Rattle.ist_check.proofs.RowLemmas.{behind}
+use Rattle.ist_enabled.proofs.RowLemmas.{behind}
 use Rattle.ist_ideal.specs.Built.{lens_from, key_of_leaf}
 use Rattle.ist_ideal.proofs.GatherLemmas.{first_word}
 

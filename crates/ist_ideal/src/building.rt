@@ -4,16 +4,16 @@ ghost use Rattle.ist_core.specs.References.{unset_word};
 ghost use Rattle.ist_core.specs.Elements.{Among, Distinct};
 ghost use Rattle.ist_core.specs.Snapshots.{Snapshot, bases_of, HoldsRows};
 ghost use Rattle.ist_core.specs.Building.{CanRoot, CanPlace};
-ghost use Rattle.ist_check.specs.Mirroring.{Mirrors, RowHolds};
-ghost use Rattle.ist_check.specs.Remembering.{KnowsStarts};
+ghost use Rattle.ist_enabled.specs.Mirroring.{Mirrors, RowHolds};
+ghost use Rattle.ist_enabled.specs.Remembering.{KnowsStarts};
 ghost use Rattle.ist_ideal.specs.Standing.{RowsRise, HeldAreFree};
 ghost use Rattle.ist_ideal.specs.Publishing.{MayPublish, HasRoot, HasPart, IsPartOf};
 
 use crate::ideals::nth_part;
 use crate::leaves::{FoundLeaf, add_leaves};
 use crate::roots::{is_ideal, is_root};
-use ist_check::{Past, Replica, degree_of, finished_keys, holds_at, holds_rows, inner_of_word};
 use ist_core::Row;
+use ist_enabled::{Past, Replica, degree_of, finished_keys, holds_at, holds_rows, inner_of_word};
 use std::alloc::{AllocError, Global};
 
 /// The word of a part of a shared root that isn't built yet.

@@ -7,8 +7,8 @@ ghost use Rattle.ist_core.specs.Parts.{cut, first_keys};
 ghost use Rattle.ist_ideal.specs.Built.{lens_from, key_of_leaf, HasTopSlots, BuildsAt, BuildsAll, Counts};
 
 use crate::leaves::FoundLeaf;
-use ist_check::{degree_of, inner_of_word, leaf_of_word, names_nothing, part_len_of};
 use ist_core::Row;
+use ist_enabled::{degree_of, inner_of_word, leaf_of_word, names_nothing, part_len_of};
 
 /// The status of a row that was never touched.
 const OPEN_WORD: u64 = 0;

@@ -3,13 +3,13 @@ ghost use Rattle.std.specs.Prelude.{◌≡◌, IfOk, Option, Some};
 ghost use Rattle.ist_core.specs.References.{Ref, InnerAt, LeafAt};
 ghost use Rattle.ist_core.specs.Snapshots.{Snapshot};
 ghost use Rattle.ist_core.specs.Leaves.{HasLeaves, SlotsHaveLeaves};
-ghost use Rattle.ist_check.specs.Mirroring.{Mirrors};
+ghost use Rattle.ist_enabled.specs.Mirroring.{Mirrors};
 ghost use Rattle.ist_ideal.specs.Standing.{RowsRise, SlotsAbove, IsAbove};
 ghost use Rattle.ist_ideal.specs.Reading.{Gathers, IsReading};
 
 use crate::readings::{Reading, read_slot};
-use ist_check::Replica;
 use ist_core::LeafRow;
+use ist_enabled::Replica;
 use std::alloc::AllocError;
 use std::marker::Model;
 

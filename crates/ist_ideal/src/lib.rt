@@ -2,7 +2,7 @@
 //! rebuild's target.
 //!
 //! Read `specs/Lib.antt`, then `readings.rt`, `leaves.rt`, `ideals.rt` and `building.rt`. Stands on
-//! `ist_core`, `ist_layout`, `ist_math` and `ist_check`.
+//! `ist_core`, `ist_layout`, `ist_math` and `ist_enabled`.
 #![tactic(auto)]
 
 mod building;

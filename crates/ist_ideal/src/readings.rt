@@ -6,11 +6,11 @@ ghost use Rattle.ist_core.specs.Snapshots.{Snapshot};
 ghost use Rattle.ist_core.specs.After as after;
 ghost use Rattle.ist_core.specs.Slots as slots;
 ghost use Rattle.ist_layout.specs.Meanings.{ref_meant};
-ghost use Rattle.ist_check.specs.Mirroring.{Mirrors};
+ghost use Rattle.ist_enabled.specs.Mirroring.{Mirrors};
 ghost use Rattle.ist_ideal.specs.Reading.{IsReading};
 
-use ist_check::Replica;
 use ist_core::ChangeRow;
+use ist_enabled::Replica;
 use ist_layout::{DECIDED_YES, Ref};
 
 /// What a slot reads as, as far as leaves lie below it.

@@ -5,8 +5,8 @@ ghost use Rattle.ist_ideal.specs.Built.{BuildsAt, IsTopAlone, IsRootOf};
 
 use crate::ideals::{built, top_slots};
 use crate::leaves::FoundLeaf;
-use ist_check::{degree_of, inner_of_word};
 use ist_core::Row;
+use ist_enabled::{degree_of, inner_of_word};
 use ist_math::SHARE_FROM;
 
 /// The word of a part of a shared root that isn't built yet.

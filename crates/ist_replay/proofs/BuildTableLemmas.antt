@@ -13,7 +13,7 @@ use Rattle.ist_core.specs.Snapshots.{sizes_of}
 use Rattle.ist_core.specs.Logs.{Log}
 use Rattle.ist_core.specs.Building.{IsBeaten}
 use Rattle.ist_core.proofs.ElementLemmas.{among-append, among_left, among_right}
-use Rattle.ist_check.specs.Remembering.{seen_builds}
+use Rattle.ist_enabled.specs.Remembering.{seen_builds}
 use Rattle.ist_replay.specs.Remembered.{BuildsSeen, TellsBuilds}
 use Rattle.ist_replay.proofs.TableLemmas.{updated_here, updated_other}
 

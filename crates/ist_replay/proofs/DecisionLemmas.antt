@@ -29,8 +29,8 @@ use Rattle.ist_core.proofs.AddingLemmas.{IsInstalled, adds_install, adds-with_in
 use Rattle.ist_core.proofs.GrowingLemmas.{change_there}
 use Rattle.ist_core.proofs.StepLemmas.{rows_resolved, rows_placed, holds_installed, known, grow_step}
 use Rattle.ist_core.proofs.TreeLemmas.{IsTreeRow, root_tree, tree_of_ideal, tree_rows}
-use Rattle.ist_check.specs.Answers.{Holds}
-use Rattle.ist_check.specs.Remembering.{KnowsStarts}
+use Rattle.ist_enabled.specs.Answers.{Holds}
+use Rattle.ist_enabled.specs.Remembering.{KnowsStarts}
 use Rattle.ist_replay.specs.Remembered.{Starts}
 
 -- ---- fresh rows are undecided

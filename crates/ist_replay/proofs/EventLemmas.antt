@@ -8,8 +8,8 @@ use Rattle.ist_core.specs.References.{InnerAt, ref_of}
 use Rattle.ist_core.specs.Pieces.{Pieces, change_of, changed_at, with_slot, with_decision}
 use Rattle.ist_core.specs.Snapshots.{Snapshot, bases_of, without}
 use Rattle.ist_core.specs.After.{after, decision_word, with_change, installed, with_part, placed}
-use Rattle.ist_check.specs.declared.replicas.Replica.{Replica}
-use Rattle.ist_check.specs.Mirroring.{Mirrors}
+use Rattle.ist_enabled.specs.declared.replicas.Replica.{Replica}
+use Rattle.ist_enabled.specs.Mirroring.{Mirrors}
 
 -- the event is the one that was matched
 pub by_event : (r : Replica) (t : Snapshot) (e f : Event) → e ≡ f → Mirrors r (after t f) → Mirrors r (after t e)

@@ -8,9 +8,9 @@ use Rattle.ist_core.specs.Statuses.{start_kind}
 use Rattle.ist_core.specs.Pieces.{Change, change_of, leaf_of, inner_of, rebuild_of, with_row}
 use Rattle.ist_core.specs.Snapshots.{Snapshot, with_slot_at}
 use Rattle.ist_core.specs.After.{with_fresh, with_change, installed}
-use Rattle.ist_check.specs.declared.replicas.Replica.{Replica}
-use Rattle.ist_check.specs.Mirroring.{Mirrors}
-use Rattle.ist_check.proofs.RowLemmas.{behind, split_first}
+use Rattle.ist_enabled.specs.declared.replicas.Replica.{Replica}
+use Rattle.ist_enabled.specs.Mirroring.{Mirrors}
+use Rattle.ist_enabled.proofs.RowLemmas.{behind, split_first}
 
 -- a test that holds chooses the first, and one that fails the second
 pub start_chosen : {A : Type 0} (kind : ℕ) (a b : A) → kind ≡ start_kind → a ≡ (if kind == start_kind then a else b)

@@ -4,9 +4,9 @@ use Rattle.std.proofs.lemmas.List.{take_min}
 use Rattle.ist_core.specs.declared.lists.Row.{Row}
 use Rattle.ist_core.specs.Pieces.{Piece, Leaf, Inner, Rebuild, leaf_of, inner_of, rebuild_of, with_row, with_inners}
 use Rattle.ist_core.specs.Snapshots.{Snapshot}
-use Rattle.ist_check.specs.declared.replicas.Replica.{Replica}
-use Rattle.ist_check.specs.Mirroring.{Mirrors}
-use Rattle.ist_check.proofs.RowLemmas.{behind, split_first}
+use Rattle.ist_enabled.specs.declared.replicas.Replica.{Replica}
+use Rattle.ist_enabled.specs.Mirroring.{Mirrors}
+use Rattle.ist_enabled.proofs.RowLemmas.{behind, split_first}
 use Rattle.ist_ideal.proofs.PartCutLemmas.{from, from-drop, drop_min}
 
 -- the replica mirrors a snapshot with other rows, if these are the same

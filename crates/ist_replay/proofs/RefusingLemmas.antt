@@ -16,8 +16,8 @@ use Rattle.ist_core.specs.Logs.{Log}
 use Rattle.ist_core.specs.StartLayout.{start}
 use Rattle.ist_core.specs.Lawful.{Lawful, state_of}
 use Rattle.ist_core.proofs.RowLemmas.{changed_at-same}
-use Rattle.ist_check.specs.Answers.{Holds}
-use Rattle.ist_check.specs.Remembering.{IsRefused, KnowsRefusals, pair_key}
+use Rattle.ist_enabled.specs.Answers.{Holds}
+use Rattle.ist_enabled.specs.Remembering.{IsRefused, KnowsRefusals, pair_key}
 use Rattle.ist_replay.specs.Remembered.{Refuses}
 use Rattle.ist_replay.proofs.DecisionLemmas.{is_sound, came_step, came_decided, decided_stays}
 

@@ -8,8 +8,8 @@ use Rattle.std.specs.BTreeMap.{BTreeMap}
 use Rattle.ist_core.specs.declared.events.Event.{Event}
 use Rattle.ist_core.specs.declared.events.Event.TheVariants.{Enter, Reserve, Install, Okay, Decide, Resolve, Count, Mark, Pass, Finish, Root, Draw, Place, Lose}
 use Rattle.ist_core.specs.Logs.{Log, Happened, Draws, Passes}
-use Rattle.ist_check.specs.Answers.{FindsGreatest}
-use Rattle.ist_check.specs.Remembering.{pair_key, KnowsDraws, KnowsPasses}
+use Rattle.ist_enabled.specs.Answers.{FindsGreatest}
+use Rattle.ist_enabled.specs.Remembering.{pair_key, KnowsDraws, KnowsPasses}
 use Rattle.ist_replay.specs.Remembered.{PassesAreOne}
 
 module _ {X : Type 0} (m n : BTreeMap ℕ X) (k : ℕ) (v : X) (u : tree.Updates nat_cmp m n k (Some v)) where

@@ -3,8 +3,8 @@ use Rattle.std.proofs.Common.{◌≡◌, ◌≢◌, ℕ, ◌==◌, if◌then◌e
 use Rattle.std.proofs.lemmas.Bool.Decides.{eqb_tells}
 use Rattle.ist_core.specs.RowLayout.{anchor}
 use Rattle.ist_core.specs.Snapshots.{Snapshot}
-use Rattle.ist_check.specs.declared.replicas.Replica.{Replica}
-use Rattle.ist_check.specs.Mirroring.{Mirrors}
+use Rattle.ist_enabled.specs.declared.replicas.Replica.{Replica}
+use Rattle.ist_enabled.specs.Mirroring.{Mirrors}
 
 -- a word for the anchor's slot
 abbrev pub anchored : Snapshot → ℕ → ℕ → Snapshot

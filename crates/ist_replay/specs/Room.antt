@@ -6,7 +6,7 @@ use Rattle.ist_core.specs.declared.states.InnerRow.{InnerRow}
 use Rattle.ist_core.specs.declared.states.RebuildRow.{RebuildRow}
 use Rattle.ist_core.specs.declared.events.Event.{Event}
 use Rattle.ist_core.specs.declared.events.Event.TheVariants.{Enter, Reserve, Install, Count, Finish, Draw}
-use Rattle.ist_check.specs.declared.replicas.Replica.{Replica}
+use Rattle.ist_enabled.specs.declared.replicas.Replica.{Replica}
 
 -- one more than each number that an event counts on fits into a word
 abbrev pub word_limit : ℕ

@@ -5,15 +5,15 @@ ghost use Rattle.ist_core.specs.Snapshots as snapshots;
 ghost use Rattle.ist_core.specs.After as after;
 ghost use Rattle.ist_core.specs.Pieces.{as_change, as_rebuild};
 ghost use Rattle.ist_core.specs.Pieces as pieces;
-ghost use Rattle.ist_check.specs.Mirroring.{Mirrors};
+ghost use Rattle.ist_enabled.specs.Mirroring.{Mirrors};
 ghost use Rattle.ist_replay.specs.Room.{HasRoom};
 
 use crate::holding::{give_up, give_up_rows};
 use crate::installing::install;
 use crate::publishing::put_inners;
 use crate::writes::{count_at, decide, draw, set_root, set_row_slot, set_slot, set_status};
-use ist_check::{Replica, inner_of_word};
 use ist_core::{Event, HeldRow, RebuildRow, Row};
+use ist_enabled::{Replica, inner_of_word};
 use ist_layout::{DECIDED_NO, DECIDED_YES};
 use std::alloc::{AllocError, Global};
 

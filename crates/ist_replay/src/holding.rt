@@ -2,10 +2,10 @@
 ghost use Rattle.std.specs.Prelude.{◌≡◌, ◌==◌, not, OnOk};
 ghost use Rattle.std.specs.List.{list_any};
 ghost use Rattle.ist_core.specs.Snapshots.{Snapshot, without, bases_of};
-ghost use Rattle.ist_check.specs.Mirroring.{Mirrors};
+ghost use Rattle.ist_enabled.specs.Mirroring.{Mirrors};
 
-use ist_check::Replica;
 use ist_core::Row;
+use ist_enabled::Replica;
 use std::alloc::{AllocError, Global};
 
 /// Takes the held rows at these bases away.

@@ -5,12 +5,12 @@ ghost use Rattle.ist_core.specs.Pieces.{with_row, leaf_of, rebuild_of};
 ghost use Rattle.ist_core.specs.Statuses as statuses;
 ghost use Rattle.ist_core.specs.Snapshots.{Snapshot};
 ghost use Rattle.ist_core.specs.After.{with_fresh, installed};
-ghost use Rattle.ist_check.specs.Mirroring.{Mirrors};
+ghost use Rattle.ist_enabled.specs.Mirroring.{Mirrors};
 
 use crate::publishing::{put_as_inner, put_as_leaf, put_as_rebuild, put_change};
 use crate::writes::set_slot;
-use ist_check::{Replica, change_of_words};
 use ist_core::{ChangeRow, Row};
+use ist_enabled::{Replica, change_of_words};
 use ist_layout::START_KIND;
 use std::alloc::{AllocError, Global};
 

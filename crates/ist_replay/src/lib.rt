@@ -1,6 +1,6 @@
 //! Brings the checker's copy of a table forward by an event.
 //!
-//! Read `writes.rt`, then `advancing.rt`. Stands on `ist_core`, `ist_layout`, `ist_math`, `ist_check`
+//! Read `writes.rt`, then `advancing.rt`. Stands on `ist_core`, `ist_layout`, `ist_math`, `ist_enabled`
 //! and `ist_ideal`.
 #![tactic(auto)]
 

@@ -3,10 +3,10 @@ ghost use Rattle.std.specs.Prelude.{◌≡◌, ◌-◌, ◌<◌, min, ℕ, Some,
 ghost use Rattle.ist_core.specs.Pieces as pieces;
 ghost use Rattle.ist_core.specs.Pieces.{Leaf, Inner, Change, Rebuild, with_row, with_inners, leaf_of, inner_of, rebuild_of};
 ghost use Rattle.ist_core.specs.Snapshots.{Snapshot, without, bases_of};
-ghost use Rattle.ist_check.specs.Mirroring.{Mirrors};
+ghost use Rattle.ist_enabled.specs.Mirroring.{Mirrors};
 
-use ist_check::Replica;
 use ist_core::{ChangeRow, HeldRow, InnerRow, LeafRow, RebuildRow, Row, Words};
+use ist_enabled::Replica;
 use std::alloc::{AllocError, Global};
 
 /// Publishes a leaf.

@@ -3,11 +3,11 @@ ghost use Rattle.std.specs.Prelude.{◌≡◌, ◌++◌, ◌∷◌, [], ℕ, Lis
 ghost use Rattle.ist_core.specs.Snapshots as snapshots;
 ghost use Rattle.ist_core.specs.Logs.{Log};
 ghost use Rattle.ist_core.specs.declared.events.Event.TheVariants.{Draw, Lose, Pass, Root};
-ghost use Rattle.ist_check.specs.Remembering.{KnowsOkays, KnowsPasses, KnowsDraws};
+ghost use Rattle.ist_enabled.specs.Remembering.{KnowsOkays, KnowsPasses, KnowsDraws};
 ghost use Rattle.ist_replay.specs.Remembered.{PassesAreOne, TellsBuilds};
 
-use ist_check::pair_key;
 use ist_core::{Event, Row};
+use ist_enabled::pair_key;
 use std::alloc::{AllocError, Global};
 use std::collections::{BTreeMap, BTreeSet};
 

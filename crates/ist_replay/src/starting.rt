@@ -4,13 +4,13 @@ ghost use Rattle.ist_core.specs.declared.pairs.Pair.{Pair as APair};
 ghost use Rattle.ist_core.specs.Snapshots.{Snapshot};
 ghost use Rattle.ist_core.specs.Logs.{Log};
 ghost use Rattle.ist_core.specs.Lawful.{Lawful, state_of};
-ghost use Rattle.ist_check.specs.Answers.{Holds};
-ghost use Rattle.ist_check.specs.Mirroring.{Mirrors};
-ghost use Rattle.ist_check.specs.Remembering.{KnowsRefusals, KnowsStarts, pair_key as the_key};
+ghost use Rattle.ist_enabled.specs.Answers.{Holds};
+ghost use Rattle.ist_enabled.specs.Mirroring.{Mirrors};
+ghost use Rattle.ist_enabled.specs.Remembering.{KnowsRefusals, KnowsStarts, pair_key as the_key};
 ghost use Rattle.ist_replay.specs.Remembered.{Refuses, Starts};
 
-use ist_check::{Replica, pair_key, rebuild_of_word};
 use ist_core::Event;
+use ist_enabled::{Replica, pair_key, rebuild_of_word};
 use ist_layout::START_KIND;
 use std::alloc::AllocError;
 use std::collections::BTreeSet;

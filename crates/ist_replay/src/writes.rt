@@ -8,9 +8,9 @@ ghost use Rattle.ist_core.specs.Pieces as pieces;
 ghost use Rattle.ist_core.specs.Pieces.{changed_at, with_status, with_decision};
 ghost use Rattle.ist_core.specs.Snapshots.{Snapshot};
 ghost use Rattle.ist_core.specs.Snapshots as snapshots;
-ghost use Rattle.ist_check.specs.Mirroring.{Mirrors};
+ghost use Rattle.ist_enabled.specs.Mirroring.{Mirrors};
 
-use ist_check::Replica;
+use ist_enabled::Replica;
 use ist_layout::ANCHOR;
 
 /// Gives the inner row at the base, if there is one, this status.

@@ -1,8 +1,8 @@
 use Rattle.std.proofs.Common.{sym, subst}
 use Rattle.ist_core.specs.References.{unset_word}
-use Rattle.ist_check.specs.Mirroring.{RowHolds}
-use Rattle.ist_check.proofs.AnswerLemmas.{iff_trans, never, is_not}
-use Rattle.ist_check.proofs.MirrorLemmas.{rebuild_stands}
+use Rattle.ist_enabled.specs.Mirroring.{RowHolds}
+use Rattle.ist_enabled.proofs.AnswerLemmas.{iff_trans, never, is_not}
+use Rattle.ist_enabled.proofs.MirrorLemmas.{rebuild_stands}
 use Rattle.ist_ideal.proofs.GatherLemmas.{if_ok, known_caller}
 use Rattle.ist_ideal.proofs.FitLemmas.{part_fits, place_publishes, place_root}
 use Rattle.ist_ideal.proofs.building.can_place.Goals as goal

@@ -1,6 +1,6 @@
 use Rattle.std.proofs.Common.{◌∙◌, sym}
-use Rattle.ist_check.proofs.AnswerLemmas.{iff_trans, never, is_not}
-use Rattle.ist_check.proofs.MirrorLemmas.{rebuild_stands}
+use Rattle.ist_enabled.proofs.AnswerLemmas.{iff_trans, never, is_not}
+use Rattle.ist_enabled.proofs.MirrorLemmas.{rebuild_stands}
 use Rattle.ist_ideal.proofs.GatherLemmas.{if_ok, known_caller}
 use Rattle.ist_ideal.proofs.FitLemmas.{root_is, root_publishes, root_finished}
 use Rattle.ist_ideal.proofs.building.can_root.Goals as goal

@@ -1,7 +1,7 @@
 use Rattle.std.proofs.Common.{◌↔◌, IsTrue, Some, true, subst}
 use Rattle.ist_core.specs.References.{InnerAt}
 use Rattle.ist_core.specs.Leaves.{HasLeaves}
-use Rattle.ist_check.proofs.AnswerLemmas.{iff_trans, never}
+use Rattle.ist_enabled.proofs.AnswerLemmas.{iff_trans, never}
 use Rattle.ist_ideal.specs.Reading.{Gathers}
 use Rattle.ist_ideal.specs.Publishing.{IsPartOf}
 use Rattle.ist_ideal.proofs.FitLemmas.{no_part, part_over}

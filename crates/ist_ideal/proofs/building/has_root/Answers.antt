@@ -1,5 +1,5 @@
 use Rattle.std.proofs.Common.{◌↔◌, IsTrue, true, subst}
-use Rattle.ist_check.proofs.AnswerLemmas.{iff_trans, never}
+use Rattle.ist_enabled.proofs.AnswerLemmas.{iff_trans, never}
 use Rattle.ist_ideal.specs.Reading.{Gathers}
 use Rattle.ist_ideal.specs.Built.{IsRootOf}
 use Rattle.ist_ideal.proofs.FitLemmas.{Below, no_root, root_over}

@@ -1,5 +1,5 @@
 use Rattle.std.proofs.Common.{◌∙◌, sym}
-use Rattle.ist_check.proofs.AnswerLemmas.{iff_trans, never}
+use Rattle.ist_enabled.proofs.AnswerLemmas.{iff_trans, never}
 use Rattle.ist_ideal.proofs.BuiltSizeLemmas.{nth_by_degree}
 use Rattle.ist_ideal.proofs.FitLemmas.{no_such_part, such_part}
 use Rattle.ist_ideal.proofs.building.is_part.Goals as goal

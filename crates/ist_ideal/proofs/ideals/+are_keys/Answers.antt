@@ -1,5 +1,5 @@
 use Rattle.std.proofs.Common.{◌↔◌, ◌≡◌, ◌∙◌, IsTrue, sym, subst}
-use Rattle.ist_check.proofs.AnswerLemmas.{never}
+use Rattle.ist_enabled.proofs.AnswerLemmas.{never}
 use Rattle.ist_ideal.specs.Built.{key_of_leaf}
 use Rattle.ist_ideal.proofs.PartCutLemmas.{keys_skip, keys_first, keys_some, rest_keys, none_begins, begins_so}
 use Rattle.ist_ideal.proofs.ideals.+are_keys.Goals as goal

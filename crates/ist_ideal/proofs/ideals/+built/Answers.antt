@@ -1,6 +1,6 @@
 use Rattle.std.proofs.Common.{◌≤◌, ◌∙◌, ap, length, Some, None, arith}
 use Rattle.ist_core.specs.References.{LeafAt}
-use Rattle.ist_check.proofs.RowLemmas.{behind}
+use Rattle.ist_enabled.proofs.RowLemmas.{behind}
 use Rattle.ist_ideal.proofs.BuiltLemmas as built
 use Rattle.ist_ideal.proofs.BuiltSizeLemmas as sizes
 use Rattle.ist_ideal.proofs.ideals.+built.Goals as goal

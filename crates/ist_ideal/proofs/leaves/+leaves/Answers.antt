@@ -2,7 +2,7 @@ use Rattle.std.proofs.Common.{sym, subst, Some, get_or, arith}
 use Rattle.ist_core.specs.References.{InnerAt, LeafAt}
 use Rattle.ist_core.specs.Slots.{logical}
 use Rattle.ist_core.specs.Leaves.{HasLeaves}
-use Rattle.ist_check.proofs.MirrorLemmas.{inner_stands}
+use Rattle.ist_enabled.proofs.MirrorLemmas.{inner_stands}
 use Rattle.ist_ideal.specs.Standing.{SlotsAbove}
 use Rattle.ist_ideal.specs.Reading.{IsReading, Gathers}
 use Rattle.ist_ideal.proofs.GatherLemmas.{if_ok, gathers_none, gathers_along, gathers_row, gathers_end, gathers_more, first_lacks, above_parts}

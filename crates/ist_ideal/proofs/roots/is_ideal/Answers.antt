@@ -1,4 +1,4 @@
-use Rattle.ist_check.proofs.AnswerLemmas.{never}
+use Rattle.ist_enabled.proofs.AnswerLemmas.{never}
 use Rattle.ist_ideal.specs.Built.{BuildsAt}
 use Rattle.ist_ideal.proofs.RootLemmas.{none_whole, some_whole}
 use Rattle.ist_ideal.proofs.roots.is_ideal.Goals as goal

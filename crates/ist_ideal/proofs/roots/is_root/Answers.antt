@@ -1,4 +1,4 @@
-use Rattle.ist_check.proofs.AnswerLemmas.{iff_trans}
+use Rattle.ist_enabled.proofs.AnswerLemmas.{iff_trans}
 use Rattle.ist_ideal.proofs.RootLemmas.{whole_is, top_is}
 use Rattle.ist_ideal.proofs.roots.is_root.Goals as goal
 

@@ -1,4 +1,4 @@
-use Rattle.ist_check.proofs.AnswerLemmas.{never}
+use Rattle.ist_enabled.proofs.AnswerLemmas.{never}
 use Rattle.ist_ideal.proofs.RootLemmas.{no_top_alone}
 use Rattle.ist_ideal.proofs.roots.is_top_alone.Goals as goal
 

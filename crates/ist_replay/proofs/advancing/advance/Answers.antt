@@ -2,8 +2,8 @@ use Rattle.std.proofs.Common.{subst}
 use Rattle.ist_core.specs.Pieces.{with_inners, changed_at, with_root, as_rebuild}
 use Rattle.ist_core.specs.Snapshots.{bases_of, without}
 use Rattle.ist_core.specs.After.{installed, placed}
-use Rattle.ist_check.specs.Mirroring.{Mirrors}
-use Rattle.ist_check.proofs.AnswerLemmas.{on_ok}
+use Rattle.ist_enabled.specs.Mirroring.{Mirrors}
+use Rattle.ist_enabled.proofs.AnswerLemmas.{on_ok}
 use Rattle.ist_replay.proofs.EventLemmas.{by_event, installed_given_up, decided_so, yes_word, no_word}
 use Rattle.ist_replay.proofs.advancing.advance.Goals as goal
 use Rattle.ist_replay.proofs.advancing.advance.Goals.{then-yes, else-yes}

@@ -1,8 +1,8 @@
 use Rattle.std.proofs.Common.{◌≡◌, ◌∙◌, subst}
 use Rattle.ist_core.specs.Pieces.{as_rebuild, with_inners}
 use Rattle.ist_core.specs.After.{placed}
-use Rattle.ist_check.specs.Mirroring.{Mirrors}
-use Rattle.ist_check.proofs.AnswerLemmas.{on_ok}
+use Rattle.ist_enabled.specs.Mirroring.{Mirrors}
+use Rattle.ist_enabled.proofs.AnswerLemmas.{on_ok}
 use Rattle.ist_replay.proofs.advancing.place.Goals as goal
 
 pub returns : goal.returns

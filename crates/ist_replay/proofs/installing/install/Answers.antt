@@ -1,7 +1,7 @@
 use Rattle.std.proofs.Common.{◌∙◌, Some, ap, refl}
 use Rattle.ist_core.specs.Pieces.{Change, change_of, with_row}
 use Rattle.ist_core.specs.After.{with_fresh}
-use Rattle.ist_check.proofs.RowLemmas.{behind}
+use Rattle.ist_enabled.proofs.RowLemmas.{behind}
 use Rattle.ist_replay.proofs.FreshLemmas.{install_is}
 use Rattle.ist_replay.proofs.installing.install.Goals as goal
 

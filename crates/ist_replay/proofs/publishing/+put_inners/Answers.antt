@@ -1,8 +1,8 @@
 use Rattle.std.proofs.Common.{subst}
 use Rattle.ist_core.specs.Pieces.{inner_of, with_row, with_inners}
-use Rattle.ist_check.specs.Mirroring.{Mirrors}
-use Rattle.ist_check.proofs.AnswerLemmas.{on_ok}
-use Rattle.ist_check.proofs.RowLemmas.{behind}
+use Rattle.ist_enabled.specs.Mirroring.{Mirrors}
+use Rattle.ist_enabled.proofs.AnswerLemmas.{on_ok}
+use Rattle.ist_enabled.proofs.RowLemmas.{behind}
 use Rattle.ist_replay.proofs.PublishLemmas.{first_published}
 use Rattle.ist_replay.proofs.publishing.+put_inners.Goals as goal
 

@@ -1,4 +1,4 @@
-use Rattle.ist_check.proofs.AnswerLemmas.{on_ok}
+use Rattle.ist_enabled.proofs.AnswerLemmas.{on_ok}
 use Rattle.ist_replay.proofs.PublishLemmas.{mirrors_row, long_words}
 use Rattle.ist_replay.proofs.publishing.put_as_inner.Goals as goal
 

@@ -1,5 +1,5 @@
 use Rattle.std.proofs.Common.{arith}
-use Rattle.ist_check.proofs.AnswerLemmas.{on_ok}
+use Rattle.ist_enabled.proofs.AnswerLemmas.{on_ok}
 use Rattle.ist_replay.proofs.PublishLemmas.{mirrors_row, five_words}
 use Rattle.ist_replay.proofs.publishing.put_as_rebuild.Goals as goal
 

@@ -1,5 +1,5 @@
 use Rattle.std.proofs.Common.{◌∷◌, sym, subst}
-use Rattle.ist_check.specs.Remembering.{KnowsDraws}
+use Rattle.ist_enabled.specs.Remembering.{KnowsDraws}
 use Rattle.ist_replay.proofs.TableLemmas.{draws_kept, on_success}
 use Rattle.ist_replay.proofs.remembering.remember_draw.Goals as goal
 

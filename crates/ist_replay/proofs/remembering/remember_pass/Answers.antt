@@ -1,5 +1,5 @@
 use Rattle.std.proofs.Common.{◌∷◌, sym, subst}
-use Rattle.ist_check.specs.Remembering.{KnowsPasses}
+use Rattle.ist_enabled.specs.Remembering.{KnowsPasses}
 use Rattle.ist_replay.specs.Remembered.{PassesAreOne}
 use Rattle.ist_replay.proofs.TableLemmas.{passes_kept, on_success}
 use Rattle.ist_replay.proofs.remembering.remember_pass.Goals as goal

@@ -1,5 +1,5 @@
 use Rattle.std.proofs.Common.{◌∙◌, sym, ap, inl, inr, ⊎_elim}
-use Rattle.ist_check.specs.Remembering.{pair_key}
+use Rattle.ist_enabled.specs.Remembering.{pair_key}
 use Rattle.ist_replay.proofs.TableLemmas.{pair_once}
 use Rattle.ist_replay.proofs.RefusingLemmas.{held_behind}
 use Rattle.ist_replay.proofs.starting.put_refusal.Goals as goal

@@ -1,7 +1,7 @@
 use Rattle.std.proofs.Common.{◌∷◌, ◌∙◌, sym, ap, subst}
 use Rattle.ist_core.specs.declared.events.Event.TheVariants.{Decide}
 use Rattle.ist_core.specs.Lawful.{Lawful, state_of}
-use Rattle.ist_check.specs.Remembering.{KnowsStarts}
+use Rattle.ist_enabled.specs.Remembering.{KnowsStarts}
 use Rattle.ist_replay.proofs.TableLemmas.{on_success}
 use Rattle.ist_replay.proofs.DecisionLemmas.{starts_kept, starts_refused, starts_more}
 use Rattle.ist_replay.proofs.starting.remember_start.Goals as goal

@@ -1,0 +1,105 @@
+//! The shapes of ideal trees, and the building lists of a state.
+ghost use Rattle.std.specs.Prelude.{◌≡◌, ◌≤◌, ◌<◌, ◌++◌, ◌∷◌, [], ℕ, map, OnOk, IfOk};
+ghost use Rattle.std.specs.Ordering.{nat_cmp};
+ghost use Rattle.std.specs.BTreeMap as tree;
+ghost use Rattle.ist_core.specs.Arithmetic.{degree, part_len};
+ghost use Rattle.ist_core.specs.Shapes.{shape};
+ghost use Rattle.ist_core.specs.Snapshots.{Snapshot};
+ghost use Rattle.ist_enabled.specs.Builds.{lists_of, target_lists};
+ghost use Rattle.ist_enabled.specs.Mirroring.{Mirrors};
+ghost use Rattle.ist_enabled.specs.Remembering.{KnowsStarts};
+ghost use Rattle.ist_enabled.specs.Searching.{AreBuilding};
+
+use crate::pasts::Past;
+use crate::replicas::Replica;
+use crate::shares::{degree_of, part_len_of};
+use ist_math::SHARE_FROM;
+use std::alloc::{AllocError, Global};
+
+/// The building lists of the state. It goes through its rebuilds.
+pub fn building_lists(
+    alloc: Global,
+    replica: &Replica,
+    past: &Past,
+) -> Result<Vec<Vec<u64>>, AllocError>
+    ensures exact { IfOk result (λ lists. (t : Snapshot) → Mirrors replica.now t
+        → KnowsStarts past.now.started t → AreBuilding t (map (λ v. v.items) lists.items)) }
+{
+    let mut lists = Vec::new(alloc);
+    for (rebuild, row) in &replica.rebuilds {
+        if past.started.contains(rebuild) {
+            add_target(alloc, replica, row.target, &mut lists)?;
+        }
+    }
+    Ok(lists)
+}
+
+/// Adds the building lists by a target, if it is finished.
+fn add_target(
+    alloc: Global,
+    replica: &Replica,
+    target: u64,
+    lists: &mut Vec<Vec<u64>>,
+) -> Result<(), AllocError>
+    ensures added { OnOk result (map (λ v. v.items) lists.new.items
+        ≡ map (λ v. v.items) lists.old.items
+        ++ target_lists (tree.get nat_cmp replica.now.inners target)) }
+{
+    match replica.inners.get(&target) {
+        None => Ok(()),
+        Some(row) => {
+            if row.status % 4 != 3 {
+                return Ok(());
+            }
+            add_lists(alloc, row.status / 4, lists)
+        }
+    }
+}
+
+/// Adds the building lists of a rebuild whose target is finished with `k` keys.
+fn add_lists(alloc: Global, k: u64, lists: &mut Vec<Vec<u64>>) -> Result<(), AllocError>
+    ensures added { OnOk result (map (λ v. v.items) lists.new.items
+        ≡ map (λ v. v.items) lists.old.items ++ lists_of k) }
+{
+    if k < 2 {
+        return Ok(());
+    }
+    if k < SHARE_FROM {
+        return add_shape_alone(alloc, k, lists);
+    }
+    let children = degree_of(k);
+    let mut top = Vec::new(alloc);
+    top.push(2 * children + 3)?;
+    lists.push(top)?;
+    for j in 0..children {
+        add_shape_alone(alloc, part_len_of(k, j), lists)?;
+    }
+    Ok(())
+}
+
+/// Adds the shape of an ideal tree of `n` keys as a list of its own.
+fn add_shape_alone(alloc: Global, n: u64, lists: &mut Vec<Vec<u64>>) -> Result<(), AllocError>
+    ensures added { OnOk result (map (λ v. v.items) lists.new.items
+        ≡ map (λ v. v.items) lists.old.items ++ shape n ∷ []) }
+{
+    let mut sizes = Vec::new(alloc);
+    add_shape(n, &mut sizes)?;
+    lists.push(sizes)?;
+    Ok(())
+}
+
+/// Adds the lengths of the inner rows of an ideal tree of `n` keys: a node's own, then those of
+/// each part.
+fn add_shape(n: u64, out: &mut Vec<u64>) -> Result<(), AllocError>
+    ensures added { OnOk result (out.new.items ≡ out.old.items ++ shape n) }
+{
+    if n < 2 {
+        return Ok(());
+    }
+    let children = degree_of(n);
+    out.push(2 * children + 3)?;
+    for j in 0..children {
+        add_shape(part_len_of(n, j), out)?;
+    }
+    Ok(())
+}
