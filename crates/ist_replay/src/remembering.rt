@@ -1,5 +1,5 @@
 //! What the checker remembers of an event, table by table.
-ghost use Rattle.std.specs.Prelude.{◌≡◌, ◌++◌, ◌∷◌, [], ℕ, List, OnOk, IfOk, map, length, ◌<◌, ◌^◌};
+ghost use Rattle.std.specs.Prelude.{◌≡◌, ◌++◌, ◌∷◌, [], ℕ, List, OnOk, IfOk, map, length, ◌<◌, ◌≤◌, ◌+◌, ◌^◌};
 ghost use Rattle.ist_core.specs.Snapshots as snapshots;
 ghost use Rattle.ist_core.specs.Logs.{Log};
 ghost use Rattle.ist_core.specs.declared.events.Event.TheVariants.{Draw, Lose, Pass, Root};
@@ -102,6 +102,7 @@ pub fn remember_build(
     ensures exact { OnOk result ((log : Log)
         → TellsBuilds since.old (map (λ v. v.items) builds.old.items) log
         → TellsBuilds since.new (map (λ v. v.items) builds.new.items) (event.now ∷ log)) }
+    ensures few { OnOk result (length builds.new.items ≤ length builds.old.items + 1) }
 {
     match event {
         Event::Root { caller, rows, .. } => {
@@ -128,6 +129,7 @@ fn note_build(
         → TellsBuilds since.old (map (λ v. v.items) builds.old.items) log
         → TellsBuilds since.new (map (λ v. v.items) builds.new.items)
         (Root caller rebuild word rows.now ∷ log)) }
+    ensures few { OnOk result (length builds.new.items ≤ length builds.old.items + 1) }
 {
     builds.push(sizes_of(alloc, rows)?)?;
     since.insert(caller, builds.as_slice().len() as u64)?;
