@@ -42,7 +42,7 @@ one_inner a b e = cc
 
 module _ (pairs : List Pair) (words : ℕ) (opens : CanOpen pairs words) where
   -- what a slot reads as leads where it leads behind the event
-  leads_back : (log : Log) (event : Event) → EachEnabled (start pairs words) (event ∷ log)
+  pub leads_back : (log : Log) (event : Event) → EachEnabled (start pairs words) (event ∷ log)
       → (node i child : ℕ) (ref : Ref)
       → ReadsAs (state_of pairs words log) node i ref
       → past_rebuild (state_of pairs words (event ∷ log)).pieces (Some ref) ≡ Some (InnerAt child)

@@ -6,3 +6,7 @@ pub mod TableLemmas
 pub mod BuildTableLemmas
 pub mod DecisionLemmas
 pub mod RefusingLemmas
+pub mod HangingLemmas
+pub mod LinkingLemmas
+pub mod SlotTableLemmas
+pub mod LinkTableLemmas

@@ -1,3 +1,5 @@
 -- what the public contracts rest on, in the order to read them
 pub mod Room
 pub mod Remembered
+-- what the functions inside this crate promise each other
+pub mod Hanging

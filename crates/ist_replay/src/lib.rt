@@ -7,6 +7,7 @@
 mod advancing;
 mod holding;
 mod installing;
+mod linking;
 mod publishing;
 mod remembering;
 mod starting;
@@ -15,6 +16,7 @@ mod writes;
 pub use advancing::advance;
 pub use holding::{give_up, give_up_rows};
 pub use installing::install;
+pub use linking::{remember_links, slots_of_start};
 pub use publishing::{put_as_inner, put_as_leaf, put_as_rebuild, put_change, put_inners};
 pub use remembering::{remember_build, remember_draw, remember_okay, remember_pass};
 pub use starting::{remember_refusal, remember_start};

@@ -1,0 +1,69 @@
+-- Which inner rows hang in or below a slot, and the slots that a table has for them.
+use Rattle.std.specs.Prelude.{◌≡◌, ◌↔◌, ◌⊎◌, ◌<◌, ◌≤◌, ℕ, List, drop, Some, None}
+use Rattle.std.specs.Ordering.{nat_cmp}
+use Rattle.std.specs.BTreeMap as tree
+use Rattle.std.specs.BTreeMap.{BTreeMap}
+use Rattle.ist_core.specs.declared.states.InnerRow.{InnerRow}
+use Rattle.ist_core.specs.declared.states.ChangeRow.{ChangeRow}
+use Rattle.ist_core.specs.RowLayout.{anchor}
+use Rattle.ist_core.specs.References.{InnerAt, ref_of}
+use Rattle.ist_core.specs.Pieces.{Inner, Change}
+use Rattle.ist_core.specs.Snapshots.{Snapshot}
+use Rattle.ist_core.specs.Links.{IsChild}
+use Rattle.ist_enabled.specs.declared.pasts.Slot.{Slot}
+
+-- ---- rows that hang
+
+-- the inner row is the logical child in slot j of `under`, and that is slot i of the node or lies below it
+pub data Hangs (t : Snapshot) : ℕ → ℕ → ℕ → ℕ → ℕ → Type 0 where
+  hangs_here : {node i child : ℕ} → IsChild t node i child → Hangs t node i node i child
+  hangs_below : {node i under j child : ℕ} (row k : ℕ) → IsChild t node i row
+      → Hangs t row k under j child
+      → Hangs t node i under j child
+
+-- the same of some slot of the node from slot i on
+abbrev pub HangsFrom : Snapshot → ℕ → ℕ → ℕ → ℕ → ℕ → Type 0
+HangsFrom t node i under j child = (k : ℕ) × (i ≤ k) × Hangs t node k under j child
+
+-- the words are those in the slots of the inner row from slot i on
+pub record HasSlotsFrom (t : Snapshot) (node i : ℕ) (words : List ℕ) : Type 0 where
+  pub row : InnerRow
+  pub published : t.pieces node ≡ Some (Inner row)
+  pub rest : drop i row.slots ≡ words
+
+-- ---- changes that bring rows
+
+-- the change puts an inner row into its slot, and the child hangs there or below
+pub record Brings (t : Snapshot) (base under j child : ℕ) : Type 0 where
+  pub change : ChangeRow
+  pub published : t.pieces base ≡ Some (Change change)
+  pub row : ℕ
+  pub to : ref_of change.to ≡ Some (InnerAt row)
+  pub hangs : Hangs t change.node change.index under j child
+
+-- the inner row that the change puts in, if it does, is the logical child in its slot
+abbrev pub BringsInPlace : Snapshot → ℕ → Type 0
+BringsInPlace t base =
+    (change : ChangeRow) (row : ℕ) → t.pieces base ≡ Some (Change change)
+    → ref_of change.to ≡ Some (InnerAt row) → IsChild t change.node change.index row
+
+-- ---- tables of slots
+
+-- the second table has the entries of the first and those with P
+abbrev pub Adds : BTreeMap ℕ Slot → BTreeMap ℕ Slot → (ℕ → ℕ → ℕ → Type 0) → Type 0
+Adds old new P =
+    (node i child : ℕ)
+    → (tree.get nat_cmp new child ≡ Some record { node = node; index = i })
+    ↔ ((tree.get nat_cmp old child ≡ Some record { node = node; index = i }) ⊎ P node i child)
+
+-- each logical child is an inner row above its node, hangs in one slot only, and the table has no other slot for it
+pub record HangsOnce (slots : BTreeMap ℕ Slot) (t : Snapshot) : Type 0 where
+  pub anchor_free : t.pieces anchor ≡ None
+  pub rows : (node i child : ℕ) → IsChild t node i child
+      → (row : InnerRow) × (t.pieces child ≡ Some (Inner row))
+  pub above : (node i child : ℕ) → IsChild t node i child → node < child
+  pub one : (node i other j child : ℕ) → IsChild t node i child → IsChild t other j child
+      → (node ≡ other) × (i ≡ j)
+  pub told : (node i child : ℕ) (slot : Slot) → IsChild t node i child
+      → tree.get nat_cmp slots child ≡ Some slot
+      → slot ≡ record { node = node; index = i }
