@@ -195,13 +195,26 @@ module _ (pairs : List Pair) (words : ℕ) (log : Log) where
   is_sound h = sound (start pairs words) log (sound_start pairs words) h
 
   -- a started rebuild stays so
-  start_stays : (event : Event) → Lawful pairs words (event ∷ log) → (rebuild : ℕ)
+  pub start_stays : (event : Event) → Lawful pairs words (event ∷ log) → (rebuild : ℕ)
       → IsStarted (state_of pairs words log) rebuild → IsStarted (state_of pairs words (event ∷ log)) rebuild
   start_stays event law rebuild it =
       record {
         base = it.base;
         change = it.change;
         published = decided_stays (start pairs words) log event law.enabled.1 (is_sound law.enabled.0) it.base it.change it.published (λ e. let yes = it.decision in omega arith);
+        kind = it.kind;
+        decision = it.decision;
+        to = it.to;
+      }
+
+  -- what is started behind an event but a Decide was so before
+  pub started_before : (event : Event) → ((c b : ℕ) (x : Bool) → event ≢ Decide c b x) → Lawful pairs words (event ∷ log) → (rebuild : ℕ)
+      → IsStarted (state_of pairs words (event ∷ log)) rebuild → IsStarted (state_of pairs words log) rebuild
+  started_before event other law rebuild it =
+      record {
+        base = it.base;
+        change = it.change;
+        published = came_step (start pairs words) log event law.enabled.1 (is_sound law.enabled.0) other it.base it.change it.published (λ e. let yes = it.decision in omega arith);
         kind = it.kind;
         decision = it.decision;
         to = it.to;
@@ -216,23 +229,13 @@ module _ (pairs : List Pair) (words : ℕ) (log : Log) where
 
   pub starts_kept : (event : Event) → ((c b : ℕ) (x : Bool) → event ≢ Decide c b x) → Lawful pairs words (event ∷ log) → (started : BTreeSet ℕ)
       → KnowsStarts started (state_of pairs words log) → KnowsStarts started (state_of pairs words (event ∷ log))
-  starts_kept event other law started known =
-      starts_stay event law started
-      (λ rebuild it. record {
-        base = it.base;
-        change = it.change;
-        published = came_step (start pairs words) log event law.enabled.1 (is_sound law.enabled.0) other it.base it.change it.published (λ e. let yes = it.decision in omega arith);
-        kind = it.kind;
-        decision = it.decision;
-        to = it.to;
-      })
-      known
+  starts_kept event other law started known = starts_stay event law started (started_before event other law) known
 
   -- what is started behind a Decide was so before, or is so by it
-  newly : (caller base : ℕ) (said : Bool) → (law : Lawful pairs words (Decide caller base said ∷ log)) → (rebuild : ℕ)
+  pub started_newly : (caller base : ℕ) (said : Bool) → (law : Lawful pairs words (Decide caller base said ∷ log)) → (rebuild : ℕ)
       → IsStarted (state_of pairs words (Decide caller base said ∷ log)) rebuild
       → IsStarted (state_of pairs words log) rebuild ⊎ ((decision_word said ≡ decided_yes) × Starts (state_of pairs words log) base rebuild)
-  newly caller base said law rebuild it =
+  started_newly caller base said law rebuild it =
       let h = law.enabled.1 in
       ⊎_elim
       (λ old. inl record { base = it.base; change = it.change; published = old; kind = it.kind; decision = it.decision; to = it.to })
@@ -247,24 +250,26 @@ module _ (pairs : List Pair) (words : ℕ) (log : Log) where
       → KnowsStarts started (state_of pairs words log) → KnowsStarts started (state_of pairs words (Decide caller base false ∷ log))
   starts_refused caller base law started known =
       starts_stay (Decide caller base false) law started
-      (λ rebuild it. ⊎_elim (λ old. old) (λ now. let no = now.0 in absurd (omega arith)) (newly caller base false law rebuild it)) known
+      (λ rebuild it. ⊎_elim (λ old. old) (λ now. let no = now.0 in absurd (omega arith)) (started_newly caller base false law rebuild it)) known
+
+  -- a rebuild that the change starts is started behind its yes
+  pub start_begun : (caller base rebuild : ℕ) → Starts (state_of pairs words log) base rebuild
+      → IsStarted (state_of pairs words (Decide caller base true ∷ log)) rebuild
+  start_begun caller base rebuild k =
+      let t = state_of pairs words log in
+      record {
+        base = base;
+        change = record (k.change) { decision = decided_yes };
+        published = changed_at-same t.pieces base (with_decision decided_yes) ∙ ap (option_map (with_decision decided_yes)) k.published;
+        kind = k.kind;
+        decision = refl;
+        to = k.to;
+      }
 
   pub starts_more : (caller base : ℕ) → (law : Lawful pairs words (Decide caller base true ∷ log)) → (old new : BTreeSet ℕ)
       → ((rebuild : ℕ) → Holds new rebuild ↔ (Holds old rebuild ⊎ Starts (state_of pairs words log) base rebuild))
       → KnowsStarts old (state_of pairs words log) → KnowsStarts new (state_of pairs words (Decide caller base true ∷ log))
   starts_more caller base law old new more known rebuild = (
-    (λ h. ⊎_elim (λ k. start_stays (Decide caller base true) law rebuild ((known rebuild).0 k)) (λ k. begun k) ((more rebuild).0 h)),
-    (λ it. (more rebuild).1 (⊎_elim (λ k. inl ((known rebuild).1 k)) (λ k. inr k.1) (newly caller base true law rebuild it))),
+    (λ h. ⊎_elim (λ k. start_stays (Decide caller base true) law rebuild ((known rebuild).0 k)) (λ k. start_begun caller base rebuild k) ((more rebuild).0 h)),
+    (λ it. (more rebuild).1 (⊎_elim (λ k. inl ((known rebuild).1 k)) (λ k. inr k.1) (started_newly caller base true law rebuild it))),
   )
-    where
-      begun : Starts (state_of pairs words log) base rebuild → IsStarted (state_of pairs words (Decide caller base true ∷ log)) rebuild
-      begun k =
-          let t = state_of pairs words log in
-          record {
-            base = base;
-            change = record (k.change) { decision = decided_yes };
-            published = changed_at-same t.pieces base (with_decision decided_yes) ∙ ap (option_map (with_decision decided_yes)) k.published;
-            kind = k.kind;
-            decision = refl;
-            to = k.to;
-          }

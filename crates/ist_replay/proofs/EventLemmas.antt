@@ -1,5 +1,6 @@
 -- The state behind an event, as the code takes the event apart. Serves `advancing.rt`.
 use Rattle.std.proofs.Common.{◌≡◌, ◌∙◌, ℕ, Bool, true, false, List, [], ◌∷◌, Option, Some, None, refl, sym, ap, subst}
+use Rattle.ist_core.specs.declared.pairs.Pair.{Pair}
 use Rattle.ist_core.specs.declared.lists.Row.{Row}
 use Rattle.ist_core.specs.declared.states.ChangeRow.{ChangeRow}
 use Rattle.ist_core.specs.declared.states.RebuildRow.{RebuildRow}
@@ -8,12 +9,20 @@ use Rattle.ist_core.specs.References.{InnerAt, ref_of}
 use Rattle.ist_core.specs.Pieces.{Pieces, change_of, changed_at, with_slot, with_decision}
 use Rattle.ist_core.specs.Snapshots.{Snapshot, bases_of, without}
 use Rattle.ist_core.specs.After.{after, decision_word, with_change, installed, with_part, placed}
+use Rattle.ist_core.specs.Logs.{Log}
+use Rattle.ist_core.specs.Lawful.{Lawful}
 use Rattle.ist_enabled.specs.declared.replicas.Replica.{Replica}
 use Rattle.ist_enabled.specs.Mirroring.{Mirrors}
 
 -- the event is the one that was matched
 pub by_event : (r : Replica) (t : Snapshot) (e f : Event) → e ≡ f → Mirrors r (after t f) → Mirrors r (after t e)
 by_event r t e f is h = subst (λ x. Mirrors r (after t x)) (sym is) h
+
+-- what is right behind the event that was matched is right behind the event
+pub at_event : (pairs : List Pair) (words : ℕ) (log : Log) (Right : Log → Type 0) (e f : Event) → e ≡ f
+    → Lawful pairs words (e ∷ log) → (Lawful pairs words (f ∷ log) → Right (f ∷ log)) → Right (e ∷ log)
+at_event pairs words log Right e f is law right =
+    subst (λ x. Right (x ∷ log)) (sym is) (right (subst (λ x. Lawful pairs words (x ∷ log)) is law))
 
 -- an Install holds as much as before, until its rows are taken away
 pub held_installed : (t : Snapshot) (base : ℕ) (rows : List Row) → (installed t base rows).held ≡ t.held

@@ -10,3 +10,8 @@ pub mod HangingLemmas
 pub mod LinkingLemmas
 pub mod SlotTableLemmas
 pub mod LinkTableLemmas
+pub mod CallLemmas
+pub mod CallingLemmas
+pub mod YesLemmas
+pub mod UpdateLemmas
+pub mod EntryLemmas

@@ -110,7 +110,8 @@ draws_kept m log event other known caller rebuild fits fits_too = at (tree.get n
 
 -- ---- passes
 
-no_pass : (event : Event) → ((c n i w : ℕ) → event ≢ Pass c n i w) → (node index word : ℕ) → ¬ (Passes node index word event)
+-- an event that is no pass passes nothing
+pub no_pass : (event : Event) → ((c n i w : ℕ) → event ≢ Pass c n i w) → (node index word : ℕ) → ¬ (Passes node index word event)
 no_pass (Enter c) other node index word happens = happens
 no_pass (Reserve c b z) other node index word happens = happens
 no_pass (Install c d r) other node index word happens = happens

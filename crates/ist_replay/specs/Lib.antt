@@ -3,3 +3,5 @@ pub mod Room
 pub mod Remembered
 -- what the functions inside this crate promise each other
 pub mod Hanging
+pub mod Calls
+pub mod Entries

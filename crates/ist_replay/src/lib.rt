@@ -5,19 +5,23 @@
 #![tactic(auto)]
 
 mod advancing;
+mod calling;
 mod holding;
 mod installing;
 mod linking;
 mod publishing;
 mod remembering;
 mod starting;
+mod updating;
 mod writes;
 
 pub use advancing::advance;
+pub use calling::remember_call;
 pub use holding::{give_up, give_up_rows};
 pub use installing::install;
 pub use linking::{remember_links, slots_of_start};
 pub use publishing::{put_as_inner, put_as_leaf, put_as_rebuild, put_change, put_inners};
 pub use remembering::{remember_build, remember_draw, remember_okay, remember_pass};
 pub use starting::{remember_refusal, remember_start};
+pub use updating::remember_update;
 pub use writes::{count_at, decide, draw, set_root, set_row_slot, set_slot, set_status};

@@ -1,0 +1,18 @@
+-- A new entry stands under the owner of the change.
+use Rattle.std.proofs.Common.{refl, sym}
+use Rattle.ist_core.specs.Rebuilding.{IsUpdate}
+use Rattle.ist_enabled.proofs.MirrorLemmas.{change_stands}
+use Rattle.ist_replay.proofs.EntryLemmas.{renewed}
+use Rattle.ist_replay.proofs.updating.note_update.Goals as goal
+
+pub returns-in_ok-insert-in-Some : goal.returns-in_ok-insert-in-Some
+returns-in_ok-insert-in-Some c =
+    let row = c.in-Some.row.now in
+    let base = c.args.change in
+    let kind : IsUpdate row.kind = c.is_update.ensures.exact.0 c.if-not-is_update.false in
+    let updates = c.in_ok-insert-in-Some.ensures.updates in
+    record {
+      exact = λ t mirrors.
+          let stands = change_stands c.args.replica.now t base mirrors row (sym c.in-Some.ensures.value) in
+          renewed t base row stands c.args.updates.now c.insert.new.self _ kind refl c.new.ensures.items updates;
+    }
