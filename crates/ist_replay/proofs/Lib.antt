@@ -15,3 +15,6 @@ pub mod CallingLemmas
 pub mod YesLemmas
 pub mod UpdateLemmas
 pub mod EntryLemmas
+pub mod LayingSizeLemmas
+pub mod LayingLemmas
+pub mod LaidLemmas

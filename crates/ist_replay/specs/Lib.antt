@@ -5,3 +5,4 @@ pub mod Remembered
 pub mod Hanging
 pub mod Calls
 pub mod Entries
+pub mod Laying

@@ -9,6 +9,7 @@ mod calling;
 mod holding;
 mod installing;
 mod linking;
+mod opening;
 mod publishing;
 mod remembering;
 mod starting;
@@ -20,8 +21,12 @@ pub use calling::remember_call;
 pub use holding::{give_up, give_up_rows};
 pub use installing::install;
 pub use linking::{remember_links, slots_of_start};
+pub use opening::open_replica;
 pub use publishing::{put_as_inner, put_as_leaf, put_as_rebuild, put_change, put_inners};
 pub use remembering::{remember_build, remember_draw, remember_okay, remember_pass};
 pub use starting::{remember_refusal, remember_start};
 pub use updating::remember_update;
 pub use writes::{count_at, decide, draw, set_root, set_row_slot, set_slot, set_status};
+
+#[cfg(test)]
+mod tests;
