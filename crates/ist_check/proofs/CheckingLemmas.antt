@@ -1,0 +1,65 @@
+-- The events that were checked so far, and those that are left. Serves `checking.rt`.
+use Rattle.std.proofs.Common.{◌≡◌, ◌∙◌, ◌+◌, ◌<◌, ◌≤◌, ℕ, suc, List, [], ◌∷◌, ◌++◌, length, get_or, take, drop, reverse, Result, Err, sym, ap, subst, arith, add-one, drop-cons}
+use Rattle.std.proofs.lemmas.List.{take_more, take-append-drop, reverse-append, length-take-le}
+use Rattle.std.specs.BTreeMap.{BTreeMap}
+use Rattle.ist_core.specs.declared.pairs.Pair.{Pair}
+use Rattle.ist_core.specs.declared.events.Event.{Event}
+use Rattle.ist_core.specs.StartLayout.{start}
+use Rattle.ist_core.specs.Enabled.{Enabled}
+use Rattle.ist_core.specs.Lawful.{Lawful}
+use Rattle.ist_core.specs.declared.states.State.{State}
+use Rattle.ist_check.specs.declared.faults.CheckFault.{CheckFault}
+use Rattle.ist_check.specs.declared.faults.CheckFault.TheVariants.{Unlawful}
+use Rattle.ist_core.specs.Logs.{Log}
+use Rattle.ist_enabled.specs.declared.pasts.Past.{Past}
+use Rattle.ist_enabled.specs.declared.pasts.Slot.{Slot}
+use Rattle.ist_check.specs.Knowing.{Remembers}
+use Rattle.ist_check.specs.Verdicts.{IsFirstUnlawful}
+
+-- the answer is the fault that names this event
+abbrev IsFault : ℕ → Result State CheckFault → Type 0
+IsFault at answer = Err (Unlawful at) ≡ answer
+
+-- a fault names one number
+pub at_number : (at other : ℕ) → IsFault at (Err (Unlawful other)) → at ≡ other
+at_number at other e = cc
+
+module _ (events : List Event) (at : ℕ) (event : Event) (below : at < length events) (is : event ≡ get_or events at event) where
+  -- the log behind the event is the one before it with the event
+  pub reverse_more : reverse (take (at + 1) events) ≡ event ∷ reverse (take at events)
+  reverse_more =
+      ap reverse (take_more events at event below ∙ ap (λ e. take at events ++ e ∷ []) (sym is))
+      ∙ reverse-append (take at events) (event ∷ [])
+
+  -- an event that may not come behind a lawful log of those before it is the first such
+  pub first_unlawful : (pairs : List Pair) (words : ℕ) → Lawful pairs words (reverse (take at events))
+      → ¬ (Enabled (start pairs words) (reverse (take at events)) event)
+      → IsFirstUnlawful pairs words events at
+  first_unlawful pairs words lawful refused =
+      record {
+        before = take at events;
+        event = event;
+        after_it = drop (at + 1) events;
+        events_are = sym (take-append-drop at events) ∙ ap (λ es. take at events ++ es) rest;
+        at_is = sym (length-take-le at events (omega arith));
+        lawful = lawful;
+        refused = refused;
+      }
+    where
+      rest : drop at events ≡ event ∷ drop (at + 1) events
+      rest = drop-cons events at event below ∙ ap (λ e. e ∷ drop (suc at) events) (sym is) ∙ (let next : suc at ≡ at + 1 = omega arith in ap (λ n. event ∷ drop n events) next)
+
+-- what the other tables hold doesn't depend on that of the slots
+pub slots_apart : (past : Past) (slots : BTreeMap ℕ Slot) (pairs : List Pair) (words : ℕ) (log : Log)
+    → Remembers past pairs words log → Remembers (record past { slots = slots }) pairs words log
+slots_apart past slots pairs words log it =
+    record {
+      okayed = it.okayed;
+      called = it.called;
+      drawn = it.drawn;
+      passed = it.passed;
+      updates = it.updates;
+      refused = it.refused;
+      started = it.started;
+      builds = it.builds;
+    }

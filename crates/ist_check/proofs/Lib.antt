@@ -1,0 +1,5 @@
+pub mod EntryLemmas
+pub mod StandingLemmas
+pub mod OpeningLemmas
+pub mod RoomLemmas
+pub mod CheckingLemmas

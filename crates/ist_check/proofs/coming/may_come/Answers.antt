@@ -1,0 +1,65 @@
+use Rattle.std.proofs.Common.{◌≡◌, ◌↔◌, ◌∙◌, IsTrue, Result, Ok, Err, IfOk, sym, ap, subst}
+use Rattle.ist_core.specs.declared.events.Event.TheVariants.{Install, Root, Place, Lose}
+use Rattle.ist_core.specs.StartLayout.{start}
+use Rattle.ist_core.specs.Lawful.{state_of}
+use Rattle.ist_core.specs.Enabled.{Enabled}
+use Rattle.ist_check.proofs.StandingLemmas.{keys_stay, rows_rise, held_are_free}
+use Rattle.ist_check.proofs.coming.may_come.Goals as goal
+
+-- what is so of each answer is so of what it says
+if_ok : {V E : Type 0} {P Q : V → Type 0} (r : Result V E) → ((v : V) → P v → Q v) → IfOk r P → IfOk r Q
+if_ok (Ok v) f h = f v h
+if_ok (Err e) f h = tt
+
+pub returns-in-Enter : goal.returns-in-Enter
+returns-in-Enter c =
+    record {
+      exact = λ pairs words log knows.
+          subst (λ e. IsTrue c.can_enter.result ↔ Enabled (start pairs words) log e) (sym c.in-Enter.is) (c.can_enter.ensures.exact _ knows.mirrors);
+    }
+
+pub returns-in-Install : goal.returns-in-Install
+returns-in-Install c =
+    record {
+      exact = λ pairs words log knows.
+          let i = c.in-Install in
+          let past = knows.remembers in
+          let may = c.can_install.ensures.exact (start pairs words) log knows.mirrors knows.slots past.refused past.started (keys_stay pairs words log knows.lawful) in
+          subst (λ e. IsTrue c.can_install.result ↔ Enabled (start pairs words) log e) (ap (Install i.caller i.change) c.as_slice.ensures.value ∙ sym i.is) may;
+    }
+
+pub returns-in-Root : goal.returns-in-Root
+returns-in-Root c =
+    record {
+      exact =
+          if_ok c.can_root.result
+          (λ may exact pairs words log knows.
+          let i = c.in-Root in
+          subst (λ e. IsTrue may ↔ Enabled (start pairs words) log e) (ap (Root i.c i.o i.word) c.as_slice-in-Root.ensures.value ∙ sym i.is)
+          (exact (state_of pairs words log) knows.mirrors knows.remembers.started (rows_rise pairs words log knows.lawful) (held_are_free pairs words log knows.lawful)))
+          c.can_root.ensures.exact;
+    }
+
+pub returns-in-Place : goal.returns-in-Place
+returns-in-Place c =
+    record {
+      exact =
+          if_ok c.can_place.result
+          (λ may exact pairs words log knows.
+          let i = c.in-Place in
+          subst (λ e. IsTrue may ↔ Enabled (start pairs words) log e) (ap (Place i.c i.o i.part i.word) c.as_slice-in-Place.ensures.value ∙ sym i.is)
+          (exact (state_of pairs words log) knows.mirrors (rows_rise pairs words log knows.lawful) (held_are_free pairs words log knows.lawful)))
+          c.can_place.ensures.exact;
+    }
+
+pub returns-in-Lose : goal.returns-in-Lose
+returns-in-Lose c =
+    record {
+      exact =
+          if_ok c.can_lose.result
+          (λ may exact pairs words log knows.
+          let i = c.in-Lose in
+          subst (λ e. IsTrue may ↔ Enabled (start pairs words) log e) (ap (Lose i.caller) c.as_slice-in-Lose.ensures.value ∙ sym i.is)
+          (exact (state_of pairs words log) log knows.mirrors knows.remembers.started knows.remembers.builds.0))
+          c.can_lose.ensures.exact;
+    }

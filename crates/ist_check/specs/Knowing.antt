@@ -1,0 +1,29 @@
+-- What the checker knows behind the events so far.
+use Rattle.std.specs.Prelude.{◌≤◌, ℕ, List, map, length}
+use Rattle.ist_core.specs.declared.pairs.Pair.{Pair}
+use Rattle.ist_core.specs.StartLayout.{start}
+use Rattle.ist_core.specs.Logs.{Log}
+use Rattle.ist_core.specs.Lawful.{Lawful, state_of}
+use Rattle.ist_enabled.specs.declared.pasts.Past.{Past}
+use Rattle.ist_enabled.specs.declared.replicas.Replica.{Replica}
+use Rattle.ist_enabled.specs.Mirroring.{Mirrors}
+use Rattle.ist_enabled.specs.Remembering.{KnowsOkays, KnowsCalls, KnowsDraws, KnowsPasses, KnowsUpdates, KnowsSlots, KnowsRefusals, KnowsStarts}
+use Rattle.ist_replay.specs.Remembered.{TellsBuilds}
+
+-- each table but that of the slots holds what it should of the log
+pub record Remembers (past : Past) (pairs : List Pair) (words : ℕ) (log : Log) : Type 0 where
+  pub okayed : KnowsOkays past.okayed log
+  pub called : KnowsCalls past.called (state_of pairs words log) log
+  pub drawn : KnowsDraws past.drawn log
+  pub passed : KnowsPasses past.passed log
+  pub updates : KnowsUpdates past.updates (state_of pairs words log) log
+  pub refused : KnowsRefusals past.refused (state_of pairs words log)
+  pub started : KnowsStarts past.started (state_of pairs words log)
+  pub builds : TellsBuilds past.since (map (λ v. v.items) past.builds.items) log
+
+-- the log is lawful, the replica mirrors the state behind it, and the tables hold what they should
+pub record Knows (replica : Replica) (past : Past) (pairs : List Pair) (words : ℕ) (log : Log) : Type 0 where
+  pub lawful : Lawful pairs words log
+  pub mirrors : Mirrors replica (state_of pairs words log)
+  pub slots : KnowsSlots past.slots (start pairs words) log
+  pub remembers : Remembers past pairs words log

@@ -1,0 +1,4 @@
+-- what the public contract rests on, in the order to read them
+pub mod Verdicts
+-- what the functions inside this crate promise each other
+pub mod Knowing

@@ -1,0 +1,68 @@
+//! Brings the tables of what is remembered forward.
+ghost use Rattle.std.specs.Prelude.{◌≡◌, ◌∷◌, ◌<◌, ◌≤◌, ◌+◌, ◌^◌, [], ℕ, List, length, IfOk, OnOk};
+ghost use Rattle.ist_core.specs.declared.pairs.Pair.{Pair as APair};
+ghost use Rattle.ist_core.specs.StartLayout.{start};
+ghost use Rattle.ist_core.specs.Logs.{Log};
+ghost use Rattle.ist_core.specs.Lawful.{Lawful, CanOpen, state_of as behind};
+ghost use Rattle.ist_enabled.specs.Mirroring.{Mirrors};
+ghost use Rattle.ist_enabled.specs.Remembering.{KnowsSlots};
+ghost use Rattle.ist_check.specs.Knowing.{Remembers};
+
+use ist_core::Event;
+use ist_enabled::{Past, Replica};
+use ist_replay::{
+    remember_build, remember_call, remember_draw, remember_okay, remember_pass, remember_refusal,
+    remember_start, remember_update, slots_of_start,
+};
+use std::alloc::{AllocError, Global};
+use std::collections::{BTreeMap, BTreeSet};
+
+/// The tables of a new table, of which this is the replica.
+pub(crate) fn open_past(alloc: Global, replica: &Replica) -> Result<Past, AllocError>
+    ensures exact { IfOk result (λ past. (pairs : List APair) → (words : ℕ) → CanOpen pairs words
+        → Mirrors replica.now (start pairs words) → Remembers past pairs words []) }
+    ensures slots { IfOk result (λ past. (pairs : List APair) → (words : ℕ) → CanOpen pairs words
+        → Mirrors replica.now (start pairs words) → KnowsSlots past.slots (start pairs words) []) }
+    ensures few { IfOk result (λ past. past.builds.items ≡ []) }
+{
+    let slots = slots_of_start(alloc, replica)?;
+    Ok(Past {
+        okayed: BTreeSet::new(alloc),
+        called: BTreeSet::new(alloc),
+        drawn: BTreeMap::new(alloc),
+        passed: BTreeMap::new(alloc),
+        updates: BTreeMap::new(alloc),
+        slots,
+        refused: BTreeSet::new(alloc),
+        started: BTreeSet::new(alloc),
+        builds: Vec::new(alloc),
+        since: BTreeMap::new(alloc),
+    })
+}
+
+/// Brings each table but that of the slots forward by the event. The replica is that of the state
+/// before.
+pub(crate) fn remember(
+    alloc: Global,
+    replica: &Replica,
+    past: &mut Past,
+    event: &Event,
+) -> Result<(), AllocError>
+    requires room { length past.old.builds.items < 2 ^ 63 }
+    ensures exact { OnOk result ((pairs : List APair) → (words : ℕ) → (log : Log)
+        → Lawful pairs words (event.now ∷ log)
+        → Mirrors replica.now (behind pairs words log)
+        → Remembers past.old pairs words log
+        → Remembers past.new pairs words (event.now ∷ log)) }
+    ensures slots { OnOk result (past.new.slots ≡ past.old.slots) }
+    ensures few { OnOk result (length past.new.builds.items ≤ length past.old.builds.items + 1) }
+{
+    remember_okay(&mut past.okayed, event)?;
+    remember_call(replica, &mut past.called, event)?;
+    remember_draw(&mut past.drawn, event)?;
+    remember_pass(&mut past.passed, event)?;
+    remember_update(alloc, replica, &mut past.updates, event)?;
+    remember_refusal(replica, &mut past.refused, event)?;
+    remember_start(replica, &mut past.started, event)?;
+    remember_build(alloc, &mut past.builds, &mut past.since, event)
+}
