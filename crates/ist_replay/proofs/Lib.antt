@@ -7,6 +7,7 @@ pub mod BuildTableLemmas
 pub mod DecisionLemmas
 pub mod RefusingLemmas
 pub mod HangingLemmas
+pub mod AddedSlotLemmas
 pub mod LinkingLemmas
 pub mod SlotTableLemmas
 pub mod LinkTableLemmas

@@ -14,7 +14,8 @@ use Rattle.ist_enabled.specs.declared.pasts.Slot.{Slot}
 
 -- ---- rows that hang
 
--- the inner row is the logical child in slot j of `under`, and that is slot i of the node or lies below it
+-- the inner row is the logical child in slot j of `under`, and that is slot i of the node or lies
+-- below it
 pub data Hangs (t : Snapshot) : ℕ → ℕ → ℕ → ℕ → ℕ → Type 0 where
   hangs_here : {node i child : ℕ} → IsChild t node i child → Hangs t node i node i child
   hangs_below : {node i under j child : ℕ} (row k : ℕ) → IsChild t node i row
@@ -49,14 +50,17 @@ BringsInPlace t base =
 
 -- ---- tables of slots
 
--- the second table has the entries of the first and those with P
+-- the table has slot i of the node for the child
+abbrev pub HasSlot : BTreeMap ℕ Slot → ℕ → ℕ → ℕ → Type 0
+HasSlot slots node i child = tree.get nat_cmp slots child ≡ Some record { node = node; index = i }
+
+-- the second table has the slots of the first and those with P
 abbrev pub Adds : BTreeMap ℕ Slot → BTreeMap ℕ Slot → (ℕ → ℕ → ℕ → Type 0) → Type 0
 Adds old new P =
-    (node i child : ℕ)
-    → (tree.get nat_cmp new child ≡ Some record { node = node; index = i })
-    ↔ ((tree.get nat_cmp old child ≡ Some record { node = node; index = i }) ⊎ P node i child)
+    (node i child : ℕ) → HasSlot new node i child ↔ (HasSlot old node i child ⊎ P node i child)
 
--- each logical child is an inner row above its node, hangs in one slot only, and the table has no other slot for it
+-- each logical child is an inner row above its node, hangs in one slot only, and the table has no
+-- other slot for it
 pub record HangsOnce (slots : BTreeMap ℕ Slot) (t : Snapshot) : Type 0 where
   pub anchor_free : t.pieces anchor ≡ None
   pub rows : (node i child : ℕ) → IsChild t node i child

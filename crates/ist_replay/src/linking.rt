@@ -73,7 +73,8 @@ fn note_links(
     }
 }
 
-/// Remembers the slots in which rows hang in or below slot `index` of the node, which holds the word.
+/// Remembers the slots in which rows hang in or below slot `index` of the node, which holds the
+/// word.
 #[cycle(rows)]
 fn note_slot(
     replica: &Replica,
@@ -91,7 +92,8 @@ fn note_slot(
     }
 }
 
-/// Remembers slot `index` of the node for the inner row in it, and the slots of the rows below that.
+/// Remembers slot `index` of the node for the inner row in it, and the slots of the rows below
+/// that row.
 #[cycle(rows)]
 fn note_row(
     replica: &Replica,

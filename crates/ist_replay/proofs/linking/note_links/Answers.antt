@@ -11,8 +11,10 @@ returns-in-Some-inner_of_word c =
           (λ exact t h once place.
           let row = c.in-Some.row.now in
           let child = c.in-Some-inner_of_word.child in
-          let stands = change_stands c.args.replica.now t c.args.change h row (sym c.in-Some.ensures.value) in
+          let stands =
+          change_stands c.args.replica.now t c.args.change h row (sym c.in-Some.ensures.value) in
           let to = c.in-Some-inner_of_word.ensures.exact.0 in
-          brings_row t c.args.change child row stands to c.args.slots.now c.note_row.new.slots (exact t h once (place row child stands to)))
+          brings_row t c.args.change child row stands to c.args.slots.now c.note_row.new.slots
+          (exact t h once (place row child stands to)))
           c.note_row.ensures.exact;
     }
