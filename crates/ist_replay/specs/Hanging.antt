@@ -59,8 +59,8 @@ abbrev pub Adds : BTreeMap ℕ Slot → BTreeMap ℕ Slot → (ℕ → ℕ → �
 Adds old new P =
     (node i child : ℕ) → HasSlot new node i child ↔ (HasSlot old node i child ⊎ P node i child)
 
--- each logical child is an inner row above its node, hangs in one slot only, and the table has no
--- other slot for it
+-- no row lies at the anchor; each logical child is an inner row above its node, hangs in one slot
+-- only, and the table has no other slot for it
 pub record HangsOnce (slots : BTreeMap ℕ Slot) (t : Snapshot) : Type 0 where
   pub anchor_free : t.pieces anchor ≡ None
   pub rows : (node i child : ℕ) → IsChild t node i child
