@@ -14,7 +14,6 @@ use Rattle.ist_core.specs.Marking.{HasTarget, IsCalled, as_target, as_child, beh
 use Rattle.ist_core.specs.StartLayout.{start}
 use Rattle.ist_core.specs.Lawful.{Lawful, EachEnabled, CanOpen, state_of}
 use Rattle.ist_core.proofs.GrowingLemmas.{rebuild_there}
-use Rattle.ist_core.proofs.StepLemmas.{grow_step}
 use Rattle.ist_core.proofs.NamingLemmas.{SlotNames, SideNames, IsRebuildFor, slot_grows}
 use Rattle.ist_core.proofs.OrderLemmas.{names}
 use Rattle.ist_enabled.specs.Answers.{Holds}
@@ -23,7 +22,7 @@ use Rattle.ist_enabled.proofs.MirrorLemmas.{one_rebuild}
 use Rattle.ist_replay.specs.Remembered.{Starts}
 use Rattle.ist_replay.specs.Calls.{StartCalls, WordCalls, names_row, names_rebuild}
 use Rattle.ist_replay.proofs.TableLemmas.{no_pass}
-use Rattle.ist_replay.proofs.DecisionLemmas.{is_sound, start_stays, started_before, started_newly, start_begun}
+use Rattle.ist_replay.proofs.DecisionLemmas.{rows_grow, start_stays, started_before, started_newly, start_begun}
 
 -- ---- the target of a rebuild
 
@@ -55,11 +54,6 @@ module _ (pairs : List Pair) (words : ℕ) where
   abbrev Ran : Log → Type 0
   Ran log = EachEnabled (start pairs words) log
 
-  -- rows only grow
-  grown : (log : Log) (event : Event) → Ran (event ∷ log)
-      → AllGrow (table log).pieces (table (event ∷ log)).pieces
-  grown log event h = grow_step (start pairs words) log event h.1 (is_sound pairs words log h.0)
-
   -- ---- what is named is published
 
   module _ (opens : CanOpen pairs words) where
@@ -79,7 +73,7 @@ module _ (pairs : List Pair) (words : ℕ) where
         → Happened (Passes above i word) log → SlotNames (table log).pieces above i (ref_of word)
     passed_names [] h above i word none = absurd none
     passed_names (event ∷ log) h above i word d =
-        slot_grows _ _ (grown log event h) above i (ref_of word)
+        slot_grows _ _ (rows_grow pairs words log event h) above i (ref_of word)
         (⊎_elim (passed_now log event h above i word) (passed_names log h.0 above i word) d)
 
     -- a rebuild that a passed word names is published
@@ -102,7 +96,7 @@ module _ (pairs : List Pair) (words : ℕ) where
 
   module _ (log : Log) (event : Event) (law : Lawful pairs words (event ∷ log)) (node : ℕ) where
     grows : AllGrow (table log).pieces (table (event ∷ log)).pieces
-    grows = grown log event law.enabled
+    grows = rows_grow pairs words log event law.enabled
 
     -- a cause stays
     call_stays : IsCalled (table log) log node → IsCalled (table (event ∷ log)) (event ∷ log) node

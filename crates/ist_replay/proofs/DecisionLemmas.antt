@@ -16,6 +16,7 @@ use Rattle.ist_core.specs.Logs.{Log, state}
 use Rattle.ist_core.specs.Installing.{pair_row, pair_over, FitsKind, a_put, a_pair, a_remove, a_start, a_finish}
 use Rattle.ist_core.specs.Deciding.{CanDecide}
 use Rattle.ist_core.specs.Rebuilding.{IsStarted}
+use Rattle.ist_core.specs.Growing.{AllGrow}
 use Rattle.ist_core.specs.Enabled.{Enabled}
 use Rattle.ist_core.specs.StartLayout.{start}
 use Rattle.ist_core.specs.Lawful.{Lawful, EachEnabled, state_of}
@@ -193,6 +194,11 @@ decided_stays first log event h s base r e d =
 module _ (pairs : List Pair) (words : ℕ) (log : Log) where
   pub is_sound : EachEnabled (start pairs words) log → IsSound (state_of pairs words log)
   is_sound h = sound (start pairs words) log (sound_start pairs words) h
+
+  -- rows only grow
+  pub rows_grow : (event : Event) → EachEnabled (start pairs words) (event ∷ log)
+      → AllGrow (state_of pairs words log).pieces (state_of pairs words (event ∷ log)).pieces
+  rows_grow event h = grow_step (start pairs words) log event h.1 (is_sound h.0)
 
   -- a started rebuild stays so
   pub start_stays : (event : Event) → Lawful pairs words (event ∷ log) → (rebuild : ℕ)

@@ -8,16 +8,14 @@ use Rattle.ist_core.specs.declared.events.Event.{Event}
 use Rattle.ist_core.specs.declared.events.Event.TheVariants.{Decide, Count}
 use Rattle.ist_core.specs.Snapshots.{Snapshot}
 use Rattle.ist_core.specs.Logs.{Log, Happened, Decides, Counts}
-use Rattle.ist_core.specs.Growing.{AllGrow}
 use Rattle.ist_core.specs.Deciding.{IsUpdateOf, SaysYes}
 use Rattle.ist_core.specs.StartLayout.{start}
 use Rattle.ist_core.specs.Lawful.{Lawful, EachEnabled, state_of}
 use Rattle.ist_core.proofs.GrowingLemmas.{change_there}
-use Rattle.ist_core.proofs.StepLemmas.{grow_step}
 use Rattle.ist_enabled.specs.declared.pasts.LastUpdate.{LastUpdate}
 use Rattle.ist_enabled.specs.Remembering.{IsUncounted, LacksCount, KnowsUpdates}
 use Rattle.ist_replay.specs.Entries.{Renews, CountsIn}
-use Rattle.ist_replay.proofs.DecisionLemmas.{is_sound}
+use Rattle.ist_replay.proofs.DecisionLemmas.{rows_grow}
 use Rattle.ist_replay.proofs.YesLemmas.{in_later, in_between, ChangeHere, update_stays, update_before, yes_kept, last_is}
 
 -- the caller's entry, if there is one
@@ -33,11 +31,6 @@ module _ (pairs : List Pair) (words : ℕ) where
   abbrev Ran : Log → Type 0
   Ran log = EachEnabled (start pairs words) log
 
-  -- rows only grow
-  grown : (log : Log) (event : Event) → Ran (event ∷ log)
-      → AllGrow (table log).pieces (table (event ∷ log)).pieces
-  grown log event h = grow_step (start pairs words) log event h.1 (is_sound pairs words log h.0)
-
   -- a change that is decided now stands published
   decided_now : (log : Log) (event : Event) → Ran (event ∷ log) → (base : ℕ) (said : Bool)
       → Decides base said event → ChangeHere (table log).pieces base
@@ -51,7 +44,7 @@ module _ (pairs : List Pair) (words : ℕ) where
   decided_here [] h base said none = absurd none
   decided_here (event ∷ log) h base said d =
       let here = ⊎_elim (decided_now log event h base said) (decided_here log h.0 base said) d in
-      let grows = grown log event h in
+      let grows = rows_grow pairs words log event h in
       let on = change_there _ _ grows base here.0 here.1 in
       (on.0, on.1)
 
@@ -61,13 +54,13 @@ module _ (pairs : List Pair) (words : ℕ) where
     -- an update of before the event stays one
     stays_update : (base : ℕ) → IsUpdateOf (table log) caller base
         → IsUpdateOf (table (event ∷ log)) caller base
-    stays_update base it = update_stays _ _ (grown log event law.enabled) caller base it
+    stays_update base it = update_stays _ _ (rows_grow pairs words log event law.enabled) caller base it
 
     -- an update that was decided before the event was one then
     was_update : (base : ℕ) → Happened (Decides base true) log
         → IsUpdateOf (table (event ∷ log)) caller base → IsUpdateOf (table log) caller base
     was_update base d it =
-        update_before _ _ (grown log event law.enabled) caller base
+        update_before _ _ (rows_grow pairs words log event law.enabled) caller base
         (decided_here log law.enabled.0 base true d) it
 
     module _ (none : ¬ (SaysYes (table (event ∷ log)) caller event)) (node base : ℕ) where
@@ -169,7 +162,7 @@ module _ (pairs : List Pair) (words : ℕ) where
         at (inr k) =
             let yes = Decide by change true in
             let here = decided_now log yes law.enabled change true (refl, refl) in
-            let before = update_before _ _ (grown log yes law.enabled) caller change here in
+            let before = update_before _ _ (rows_grow pairs words log yes law.enabled) caller change here in
             let none = λ (y : IsUpdateOf (table behind) caller change). k.0 (before y) in
             let step = uncounted_step log yes law caller none node base in
             let it = known caller node base in (
