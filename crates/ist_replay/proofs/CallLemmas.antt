@@ -95,6 +95,7 @@ module _ (pairs : List Pair) (words : ℕ) where
   -- ---- causes
 
   module _ (log : Log) (event : Event) (law : Lawful pairs words (event ∷ log)) (node : ℕ) where
+    -- rows only grow
     grows : AllGrow (table log).pieces (table (event ∷ log)).pieces
     grows = rows_grow pairs words log event law.enabled
 
@@ -115,14 +116,14 @@ module _ (pairs : List Pair) (words : ℕ) where
         target_before _ _ grows rebuild node
         (passed_rebuild law.opens log law.enabled.0 above i word rebuild named is) of
 
-    -- a target of a rebuild that a change of before starts was one before
+    -- so was a target of a rebuild that a change starts, where the change stood before
     started_of : (base rebuild : ℕ) → Starts (table log) base rebuild
         → HasTarget (table (event ∷ log)) rebuild node → HasTarget (table log) rebuild node
     started_of base rebuild k of =
         target_before _ _ grows rebuild node
         (starting_rebuild law.opens log law.enabled.0 base rebuild k) of
 
-    -- a cause behind the event was one before, or is a rebuild that starts now or a word passed now
+    -- a cause behind the event was one before, or a rebuild starts now, or a word is passed now
     causes : (New : Type 0)
         → ((rebuild : ℕ) → IsStarted (table (event ∷ log)) rebuild
         → HasTarget (table (event ∷ log)) rebuild node → IsStarted (table log) rebuild ⊎ New)
@@ -135,6 +136,7 @@ module _ (pairs : List Pair) (words : ℕ) where
         (λ new. inr new)
         (starts rebuild begun of)
       where
+        -- a started rebuild is one that its change starts
         as_starts : {rebuild : ℕ} → (it : IsStarted (table log) rebuild)
             → Starts (table log) it.base rebuild
         as_starts it =
@@ -172,7 +174,7 @@ module _ (pairs : List Pair) (words : ℕ) where
     (λ it. (more node).1 (⊎_elim (λ k. inl ((known node).1 k)) (λ k. inr k) (before node it))),
   )
 
-  -- where there are none, it stays as it is
+  -- where there are none, it stays right as it is
   calls_stay : (log : Log) (event : Event) → Lawful pairs words (event ∷ log)
       → (called : BTreeSet ℕ)
       → ((node : ℕ) → IsCalled (table (event ∷ log)) (event ∷ log) node
@@ -184,7 +186,7 @@ module _ (pairs : List Pair) (words : ℕ) where
       (λ node none. absurd none) known
 
   module _ (log : Log) where
-    -- behind an event that neither decides nor passes
+    -- behind an event that neither decides nor passes the set stays right
     pub calls_kept : (event : Event) → ((c b : ℕ) (x : Bool) → event ≢ Decide c b x)
         → ((c n i w : ℕ) → event ≢ Pass c n i w)
         → Lawful pairs words (event ∷ log) → (called : BTreeSet ℕ)
@@ -197,7 +199,7 @@ module _ (pairs : List Pair) (words : ℕ) where
         (λ above i word now calls. no_pass event passes_none above i word now))
         known
 
-    -- behind a no
+    -- so it does behind a no
     pub calls_refused : (caller base : ℕ) → Lawful pairs words (Decide caller base false ∷ log)
         → (called : BTreeSet ℕ)
         → RightCalls called log → RightCalls called (Decide caller base false ∷ log)
@@ -210,7 +212,7 @@ module _ (pairs : List Pair) (words : ℕ) where
         (λ above i word now calls. absurd now))
         known
 
-    -- behind a yes
+    -- where the set gets the targets of what the change starts, it is right behind its yes
     pub calls_started : (caller base : ℕ) → Lawful pairs words (Decide caller base true ∷ log)
         → (old new : BTreeSet ℕ)
         → ((node : ℕ) → Holds new node ↔ (Holds old node ⊎ StartCalls (table log) base node))
@@ -233,7 +235,7 @@ module _ (pairs : List Pair) (words : ℕ) where
         (start_begun pairs words log caller base k.rebuild k.starts))
         known
 
-    -- behind a pass
+    -- where it gets what the word names, it is right behind a pass with the word
     pub calls_passed : (caller above i word : ℕ)
         → Lawful pairs words (Pass caller above i word ∷ log) → (old new : BTreeSet ℕ)
         → ((node : ℕ) → Holds new node ↔ (Holds old node ⊎ WordCalls (table log) word node))
@@ -248,6 +250,7 @@ module _ (pairs : List Pair) (words : ℕ) where
         behind : Log
         behind = Pass caller above i word ∷ log
 
+        -- what the word names is called behind the pass
         called_by : (node : ℕ) → WordCalls (table log) word node → IsCalled (table behind) behind node
         called_by node (names_row is) = as_child above i word (inl (refl, refl, refl)) is
         called_by node (names_rebuild rebuild is of) =

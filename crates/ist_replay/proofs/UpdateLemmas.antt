@@ -51,7 +51,7 @@ module _ (pairs : List Pair) (words : ℕ) where
   -- ---- one event
 
   module _ (log : Log) (event : Event) (law : Lawful pairs words (event ∷ log)) (caller : ℕ) where
-    -- an update of before the event stays one
+    -- an update stays one
     stays_update : (base : ℕ) → IsUpdateOf (table log) caller base
         → IsUpdateOf (table (event ∷ log)) caller base
     stays_update base it = update_stays _ _ (rows_grow pairs words log event law.enabled) caller base it
@@ -128,7 +128,7 @@ module _ (pairs : List Pair) (words : ℕ) where
   RightUpdates updates log = KnowsUpdates updates (table log) log
 
   module _ (log : Log) where
-    -- behind a Count
+    -- where the entries are as a Count makes them, the map is right behind it
     pub updates_counted : (caller node : ℕ) → Lawful pairs words (Count caller node ∷ log)
         → (old new : BTreeMap ℕ LastUpdate)
         → ((other : ℕ) → CountsIn caller node other (entry old other) (entry new other))
@@ -141,7 +141,7 @@ module _ (pairs : List Pair) (words : ℕ) where
           (λ i. let k = step.0 i in both.1 (it.1 k.0, k.1)),
         )
 
-    -- behind a yes
+    -- where they are as a yes makes them, it is right behind that
     pub updates_renewed : (by change : ℕ) → Lawful pairs words (Decide by change true ∷ log)
         → (old new : BTreeMap ℕ LastUpdate)
         → ((caller : ℕ) → Renews (table log) change caller (entry old caller) (entry new caller))
@@ -170,7 +170,7 @@ module _ (pairs : List Pair) (words : ℕ) where
               (λ i. subst (λ o. LacksCount o node base) (sym k.1) (it.1 (step.0 i).0)),
             )
 
-    -- behind an event that neither says yes nor counts
+    -- behind an event that neither says yes nor counts the map stays right
     updates_stay : (event : Event) → Lawful pairs words (event ∷ log)
         → (updates : BTreeMap ℕ LastUpdate)
         → ((caller : ℕ) → ¬ (SaysYes (table (event ∷ log)) caller event))
@@ -181,7 +181,7 @@ module _ (pairs : List Pair) (words : ℕ) where
         let it = known caller node base in
         ((λ l. step.1 (it.0 l, no_count caller node)), (λ i. it.1 (step.0 i).0))
 
-    -- behind a no
+    -- so it does behind a no
     pub updates_refused : (by change : ℕ) → Lawful pairs words (Decide by change false ∷ log)
         → (updates : BTreeMap ℕ LastUpdate)
         → RightUpdates updates log → RightUpdates updates (Decide by change false ∷ log)
@@ -189,7 +189,7 @@ module _ (pairs : List Pair) (words : ℕ) where
         updates_stay (Decide by change false) law updates (λ caller none. none)
         (λ caller node none. none) known
 
-    -- behind an event that neither decides nor counts
+    -- and behind an event that neither decides nor counts
     pub updates_kept : (event : Event) → ((c b : ℕ) (x : Bool) → event ≢ Decide c b x)
         → ((c n : ℕ) → event ≢ Count c n)
         → Lawful pairs words (event ∷ log) → (updates : BTreeMap ℕ LastUpdate)
@@ -198,11 +198,13 @@ module _ (pairs : List Pair) (words : ℕ) where
         updates_stay event law updates (says_none event no_decide (table (event ∷ log)))
         (counts_none event no_count) known
       where
+        -- such an event says no yes
         says_none : (e : Event) → ((c b : ℕ) (x : Bool) → e ≢ Decide c b x) → (t : Snapshot)
             → (caller : ℕ) → ¬ (SaysYes t caller e)
         says_none (Decide c b x) other t caller y = absurd (other c b x refl)
         says_none e other t caller y = y
 
+        -- and it counts nothing
         counts_none : (e : Event) → ((c n : ℕ) → e ≢ Count c n) → (caller node : ℕ)
             → ¬ (Counts caller node e)
         counts_none (Count c n) other caller node y = absurd (other c n refl)
