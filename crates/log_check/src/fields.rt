@@ -1,0 +1,60 @@
+//! The fields of a line: parts of it between single separators.
+
+/// What is left of a line, of which the fields stand between single separators.
+#[derive(Drop)]
+pub struct Fields<'a> {
+    rest: Option<&'a [u8]>,
+    separator: u8,
+}
+
+/// The fields of the text, which has one more of them than separators.
+pub fn parts_of(text: &[u8], separator: u8) -> Fields<'_> {
+    Fields {
+        rest: Some(text),
+        separator,
+    }
+}
+
+impl<'a> Fields<'a> {
+    /// The next field, if one is left.
+    pub fn take(&mut self) -> Option<&'a [u8]> {
+        let rest = self.rest?;
+        let separator = self.separator;
+        match rest.iter().position(|byte| *byte == separator) {
+            None => {
+                self.rest = None;
+                Some(rest)
+            }
+            Some(at) => {
+                self.rest = Some(&rest[at + 1..]);
+                Some(&rest[..at])
+            }
+        }
+    }
+
+    /// The number in the next field, if that is one: ASCII digits that say less than 2^64.
+    pub fn number(&mut self) -> Option<u64> {
+        number_of(self.take()?)
+    }
+
+    /// Is no field left?
+    pub fn is_done(&self) -> bool {
+        self.rest.is_none()
+    }
+}
+
+/// The number that some bytes are: one or more ASCII digits that say less than 2^64.
+pub fn number_of(bytes: &[u8]) -> Option<u64> {
+    if bytes.is_empty() {
+        return None;
+    }
+    let mut value: u64 = 0;
+    for &byte in bytes {
+        if !byte.is_ascii_digit() {
+            return None;
+        }
+        let digit = u64::from(byte - b'0');
+        value = value.checked_mul(10)?.checked_add(digit)?;
+    }
+    Some(value)
+}

@@ -1,0 +1,139 @@
+//! A log in its text form: the table at its start, and then one event a line.
+ghost use Rattle.std.specs.Prelude.{◌↔◌, ◌≤◌, IsTrue, IfOk, IfSome, map};
+ghost use Rattle.std.specs.List.Sorted.{IsStrictlyIncreasing};
+ghost use Rattle.ist_core.specs.RowLayout.{place_limit};
+ghost use Rattle.ist_core.specs.Lawful.{CanOpen};
+ghost use Rattle.log_check.specs.Opening.{LogOpens, Opens};
+
+use crate::events::read_event;
+use crate::fields::{Fields, parts_of};
+use ist_core::{Event, Pair};
+use ist_layout::{FIRST_ROW, PLACE_LIMIT};
+use ist_math::ideal_words;
+use std::alloc::{AllocError, Global};
+
+/// The line that may stand second: the numbers of the definitions.
+const NUMBERS: &[u8] = b"const SHARE_FROM=256 LIMIT_MIN=8 LIMIT_DIV=4";
+
+/// More pairs than a table has room for.
+const MANY_PAIRS: u64 = 1 << 28;
+
+/// A table at its start, which may be opened, and the events that came to it, the oldest first.
+#[derive(Drop)]
+pub struct Log {
+    pub pairs: Vec<Pair>,
+    pub words: u32,
+    pub events: Vec<Event>,
+}
+
+/// What a text is.
+#[derive(Drop)]
+pub enum Reading {
+    Whole(Log),
+    /// The first line that is out of form, counted from 1.
+    OutOfForm { line: u64 },
+}
+
+/// The log of the text. Its first line is the table at its start.
+pub fn read_log(alloc: Global, text: &[u8]) -> Result<Reading, AllocError>
+    ensures opens { IfOk result Opens }
+{
+    let text = text.strip_suffix(b"\n").unwrap_or(text);
+    let mut lines = text.split(|byte| *byte == b'\n');
+    let first = lines.next().unwrap_or(b"");
+    let mut log = match read_start(alloc, first)? {
+        None => return Ok(Reading::OutOfForm { line: 1 }),
+        Some(log) => log,
+    };
+    for (at, line) in lines.enumerate() {
+        if at == 0 && line == NUMBERS {
+            continue;
+        }
+        match read_event(alloc, line)? {
+            None => {
+                let line = (at as u64).saturating_add(2);
+                return Ok(Reading::OutOfForm { line });
+            }
+            Some(event) => log.events.push(event)?,
+        }
+    }
+    Ok(Reading::Whole(log))
+}
+
+/// The table of the first line, if it may be opened: its words, and then its pairs.
+fn read_start(alloc: Global, line: &[u8]) -> Result<Option<Log>, AllocError>
+    ensures opens { IfOk result (λ log. IfSome log LogOpens) }
+{
+    let mut rest = parts_of(line, b' ');
+    if rest.take() != Some(b"start") {
+        return Ok(None);
+    }
+    let words = match rest.number() {
+        Some(words) if words <= PLACE_LIMIT => words as u32,
+        _ => return Ok(None),
+    };
+    let pairs = match read_pairs(alloc, &mut rest)? {
+        None => return Ok(None),
+        Some(pairs) => pairs,
+    };
+    if !may_open(pairs.as_slice(), words) {
+        return Ok(None);
+    }
+    Ok(Some(Log {
+        pairs,
+        words,
+        events: Vec::new(alloc),
+    }))
+}
+
+/// The pairs in the fields that are left, each a key, a colon and a value.
+fn read_pairs(alloc: Global, rest: &mut Fields<'_>) -> Result<Option<Vec<Pair>>, AllocError> {
+    let mut pairs = Vec::new(alloc);
+    for _ in 0..MANY_PAIRS {
+        match rest.take() {
+            None => return Ok(Some(pairs)),
+            Some(text) => match read_pair(text) {
+                None => return Ok(None),
+                Some(pair) => pairs.push(pair)?,
+            },
+        }
+    }
+    Ok(None)
+}
+
+/// A pair: a key, a colon and a value.
+fn read_pair(text: &[u8]) -> Option<Pair> {
+    let mut sides = parts_of(text, b':');
+    let key = sides.number()?;
+    let value = sides.number()?;
+    if sides.is_done() {
+        Some(Pair { key, value })
+    } else {
+        None
+    }
+}
+
+/// May a table of so many words begin with these pairs?
+fn may_open(pairs: &[Pair], words: u32) -> bool
+    requires within { words ≤ place_limit }
+    ensures exact { IsTrue result ↔ CanOpen pairs.now words }
+{
+    let count = pairs.len() as u64;
+    let words = u64::from(words);
+    if count > words || u64::from(FIRST_ROW) + ideal_words(count) > words {
+        return false;
+    }
+    do_rise(pairs)
+}
+
+/// Do the keys rise strictly?
+fn do_rise(pairs: &[Pair]) -> bool
+    ensures exact { IsTrue result ↔ IsStrictlyIncreasing (map (λ pair. pair.key) pairs.now) }
+{
+    for i in 1..pairs.len() {
+        if pairs[i - 1].key >= pairs[i].key {
+            return false;
+        }
+    }
+    true
+}

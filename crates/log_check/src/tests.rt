@@ -1,0 +1,195 @@
+//! What is said of logs, and of texts that are none.
+
+use crate::answer_to;
+use crate::samples::{
+    EIGHT_PUTS, FINISH_REFUSED, MARKED_PARENT, SEEN_MARKED, SEEN_OPEN, SMALL, TWO_ROOTS,
+};
+use std::alloc::{AllocError, Global};
+use std::test::Fail;
+
+/// The events of a put into an empty tree.
+const PUT: &str = "Enter 0
+Reserve 0 4 2
+Reserve 0 6 9
+Install 0 6 6=0,1,2,0,0,33,0,1,1;4=1,1
+Okay 0 6
+Decide 0 6 yes
+Resolve 0 6
+";
+
+/// One text behind the other.
+fn joined(alloc: Global, parts: &[&str]) -> Result<Vec<u8>, AllocError> {
+    let mut text = Vec::new(alloc);
+    for part in parts {
+        text.extend_from_slice(part.as_bytes())?;
+    }
+    Ok(text)
+}
+
+/// The first so many lines of the text, and then another.
+fn broken(alloc: Global, text: &str, lines: usize, other: &str) -> Result<Vec<u8>, AllocError> {
+    let mut cut = Vec::new(alloc);
+    for line in text.as_bytes().split(|byte| *byte == b'\n').take(lines) {
+        cut.extend_from_slice(line)?;
+        cut.push(b'\n')?;
+    }
+    cut.extend_from_slice(other.as_bytes())?;
+    Ok(cut)
+}
+
+#[test]
+fn a_log_is_said_to_end_as_its_events_say(rt: HostRuntime) -> Result<(), Fail> {
+    let alloc = rt.alloc();
+    // the parts of the text, what is said of it
+    let cases: [(&[&str], &str); 13] = [
+        (&["start 15\n", PUT], "ok next 15 callers 1 anchor 33"),
+        (&["start 14\n", PUT], "unlawful 2"),
+        (&[SMALL], "ok next 83 callers 2 anchor 322"),
+        (&[EIGHT_PUTS, SEEN_OPEN], "ok next 128 callers 4 anchor 828"),
+        (&[EIGHT_PUTS, SEEN_MARKED], "unlawful 70"),
+        (
+            &[TWO_ROOTS, "Lose 1 124\n"],
+            "ok next 131 callers 2 anchor 828",
+        ),
+        (
+            &[TWO_ROOTS, "Root 1 103 994 124=0,0,2,2,20,737,105\n"],
+            "unlawful 71",
+        ),
+        (
+            &[MARKED_PARENT, FINISH_REFUSED],
+            "ok next 381 callers 2 anchor 2218",
+        ),
+        (&[MARKED_PARENT, "Decide 0 268 yes\n"], "unlawful 105"),
+        // a start on the anchor's child, which isn't due
+        (
+            &[
+                "start 100 10:1 20:2\nEnter 0\nReserve 0 15 5\nReserve 0 20 9\n",
+                "Install 0 20 20=0,3,2,0,34,124,0,0,0;15=4,2,0,7,0\n",
+            ],
+            "ok next 29 callers 1 anchor 163",
+        ),
+        // no event
+        (&["start 4"], "ok next 4 callers 0 anchor 0"),
+        (&["start 16 5:7\n"], "ok next 6 callers 0 anchor 33"),
+        (&["start 20 5:7 9:1\n"], "ok next 15 callers 0 anchor 34"),
+    ];
+    for (parts, want) in cases {
+        let text = joined(alloc, parts)?;
+        let (answer, status) = answer_to(alloc, text.as_slice())?;
+        assert_eq!(rt; answer.as_str(), want);
+        assert_eq!(rt; status, 0);
+    }
+    Ok(())
+}
+
+#[test]
+fn an_event_that_may_not_come_is_found(rt: HostRuntime) -> Result<(), Fail> {
+    let alloc = rt.alloc();
+    // the number of events before it, the event
+    let cases = [
+        (0, "Enter 1"),
+        (1, "Enter 0"),
+        (2, "Reserve 0 16 2"),
+        (2, "Reserve 0 15 3"),
+        (2, "Reserve 2 15 2"),
+        (2, "Reserve 0 15 200"),
+        (3, "Reserve 0 17 2"),
+        (4, "Install 0 17 17=0,1,4,0,105,121,0,10,5;15=10,5"),
+        (4, "Install 0 17 17=0,1,4,1,105,121,0,10,5;15=10,5"),
+        (4, "Install 1 17 17=0,1,4,0,89,121,1,10,5;15=10,5"),
+        (4, "Install 0 17 17=0,1,4,0,89,121,0,10,5"),
+        (4, "Install 0 17 17=0,1,4,0,89,121,0,10,5;15=10,6"),
+        (4, "Install 0 17 17=1,1,4,0,89,121,0,10,5;15=10,5"),
+        (5, "Okay 1 15"),
+        (5, "Decide 1 17 yes"),
+        (5, "Decide 1 17 no"),
+        (6, "Resolve 0 17"),
+        (6, "Decide 1 17 no"),
+        (7, "Decide 0 17 yes"),
+        (8, "Resolve 0 17"),
+        (8, "Count 1 4"),
+        (8, "Count 0 2"),
+        (9, "Count 0 4"),
+        (10, "Mark 0 4"),
+        (11, "Install 0 31 31=0,3,2,0,34,212,0,0,0;26=4,2,0,0,0"),
+        (12, "Mark 0 4"),
+        (15, "Pass 0 4 0 121"),
+        (15, "Mark 0 26"),
+        (16, "Pass 0 4 0 105"),
+        (16, "Pass 0 4 2 105"),
+        (16, "Mark 0 4"),
+        (16, "Okay 0 17"),
+        (17, "Finish 1 4 2"),
+        (18, "Finish 1 4 3"),
+        (19, "Finish 1 4 2"),
+        (21, "Root 0 26 322 40=0,0,2,2,10,121,105"),
+        (21, "Root 0 26 322 40=0,0,2,2,20,121,97"),
+        (21, "Root 0 26 121 -"),
+        (21, "Root 1 26 322 40=0,0,2,2,20,121,105"),
+        (21, "Lose 1 47"),
+        (21, "Lose 1 40"),
+        (22, "Root 1 26 378 47=0,0,2,2,20,121,105"),
+        (22, "Lose 1 47,47"),
+        (22, "Lose 0 40"),
+        (22, "Draw 0 26 0"),
+        (22, "Place 0 26 0 121 -"),
+        (23, "Lose 1 47"),
+        (24, "Install 0 54 54=0,4,2,0,34,322,0,0,0"),
+        (24, "Install 0 54 54=0,4,2,0,212,34,0,0,0"),
+        (27, "Decide 0 31 no"),
+        (31, "Decide 1 65 yes"),
+        (31, "Okay 1 65"),
+        (33, "Install 1 65 65=0,1,4,1,105,505,1,20,9;63=20,9"),
+        (34, "Install 0 74 74=0,2,40,0,121,0,0,20,0"),
+        (34, "Install 0 74 74=0,2,40,1,105,0,0,20,1"),
+        (39, "Count 0 4"),
+    ];
+    for (at, event) in cases {
+        let text = broken(alloc, SMALL, at + 1, event)?;
+        let (answer, status) = answer_to(alloc, text.as_slice())?;
+        assert_eq!(rt;
+            answer.as_str(),
+            format!(in alloc; "unlawful {at}")?.as_str(),
+            "{event}"
+        );
+        assert_eq!(rt; status, 0);
+    }
+    Ok(())
+}
+
+#[test]
+fn the_first_line_out_of_form_is_named(rt: HostRuntime) -> Result<(), Fail> {
+    let alloc = rt.alloc();
+    // the text, the line
+    let cases = [
+        ("", 1),
+        ("start", 1),
+        ("start 3\n", 1),
+        ("start 268435457\n", 1),
+        ("start 14 5:7 9:1\n", 1),
+        ("start 20 9:1 5:7\n", 1),
+        ("start 20 5:7 5:8\n", 1),
+        ("start 20 5:7:9\n", 1),
+        ("start 20  5:7\n", 1),
+        ("start 20\n\n", 2),
+        ("start 20\nconst SHARE_FROM=4 LIMIT_MIN=8 LIMIT_DIV=4\n", 2),
+        ("start 20\nEnter\n", 2),
+        ("start 20\nEnter 0 0\n", 2),
+        ("start 20\nEnter +1\n", 2),
+        ("start 20\nEnter 18446744073709551616\n", 2),
+        ("start 20\nEnter 0\nDecide 0 6 maybe\n", 3),
+        ("start 20\nEnter 0\nInstall 0 6 6=\n", 3),
+        ("start 20\nEnter 0\nLose 0 4,\n", 3),
+        ("start 20\nEnter 0\nSleep 0 4\n", 3),
+    ];
+    for (text, line) in cases {
+        let (answer, status) = answer_to(alloc, text.as_bytes())?;
+        assert_eq!(rt;
+            answer.as_str(),
+            format!(in alloc; "! form {line}")?.as_str(),
+            "{text}"
+        );
+        assert_eq!(rt; status, 3);
+    }
+    Ok(())
+}

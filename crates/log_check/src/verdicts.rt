@@ -1,0 +1,59 @@
+//! What is said of a log.
+ghost use Rattle.std.specs.Prelude.{IfOk};
+ghost use Rattle.log_check.specs.Opening.{LogOpens};
+ghost use Rattle.log_check.specs.Verdicts.{IsTrueOf};
+
+use crate::logs::Log;
+use ist_check::{CheckFault, check};
+use std::alloc::{AllocError, Global};
+use std::fmt;
+
+/// What is said of a log.
+#[derive(Clone, Copy, Debug, PartialEq, Eq, Drop)]
+pub enum Verdict {
+    /// Each event may come behind those before it. The state behind the last has this first free
+    /// word, so many callers, and this word in the anchor's slot.
+    AllLawful {
+        next: u64,
+        callers: u64,
+        anchor: u64,
+    },
+    /// The number of the first event that may not come, counted from 0.
+    Unlawful {
+        at: u64,
+    },
+}
+
+impl fmt::Display for Verdict {
+    fn fmt<W: fmt::Write>(&self, f: &mut fmt::Formatter<W>) -> fmt::Result {
+        match self {
+            Verdict::AllLawful {
+                next,
+                callers,
+                anchor,
+            } => write!(f, "ok next {next} callers {callers} anchor {anchor}"),
+            Verdict::Unlawful { at } => write!(f, "unlawful {at}"),
+        }
+    }
+}
+
+/// Whether the log is lawful, and how it ends, or the first event that may not come.
+pub fn judge(alloc: Global, log: &Log) -> Result<Verdict, AllocError>
+    requires opens { LogOpens log.now }
+    ensures exact { IfOk result (IsTrueOf log.now) }
+{
+    match check(
+        alloc,
+        log.pairs.as_slice(),
+        log.words,
+        log.events.as_slice(),
+    ) {
+        Ok(state) => Ok(Verdict::AllLawful {
+            next: state.next,
+            callers: state.callers,
+            anchor: state.anchor,
+        }),
+        Err(CheckFault::Unlawful { at }) => Ok(Verdict::Unlawful { at }),
+        Err(CheckFault::Memory) => Err(AllocError),
+    }
+}
