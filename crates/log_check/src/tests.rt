@@ -26,10 +26,13 @@ fn joined(alloc: Global, parts: &[&str]) -> Result<Vec<u8>, AllocError> {
     Ok(text)
 }
 
-/// The first so many lines of the text, and then another.
-fn broken(alloc: Global, text: &str, lines: usize, other: &str) -> Result<Vec<u8>, AllocError> {
+/// The start of the text and so many of its events, and then another.
+fn broken(alloc: Global, text: &str, events: usize, other: &str) -> Result<Vec<u8>, AllocError> {
     let mut cut = Vec::new(alloc);
-    for line in text.as_bytes().split(|byte| *byte == b'\n').take(lines) {
+    for (number, line) in text.as_bytes().split(|byte| *byte == b'\n').enumerate() {
+        if number > events {
+            break;
+        }
         cut.extend_from_slice(line)?;
         cut.push(b'\n')?;
     }
@@ -145,7 +148,7 @@ fn an_event_that_may_not_come_is_found(rt: HostRuntime) -> Result<(), Fail> {
         (39, "Count 0 4"),
     ];
     for (at, event) in cases {
-        let text = broken(alloc, SMALL, at + 1, event)?;
+        let text = broken(alloc, SMALL, at, event)?;
         let (answer, status) = answer_to(alloc, text.as_slice())?;
         assert_eq!(rt;
             answer.as_str(),
