@@ -1,87 +1,15 @@
 -- A search that goes one size at a time finds exactly the fair lists. Serves `fairness.rt`.
-use Rattle.std.proofs.Common.{◌≡◌, ◌↔◌, ◌∙◌, ◌+◌, ◌<◌, ◌≤◌, ◌⊎◌, Bool, true, false, nat_lt, ℕ, IsTrue, List, [], ◌∷◌, ◌++◌, length, get_or, refl, sym, ap, subst, inl, inr, ⊎_elim, true≢false, arith, append_assoc, append-nil}
+use Rattle.std.proofs.Common.{◌≡◌, ◌↔◌, ◌+◌, ◌<◌, ◌≤◌, Bool, true, false, nat_lt, ℕ, IsTrue, List, [], ◌∷◌, ◌++◌, refl, sym, subst, arith, append_assoc, append-nil}
 use Rattle.std.proofs.lemmas.Bool.Decides.{nat_tests}
 use Rattle.ist_core.specs.Elements.{Each, Distinct}
-use Rattle.ist_core.specs.Snapshots.{Snapshot}
+use Rattle.ist_core.specs.Snapshots.{Snapshot, sizes_held}
 use Rattle.ist_core.specs.Fairness.{IsBuilding, IsStuck, AreBuilds, no_build, last_build, stuck_build, IsMerge, at_end, from_left, from_right, IsFair}
+use Rattle.ist_core.specs.Enabled.{CanReserve}
 use Rattle.ist_enabled.specs.declared.fairness.Spare.{Spare}
-use Rattle.ist_enabled.specs.Searching.{IsSpare, without_spare, is_full, Goes, all_read, leaves_out, goes_on, begins, GoesOnWith, BeginsOne, LeavesOut}
-use Rattle.ist_enabled.proofs.RowLemmas.{behind, split_first}
-use Rattle.ist_enabled.proofs.SpareLemmas.{each_before, each_after, all_spare, each_in, each_out}
+use Rattle.ist_enabled.specs.Searching.{IsSpare, AreSpare, without_spare, all_spare, is_full, Goes, all_read, leaves_out, goes_on, begins}
+use Rattle.ist_enabled.proofs.SpareLemmas.{each_before, each_after, each_in, each_out}
 
 module _ (P : List ℕ → Type 0) (room : ℕ) where
-  -- ---- the first size
-
-  pub goes_none : (may : Spare) (rest : List ℕ) (free : Bool) (xs : List ℕ) → length xs < 1
-      → Goes P room may rest free xs
-  goes_none may rest free [] n = all_read
-  goes_none may rest free (x ∷ xs) n = absurd (omega arith)
-
-  goes_apart : (may : Spare) (rest : List ℕ) (free : Bool) (x : ℕ) (xs : List ℕ)
-      → Goes P room may rest free (x ∷ xs)
-      → GoesOnWith P room may rest x xs
-      ⊎ (LeavesOut P room may rest free x xs ⊎ (IsTrue free × BeginsOne P room may x xs))
-  goes_apart may rest free x xs (leaves_out _ s g) = inr (inl (s, g))
-  goes_apart may _ free x xs (goes_on {rest = r} _ g) = inl record { rest = r; list_is = refl; goes = g }
-  goes_apart may old _ x xs (begins _ rest p g) = inr (inr (refl, record { rest = rest; building = p; goes = g }))
-
-  module _ (may : Spare) (rest : List ℕ) (free : Bool) (xs : List ℕ) (n : 1 ≤ length xs) where
-    whole : get_or xs 0 0 ∷ behind xs ≡ xs
-    whole = sym (split_first xs (get_or xs 0 0) n (first_is xs n))
-      where
-        first_is : (ys : List ℕ) → 1 ≤ length ys → get_or ys 0 0 ≡ get_or ys 0 (get_or ys 0 0)
-        first_is [] n = absurd (omega arith)
-        first_is (y ∷ ys) n = refl
-
-    pub by_on : GoesOnWith P room may rest (get_or xs 0 0) (behind xs) → Goes P room may rest free xs
-    by_on h =
-        subst (Goes P room may rest free) whole
-        (subst (λ r. Goes P room may r free (get_or xs 0 0 ∷ behind xs)) (sym h.list_is) (goes_on (get_or xs 0 0) h.goes))
-
-    pub by_out : LeavesOut P room may rest free (get_or xs 0 0) (behind xs)
-        → Goes P room may rest free xs
-    by_out h = subst (Goes P room may rest free) whole (leaves_out (get_or xs 0 0) h.0 h.1)
-
-    -- where the first size neither goes on nor is left out, it begins a list
-    pub by_begin : free ≡ true → ¬ (GoesOnWith P room may rest (get_or xs 0 0) (behind xs))
-        → ¬ (LeavesOut P room may rest free (get_or xs 0 0) (behind xs))
-        → BeginsOne P room may (get_or xs 0 0) (behind xs) ↔ Goes P room may rest free xs
-    by_begin e a b = (
-      (λ h. subst (Goes P room may rest free) whole (subst (λ f. Goes P room may rest f (get_or xs 0 0 ∷ behind xs)) (sym e) (begins (get_or xs 0 0) h.rest h.building h.goes))),
-      (λ g. ⊎_elim (λ h. absurd (a h)) (λ h. ⊎_elim (λ k. absurd (b k)) (λ k. k.1) h) (goes_apart may rest free (get_or xs 0 0) (behind xs) (subst (Goes P room may rest free) (sym whole) g))),
-    )
-
-    pub by_nothing : free ≡ false → ¬ (GoesOnWith P room may rest (get_or xs 0 0) (behind xs))
-        → ¬ (LeavesOut P room may rest free (get_or xs 0 0) (behind xs))
-        → ¬ (Goes P room may rest free xs)
-    by_nothing e a b g =
-        ⊎_elim a (λ h. ⊎_elim b (λ k. true≢false (sym k.0 ∙ e)) h) (goes_apart may rest free (get_or xs 0 0) (behind xs) (subst (Goes P room may rest free) (sym whole) g))
-
-  -- a list goes on with its first size
-  pub on_is : (may : Spare) (list : List ℕ) (x : ℕ) (xs : List ℕ) (full : Bool) → 1 ≤ length list
-      → get_or list 0 0 ≡ x → full ≡ is_full room (behind list)
-      → Goes P room may (behind list) full xs ↔ GoesOnWith P room may list x xs
-  on_is may [] x xs full n i e = absurd (omega arith)
-  on_is may (y ∷ ys) x xs full n i e =
-      let split = split_first (y ∷ ys) y n refl in (
-        (λ g. record { rest = behind (y ∷ ys); list_is = split ∙ ap (λ z. z ∷ behind (y ∷ ys)) i; goes = subst (λ f. Goes P room may (behind (y ∷ ys)) f xs) e g }),
-        (λ h.
-            let same = tail_same (sym h.list_is ∙ split) in
-            subst (λ f. Goes P room may (behind (y ∷ ys)) f xs) (sym e) (subst (λ r. Goes P room may r (is_full room r) xs) same h.goes)),
-      )
-    where
-      tail_same : {a b : ℕ} {ys zs : List ℕ} → a ∷ ys ≡ b ∷ zs → ys ≡ zs
-      tail_same e = cc
-
-  -- a spare row is left out
-  pub out_is : (may less : Spare) (rest : List ℕ) (free : Bool) (x : ℕ) (xs : List ℕ) → IsSpare may x
-      → less ≡ without_spare may x
-      → Goes P room less rest free xs ↔ LeavesOut P room may rest free x xs
-  out_is may less rest free x xs s e = (
-    (λ g. (s, subst (λ m. Goes P room m rest free xs) e g)),
-    (λ h. subst (λ m. Goes P room m rest free xs) (sym e) h.1),
-  )
-
   -- ---- what is kept, and what is left out
 
   -- sizes without spare rows can be read as the rest of the list that was begun, and then further ones
@@ -184,3 +112,21 @@ module _ (P : List ℕ → Type 0) (room : ℕ) where
           record { building = f.building; spare = f.spare; merge = f.merge; builds = read_builds f.building f.reads; few = each_in f.spare f.few; one_each = f.one_each }),
       (λ h. finds all_spare [] true xs h.building h.spare h.merge (builds_read h.building h.builds) (each_out h.spare h.few) h.one_each),
     )
+
+-- the sizes of spare rows alone are fair, whatever the building lists are
+pub spare_is_fair : (t : Snapshot) (xs : List ℕ) → AreSpare all_spare xs → IsFair t xs
+spare_is_fair t xs h =
+    record { building = []; spare = xs; merge = all_right xs; builds = no_build; few = each_in xs h.0; one_each = h.1 }
+  where
+    all_right : (ys : List ℕ) → IsMerge ys [] ys
+    all_right [] = at_end
+    all_right (y ∷ ys) = from_right y (all_right ys)
+
+-- a row may be reserved if it is fair to hold it too
+pub reserves : (t : Snapshot) (caller base size : ℕ) (xs : List ℕ) (fair : Bool) → caller < t.callers → base ≡ t.next
+    → t.next + size ≤ t.words → xs ≡ sizes_held t caller ++ size ∷ []
+    → (IsTrue fair ↔ IsFair t xs) → IsTrue fair ↔ CanReserve t caller base size
+reserves t caller base size xs fair known at fits e i = (
+  (λ y. record { known = known; base_is = at; room = fits; fair = subst (IsFair t) e (i.0 y) }),
+  (λ r. i.1 (subst (IsFair t) (sym e) r.fair)),
+)

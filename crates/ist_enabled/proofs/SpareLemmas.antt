@@ -1,10 +1,12 @@
 -- Which rows may still be held beside the builds. Serves `fairness.rt`.
-use Rattle.std.proofs.Common.{◌≡◌, ◌∙◌, ◌≢◌, ◌==◌, ◌&&◌, Bool, true, false, not, ℕ, IsTrue, List, [], ◌∷◌, refl, sym, ap, inl, inr, ⊎_elim, arith}
+use Rattle.std.proofs.Common.{◌≡◌, ◌↔◌, ◌∙◌, ◌≢◌, ◌≤◌, ◌==◌, ◌&&◌, Bool, true, false, not, ℕ, IsTrue, List, [], ◌∷◌, length, get_or, refl, sym, ap, subst, inl, inr, ⊎_elim, arith}
 use Rattle.std.proofs.lemmas.Bool.Decides.{nat_tests}
 use Rattle.ist_core.specs.Elements.{Among, Each}
 use Rattle.ist_core.specs.Fairness.{spare_sizes}
 use Rattle.ist_enabled.specs.declared.fairness.Spare.{Spare}
-use Rattle.ist_enabled.specs.Searching.{IsSpare, without_spare}
+use Rattle.ist_enabled.specs.Searching.{IsSpare, AreSpare, without_spare, all_spare}
+use Rattle.ist_enabled.proofs.RowLemmas.{behind}
+use Rattle.ist_enabled.proofs.LoseLemmas.{first_behind}
 
 -- a flag is cleared by the size of its own kind, and by no other
 cleared : (b : Bool) (x kind : ℕ) → IsTrue (b && not (x == kind)) → IsTrue b × (x ≢ kind)
@@ -49,9 +51,24 @@ pub each_after : (may : Spare) (x : ℕ) (ys : List ℕ) → ¬ (Among x ys) →
 each_after may x [] n h = tt
 each_after may x (y ∷ ys) n h = (spare_after may x y (λ e. n (inl (sym e))) h.0, each_after may x ys (λ a. n (inr a)) h.1)
 
--- at first one row of each kind may be held
-abbrev pub all_spare : Spare
-all_spare = record { leaf = true; rebuild = true; pair = true; change = true }
+-- the sizes of rows that may be held are those of the first one, and of others that may be held beside it
+module _ (may : Spare) (xs : List ℕ) (some : 1 ≤ length xs) where
+  spare_apart : AreSpare may (get_or xs 0 0 ∷ behind xs)
+      ↔ (IsSpare may (get_or xs 0 0) × AreSpare (without_spare may (get_or xs 0 0)) (behind xs))
+  spare_apart = (
+    (λ h. (h.0.0, (each_after may (get_or xs 0 0) (behind xs) h.1.0 h.0.1, h.1.1))),
+    (λ h. let k = each_before may (get_or xs 0 0) (behind xs) h.1.0 in ((h.0, k.0), (k.1, h.1.1))),
+  )
+
+  pub spare_first : (less : Spare) → IsSpare may (get_or xs 0 0) → less ≡ without_spare may (get_or xs 0 0)
+      → AreSpare less (behind xs) ↔ AreSpare may xs
+  spare_first less is e = (
+    (λ h. subst (AreSpare may) (first_behind xs some) (spare_apart.1 (is, subst (λ m. AreSpare m (behind xs)) e h))),
+    (λ h. subst (λ m. AreSpare m (behind xs)) (sym e) (spare_apart.0 (subst (AreSpare may) (sym (first_behind xs some)) h)).1),
+  )
+
+  pub spare_not : ¬ (IsSpare may (get_or xs 0 0)) → ¬ (AreSpare may xs)
+  spare_not lacks h = lacks (spare_apart.0 (subst (AreSpare may) (sym (first_behind xs some)) h)).0
 
 pub each_in : (ys : List ℕ) → Each (IsSpare all_spare) ys → Each (λ size. Among size spare_sizes) ys
 each_in [] h = tt

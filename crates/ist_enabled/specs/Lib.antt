@@ -8,5 +8,6 @@ pub mod Ways
 pub mod Kinds
 pub mod Standing
 pub mod Searching
+pub mod Readings
 pub mod Builds
 pub mod Losing

@@ -1,6 +1,6 @@
 -- The search for a fair reading of the sizes of held rows, which goes one size at a time.
 use Rattle.std.specs.Prelude.{◌≡◌, ◌↔◌, ◌⊎◌, ◌==◌, ◌&&◌, not, ℕ, Bool, true, false, nat_lt, IsTrue, List, [], ◌∷◌}
-use Rattle.ist_core.specs.Elements.{Among}
+use Rattle.ist_core.specs.Elements.{Among, Each, Distinct}
 use Rattle.ist_core.specs.RowLayout.{leaf_words, rebuild_words, pair_words, change_words}
 use Rattle.ist_core.specs.Snapshots.{Snapshot}
 use Rattle.ist_core.specs.Fairness.{IsBuilding}
@@ -21,6 +21,14 @@ without_spare may size =
       pair = may.pair && not (size == pair_words);
       change = may.change && not (size == change_words);
     }
+
+-- at first one row of each kind may be held beside the builds
+abbrev pub all_spare : Spare
+all_spare = record { leaf = true; rebuild = true; pair = true; change = true }
+
+-- the sizes are those of rows that may still be held beside the builds
+abbrev pub AreSpare : Spare → List ℕ → Type 0
+AreSpare may sizes = Each (IsSpare may) sizes × Distinct sizes
 
 -- what is left of a building list goes on with a size for which there is no room
 abbrev pub is_full : ℕ → List ℕ → Bool

@@ -5,7 +5,7 @@ ghost use Rattle.ist_core.specs.Enabled.{CanEnter, CanReserve};
 ghost use Rattle.ist_enabled.specs.Mirroring.{Mirrors};
 ghost use Rattle.ist_enabled.specs.Remembering.{KnowsStarts};
 
-use crate::fairness::is_fair;
+use crate::fairness::{are_all_spare, is_fair};
 use crate::pasts::Past;
 use crate::replicas::Replica;
 use crate::shapes::building_lists;
@@ -41,10 +41,13 @@ pub fn can_reserve(
         return Ok(false);
     }
     let room = replica.words - replica.next;
-    let lists = building_lists(alloc, replica, past)?;
     let mut sizes = sizes_held(alloc, replica.held.as_slice(), caller)?;
     sizes.push(size)?;
-    Ok(is_fair(lists.as_slice(), room, sizes.as_slice()))
+    if are_all_spare(sizes.as_slice()) {
+        return Ok(true);
+    }
+    let lists = building_lists(alloc, replica, past)?;
+    is_fair(alloc, lists.as_slice(), room, sizes.as_slice())
 }
 
 /// The sizes of the rows that the caller holds, in the order of reserving.

@@ -1,16 +1,22 @@
-//! Whether what a caller holds is fair: a search for a reading of the sizes as those of builds,
-//! with a few spare rows among them.
-ghost use Rattle.std.specs.Prelude.{◌≡◌, ◌↔◌, ◌+◌, ℕ, IsTrue, map};
+//! Whether what a caller holds is fair: its sizes can be read as those of builds, with a few spare
+//! rows among them.
+//!
+//! They are read one at a time. Behind each size only what a reading leaves is kept, and each once.
+//! So there are few readings at a time, however many ways there are to come to one.
+ghost use Rattle.std.specs.Prelude.{◌≡◌, ◌↔◌, ◌+◌, ◌∷◌, ◌⊎◌, ◌<◌, ◌^◌, ℕ, IsTrue, IfOk, OnOk, List, map, length};
 ghost use Rattle.ist_core.specs.Elements.{Among};
 ghost use Rattle.ist_core.specs.Snapshots.{Snapshot};
 ghost use Rattle.ist_core.specs.Fairness.{IsFair};
 ghost use Rattle.ist_enabled.specs.Searching as searching;
-ghost use Rattle.ist_enabled.specs.Searching.{IsSpare, without_spare, Goes, GoesOnWith, BeginsOne, LeavesOut, AreBuilding};
+ghost use Rattle.ist_enabled.specs.Searching.{IsSpare, AreSpare, without_spare, GoesOnWith, BeginsOne, LeavesOut, AreBuilding};
+ghost use Rattle.ist_enabled.specs.Readings.{GoesFrom, SomeGoes, LeavesSame, IsReached, rest_at};
 
+use crate::giving_up::are_same;
 use ist_layout::{CHANGE_WORDS, LEAF_WORDS, PAIR_WORDS, REBUILD_WORDS};
+use std::alloc::{AllocError, Global};
 
 /// Which rows may still be held beside the builds: one of each kind.
-#[derive(Clone, Copy, Drop)]
+#[derive(Clone, Copy, PartialEq, Eq, Drop)]
 pub struct Spare {
     pub leaf: bool,
     pub rebuild: bool,
@@ -18,101 +24,260 @@ pub struct Spare {
     pub change: bool,
 }
 
-/// Are the sizes fair, where these are the building lists and there is room for so many words?
-pub fn is_fair(lists: &[Vec<u64>], room: u64, sizes: &[u64]) -> bool
-    ensures exact { (t : Snapshot) → AreBuilding t (map (λ v. v.items) lists.now)
-        → t.words ≡ t.next + room → (IsTrue result ↔ IsFair t sizes.now) }
-{
-    let all = Spare {
-        leaf: true,
-        rebuild: true,
-        pair: true,
-        change: true,
-    };
-    goes(lists, room, all, &[], true, sizes)
+/// What a reading of some sizes leaves: which rows may still be held beside the builds, the building
+/// list that was begun with the place from which on it is left, and whether another may be begun.
+#[derive(Clone, Copy, Drop)]
+pub struct Reading {
+    pub may: Spare,
+    pub list: usize,
+    pub at: usize,
+    pub free: bool,
 }
 
-/// Can the sizes be read so, where `rest` is what is left of the list that was begun?
-#[cycle(fair)]
-fn goes(lists: &[Vec<u64>], room: u64, may: Spare, rest: &[u64], free: bool, sizes: &[u64]) -> bool
-    ensures exact { IsTrue result
-        ↔ Goes (λ l. Among l (map (λ v. v.items) lists.now)) room may rest.now free sizes.now }
+/// One row of each kind may be held beside the builds.
+const ALL_SPARE: Spare = Spare {
+    leaf: true,
+    rebuild: true,
+    pair: true,
+    change: true,
+};
+
+/// Are these the sizes of spare rows, one of each kind at most? Then they are fair, whatever the
+/// building lists are.
+pub fn are_all_spare(sizes: &[u64]) -> bool
+    ensures exact { IsTrue result ↔ AreSpare searching.all_spare sizes.now }
+{
+    are_spare(ALL_SPARE, sizes)
+}
+
+/// Are these the sizes of rows that may still be held beside the builds?
+fn are_spare(may: Spare, sizes: &[u64]) -> bool
+    ensures exact { IsTrue result ↔ AreSpare may sizes.now }
 {
     match sizes {
         [] => true,
         [size, more @ ..] => {
-            if goes_on(lists, room, may, rest, *size, more) {
-                return true;
-            }
-            if leaves_out(lists, room, may, rest, free, *size, more) {
-                return true;
-            }
-            if !free {
+            if !is_spare(may, *size) {
                 return false;
             }
-            begins(lists, room, may, *size, more)
+            are_spare(without(may, *size), more)
         }
     }
 }
 
-/// Can the first size be that of a spare row?
-#[cycle(fair)]
-fn leaves_out(
+/// Are the sizes fair, where these are the building lists and there is room for so many words?
+pub fn is_fair(
+    alloc: Global,
     lists: &[Vec<u64>],
     room: u64,
-    may: Spare,
-    rest: &[u64],
-    free: bool,
-    size: u64,
     sizes: &[u64],
-) -> bool
-    ensures exact { IsTrue result
-        ↔ LeavesOut (λ l. Among l (map (λ v. v.items) lists.now)) room may rest.now free size
-        sizes.now }
+) -> Result<bool, AllocError>
+    ensures exact { IfOk result (λ fair. (t : Snapshot)
+        → AreBuilding t (map (λ v. v.items) lists.now)
+        → t.words ≡ t.next + room → (IsTrue fair ↔ IsFair t sizes.now)) }
 {
-    if !is_spare(may, size) {
-        return false;
+    let mut readings = Vec::new(alloc);
+    readings.push(Reading {
+        may: ALL_SPARE,
+        list: lists.len(),
+        at: 0,
+        free: true,
+    })?;
+    for size in sizes {
+        readings = read_on(alloc, lists, room, readings.as_slice(), *size)?;
     }
-    goes(lists, room, without(may, size), rest, free, sizes)
+    Ok(!readings.is_empty())
 }
 
-/// Can the first size be that with which the list goes on?
-#[cycle(fair)]
-fn goes_on(
+/// What the readings leave behind one more size.
+fn read_on(
+    alloc: Global,
+    lists: &[Vec<u64>],
+    room: u64,
+    readings: &[Reading],
+    size: u64,
+) -> Result<Vec<Reading>, AllocError>
+    ensures exact { IfOk result (λ next. (sizes : List ℕ)
+        → (SomeGoes (map (λ v. v.items) lists.now) room next.items sizes
+        ↔ SomeGoes (map (λ v. v.items) lists.now) room readings.now (size ∷ sizes))) }
+{
+    let mut next = Vec::new(alloc);
+    for reading in readings {
+        add_behind(lists, room, *reading, size, &mut next)?;
+    }
+    Ok(next)
+}
+
+/// Adds what a reading leaves behind one more size.
+fn add_behind(
+    lists: &[Vec<u64>],
+    room: u64,
+    reading: Reading,
+    size: u64,
+    next: &mut Vec<Reading>,
+) -> Result<(), AllocError>
+    ensures added { OnOk result ((sizes : List ℕ)
+        → (SomeGoes (map (λ v. v.items) lists.now) room next.new.items sizes
+        ↔ (SomeGoes (map (λ v. v.items) lists.now) room next.old.items sizes
+        ⊎ GoesFrom (map (λ v. v.items) lists.now) room reading (size ∷ sizes)))) }
+{
+    add_left_out(lists, room, reading, size, next)?;
+    add_on(
+        lists,
+        room,
+        reading.may,
+        reading.list,
+        reading.at,
+        size,
+        next,
+    )?;
+    if !reading.free {
+        return Ok(());
+    }
+    add_begun(lists, room, reading.may, size, next)
+}
+
+/// Adds what is left where the size is that of a spare row.
+fn add_left_out(
+    lists: &[Vec<u64>],
+    room: u64,
+    reading: Reading,
+    size: u64,
+    next: &mut Vec<Reading>,
+) -> Result<(), AllocError>
+    ensures added { OnOk result ((sizes : List ℕ)
+        → (SomeGoes (map (λ v. v.items) lists.now) room next.new.items sizes
+        ↔ (SomeGoes (map (λ v. v.items) lists.now) room next.old.items sizes
+        ⊎ LeavesOut (λ l. Among l (map (λ v. v.items) lists.now)) room reading.may
+        (rest_at (map (λ v. v.items) lists.now) reading.list reading.at) reading.free size sizes))) }
+{
+    if !is_spare(reading.may, size) {
+        return Ok(());
+    }
+    let left = Reading {
+        may: without(reading.may, size),
+        list: reading.list,
+        at: reading.at,
+        free: reading.free,
+    };
+    add_reading(lists, room, left, next)
+}
+
+/// Adds what is left where the list goes on with the size from the place on.
+fn add_on(
     lists: &[Vec<u64>],
     room: u64,
     may: Spare,
-    list: &[u64],
+    list: usize,
+    at: usize,
     size: u64,
-    sizes: &[u64],
-) -> bool
-    ensures exact { IsTrue result
-        ↔ GoesOnWith (λ l. Among l (map (λ v. v.items) lists.now)) room may list.now size
-        sizes.now }
+    next: &mut Vec<Reading>,
+) -> Result<(), AllocError>
+    ensures added { OnOk result ((sizes : List ℕ)
+        → (SomeGoes (map (λ v. v.items) lists.now) room next.new.items sizes
+        ↔ (SomeGoes (map (λ v. v.items) lists.now) room next.old.items sizes
+        ⊎ GoesOnWith (λ l. Among l (map (λ v. v.items) lists.now)) room may
+        (rest_at (map (λ v. v.items) lists.now) list at) size sizes))) }
 {
-    match list {
-        [] => false,
-        [next, rest @ ..] => {
-            if *next != size {
-                return false;
+    let left = rest_of(lists, list, at);
+    match left {
+        [] => Ok(()),
+        [first, rest @ ..] => {
+            if *first != size {
+                return Ok(());
             }
-            goes(lists, room, may, rest, is_full(room, rest), sizes)
+            let reading = Reading {
+                may,
+                list,
+                at: at + 1,
+                free: is_full(room, rest),
+            };
+            add_reading(lists, room, reading, next)
         }
     }
 }
 
-/// Can the first size be that with which one of the lists begins?
-#[cycle(fair)]
-fn begins(lists: &[Vec<u64>], room: u64, may: Spare, size: u64, sizes: &[u64]) -> bool
-    ensures exact { IsTrue result
-        ↔ BeginsOne (λ l. Among l (map (λ v. v.items) lists.now)) room may size sizes.now }
+/// Adds what is left of each list that begins with the size.
+fn add_begun(
+    lists: &[Vec<u64>],
+    room: u64,
+    may: Spare,
+    size: u64,
+    next: &mut Vec<Reading>,
+) -> Result<(), AllocError>
+    ensures added { OnOk result ((sizes : List ℕ)
+        → (SomeGoes (map (λ v. v.items) lists.now) room next.new.items sizes
+        ↔ (SomeGoes (map (λ v. v.items) lists.now) room next.old.items sizes
+        ⊎ BeginsOne (λ l. Among l (map (λ v. v.items) lists.now)) room may size sizes))) }
 {
-    for list in lists {
-        if goes_on(lists, room, may, list.as_slice(), size, sizes) {
+    for list in 0..lists.len() {
+        add_on(lists, room, may, list, 0, size, next)?;
+    }
+    Ok(())
+}
+
+/// Adds the reading, unless one of them leaves the same.
+fn add_reading(
+    lists: &[Vec<u64>],
+    room: u64,
+    reading: Reading,
+    readings: &mut Vec<Reading>,
+) -> Result<(), AllocError>
+    ensures added { OnOk result ((sizes : List ℕ)
+        → (SomeGoes (map (λ v. v.items) lists.now) room readings.new.items sizes
+        ↔ (SomeGoes (map (λ v. v.items) lists.now) room readings.old.items sizes
+        ⊎ GoesFrom (map (λ v. v.items) lists.now) room reading sizes))) }
+{
+    if is_reached(lists, readings.as_slice(), reading) {
+        return Ok(());
+    }
+    readings.push(reading)?;
+    Ok(())
+}
+
+/// Does one of the readings leave the same as this one?
+fn is_reached(lists: &[Vec<u64>], readings: &[Reading], reading: Reading) -> bool
+    ensures exact { IsTrue result
+        ↔ IsReached (map (λ v. v.items) lists.now) readings.now reading }
+{
+    for other in readings {
+        if leave_same(lists, *other, reading) {
             return true;
         }
     }
     false
+}
+
+/// Do two readings leave the same?
+fn leave_same(lists: &[Vec<u64>], a: Reading, b: Reading) -> bool
+    ensures exact { IsTrue result ↔ LeavesSame (map (λ v. v.items) lists.now) a b }
+{
+    if a.free != b.free || !are_equal(a.may, b.may) {
+        return false;
+    }
+    are_same(rest_of(lists, a.list, a.at), rest_of(lists, b.list, b.at))
+}
+
+/// May the same rows be held beside the builds?
+fn are_equal(a: Spare, b: Spare) -> bool
+    ensures exact { IsTrue result ↔ (a ≡ b) }
+{
+    a == b
+}
+
+/// What is left of a list from a place on, and nothing where there is no such list.
+fn rest_of(lists: &[Vec<u64>], list: usize, at: usize) -> &[u64]
+    ensures value { result.now ≡ rest_at (map (λ v. v.items) lists.now) list at }
+    ensures within { 0 < length result.now → at + 1 < 2 ^ 64 }
+{
+    if list >= lists.len() {
+        return &[];
+    }
+    let sizes = lists[list].as_slice();
+    if at >= sizes.len() {
+        return &[];
+    }
+    &sizes[at..]
 }
 
 /// May a row of this size still be held beside the builds?

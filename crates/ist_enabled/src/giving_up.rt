@@ -136,7 +136,7 @@ fn is_listed(lists: &[Vec<u64>], sizes: &[u64]) -> bool
 }
 
 /// Are the numbers the same?
-fn are_same(xs: &[u64], ys: &[u64]) -> bool
+pub fn are_same(xs: &[u64], ys: &[u64]) -> bool
     ensures exact { IsTrue result ↔ (xs.now ≡ ys.now) }
 {
     xs == ys

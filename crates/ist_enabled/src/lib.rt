@@ -38,3 +38,6 @@ pub use pasts::{LastUpdate, Past, Slot, pair_key};
 pub use replicas::Replica;
 pub use rows::{change_of_words, holds_rows};
 pub use shares::{degree_of, part_len_of};
+
+#[cfg(test)]
+mod tests;
