@@ -1,10 +1,11 @@
 -- The building lists of a state, by its rebuilds. Serves `shapes.rt`.
-use Rattle.std.proofs.Common.{◌≡◌, ◌↔◌, ◌∙◌, ◌+◌, ◌*◌, ◌/◌, ◌%◌, ◌<◌, ◌≤◌, ◌⊎◌, ◌==◌, ℕ, zero, suc, IsTrue, Bool, true, false, nat_lt, if◌then◌else◌, List, [], ◌∷◌, ◌++◌, length, slice_index_or, map, add-one, Option, Some, None, refl, sym, ap, subst, inl, inr, true≢false, append_assoc, append-nil, arith}
+use Rattle.std.proofs.Common.{◌≡◌, ◌↔◌, ◌∙◌, ◌+◌, ◌-◌, ◌*◌, ◌/◌, ◌%◌, ◌<◌, ◌≤◌, ◌⊎◌, ◌==◌, ℕ, zero, suc, IsTrue, Bool, true, false, nat_lt, if◌then◌else◌, List, [], ◌∷◌, ◌++◌, length, slice_index_or, map, add-one, Option, Some, None, refl, sym, ap, subst, inl, inr, ⊎_elim, true≢false, append_assoc, append-nil, arith}
 use Rattle.std.specs.Ordering.{nat_cmp}
 use Rattle.std.specs.BTreeMap as tree
 use Rattle.std.specs.BTreeSet.{BTreeSet, contains}
 use Rattle.std.specs.List.{flat_map, range_with_len, Contains}
 use Rattle.std.specs.Cmp.{nat_cmp_total}
+use Rattle.std.proofs.lemmas.Bool.{cases_lt}
 use Rattle.std.proofs.lemmas.Bool.Decides.{nat_tests}
 use Rattle.std.proofs.lemmas.Grind.{flat_map-append}
 use Rattle.std.proofs.lemmas.List.FromFn.{map-range_with_len_more}
@@ -20,9 +21,11 @@ use Rattle.ist_core.specs.Pieces.{as_inner, as_rebuild}
 use Rattle.ist_core.specs.Snapshots.{Snapshot}
 use Rattle.ist_core.specs.Fairness.{IsBuild, build_whole, build_top, build_part, IsBuilding}
 use Rattle.ist_core.proofs.ElementLemmas.{among-append, among_left, among_right}
+use Rattle.ist_core.proofs.RootLemmas.{least_degree-le}
+use Rattle.ist_core.proofs.PartLemmas.{part_len-long, part_len-short}
 use Rattle.ist_core.proofs.ShapeLemmas.{shape_none, shape_one, shape_many}
 use Rattle.ist_enabled.specs.declared.replicas.Replica.{Replica}
-use Rattle.ist_enabled.specs.Builds.{part_shapes, lists_of, target_lists, entry_lists}
+use Rattle.ist_enabled.specs.Builds.{lists_of, target_lists, entry_lists}
 use Rattle.ist_enabled.specs.Mirroring.{Mirrors}
 use Rattle.ist_enabled.specs.Remembering.{KnowsStarts}
 use Rattle.ist_enabled.specs.Searching.{AreBuilding}
@@ -65,53 +68,37 @@ shape_whole n d j old pushed out h e i p o =
 
 -- ---- the lists of one rebuild
 
-pub part_shapes_more : (k j : ℕ) → part_shapes k (j + 1) ≡ part_shapes k j ++ shape (part_len k j) ∷ []
-part_shapes_more k j = map-range_with_len_more (λ i. shape (part_len k i)) 0 j j (omega arith)
-
-part_among : (k d j : ℕ) → j < d → Among (shape (part_len k j)) (part_shapes k d)
-part_among k zero j h = absurd (omega arith)
-part_among k (suc d) j h =
-    subst (Among (shape (part_len k j))) (sym (part_shapes_more k d) ∙ ap (part_shapes k) (add-one d)) (at (nat_lt j d) refl (λ l. part_among k d j l))
-  where
-    at : (b : Bool) → nat_lt j d ≡ b → (j < d → Among (shape (part_len k j)) (part_shapes k d))
-        → Among (shape (part_len k j)) (part_shapes k d ++ shape (part_len k d) ∷ [])
-    at true e f = among_left (shape (part_len k j)) (part_shapes k d) (shape (part_len k d) ∷ []) (f (grind (arith, nat_tests)))
-    at false e f =
-        let n : d ≤ j = grind (arith, nat_tests) in
-        let m : j ≡ d = omega arith in
-        among_right (shape (part_len k j)) (part_shapes k d) (shape (part_len k d) ∷ []) (inl (ap (λ i. shape (part_len k i)) m))
-
-among_part : (k d : ℕ) (l : List ℕ) → Among l (part_shapes k d)
-    → (j : ℕ) × (j < d) × (l ≡ shape (part_len k j))
-among_part k zero l h = absurd h
-among_part k (suc d) l h =
-    at (among-append l (part_shapes k d) (shape (part_len k d) ∷ []) (subst (Among l) (ap (part_shapes k) (sym (add-one d)) ∙ part_shapes_more k d) h)) (λ a. among_part k d l a)
-  where
-    at : Among l (part_shapes k d) ⊎ Among l (shape (part_len k d) ∷ [])
-        → (Among l (part_shapes k d) → (j : ℕ) × (j < d) × (l ≡ shape (part_len k j)))
-        → (j : ℕ) × (j < suc d) × (l ≡ shape (part_len k j))
-    at (inl a) f = let r = f a in (r.0, omega arith, r.2)
-    at (inr (inl e)) f = (d, omega arith, e)
-    at (inr (inr n)) f = absurd n
+-- a part is as long as the first one or as the last one
+part_first_or_last : (k j : ℕ) → j < degree k
+    → (part_len k j ≡ part_len k 0) ⊎ (part_len k j ≡ part_len k (degree k - 1))
+part_first_or_last k j h =
+    ⊎_elim
+    (λ (l : j < k % degree k). inl (part_len-long k j l ∙ sym (part_len-long k 0 (omega arith))))
+    (λ (l : k % degree k ≤ j). inr (part_len-short k j l ∙ sym (part_len-short k (degree k - 1) (omega arith))))
+    (cases_lt j (k % degree k))
 
 -- a list of k keys is a build of them
 listed_build : (k : ℕ) (l : List ℕ) → Among l (lists_of k) → IsBuild k l
 listed_build k l h = small (nat_lt k 2) refl h
   where
     large : (b : Bool) → nat_lt k share_from ≡ b → 2 ≤ k
-        → Among l (if b then shape k ∷ [] else (inner_words (degree k) ∷ []) ∷ part_shapes k (degree k)) → IsBuild k l
+        → Among l (if b then shape k ∷ [] else (inner_words (degree k) ∷ []) ∷ shape (part_len k 0) ∷ shape (part_len k (degree k - 1)) ∷ []) → IsBuild k l
     large true i n (inl x) = subst (IsBuild k) (sym x) (build_whole n (grind (arith, nat_tests)))
     large true i n (inr x) = absurd x
     large false i n (inl x) = subst (IsBuild k) (sym x) (build_top (grind (arith, nat_tests)))
-    large false i n (inr x) = let p = among_part k (degree k) l x in subst (IsBuild k) (sym p.2) (build_part p.0 (grind (arith, nat_tests)) p.1)
+    large false i n (inr (inl x)) =
+        let least = least_degree-le k in subst (IsBuild k) (sym x) (build_part 0 (grind (arith, nat_tests)) (omega arith))
+    large false i n (inr (inr (inl x))) =
+        let least = least_degree-le k in subst (IsBuild k) (sym x) (build_part (degree k - 1) (grind (arith, nat_tests)) (omega arith))
+    large false i n (inr (inr (inr x))) = absurd x
 
     small : (b : Bool) → nat_lt k 2 ≡ b
-        → Among l (if b then [] else (if nat_lt k share_from then shape k ∷ [] else (inner_words (degree k) ∷ []) ∷ part_shapes k (degree k))) → IsBuild k l
+        → Among l (if b then [] else (if nat_lt k share_from then shape k ∷ [] else (inner_words (degree k) ∷ []) ∷ shape (part_len k 0) ∷ shape (part_len k (degree k - 1)) ∷ [])) → IsBuild k l
     small true i x = absurd x
     small false i x = large (nat_lt k share_from) refl (grind (arith, nat_tests)) x
 
 in_lists : (k : ℕ) (l : List ℕ) (a b : Bool) → nat_lt k 2 ≡ a → nat_lt k share_from ≡ b
-    → Among l (if a then [] else (if b then shape k ∷ [] else (inner_words (degree k) ∷ []) ∷ part_shapes k (degree k)))
+    → Among l (if a then [] else (if b then shape k ∷ [] else (inner_words (degree k) ∷ []) ∷ shape (part_len k 0) ∷ shape (part_len k (degree k - 1)) ∷ []))
     → Among l (lists_of k)
 in_lists k l a b e i h = rw (e, i) h
 
@@ -119,7 +106,8 @@ build_listed : (k : ℕ) (l : List ℕ) → 2 ≤ share_from → IsBuild k l →
 build_listed k _ two (build_whole n m) = in_lists k (shape k) false true (grind (arith, nat_tests)) (grind (arith, nat_tests)) (inl refl)
 build_listed k _ two (build_top n) = in_lists k (inner_words (degree k) ∷ []) false false (grind (arith, nat_tests)) (grind (arith, nat_tests)) (inl refl)
 build_listed k _ two (build_part j n m) =
-    in_lists k (shape (part_len k j)) false false (grind (arith, nat_tests)) (grind (arith, nat_tests)) (inr (part_among k (degree k) j m))
+    in_lists k (shape (part_len k j)) false false (grind (arith, nat_tests)) (grind (arith, nat_tests))
+    (inr (⊎_elim (λ e. inl (ap shape e)) (λ e. inr (inl (ap shape e))) (part_first_or_last k j m)))
 
 -- ---- the lists of a target, and of an entry
 
@@ -223,25 +211,22 @@ lists_small k n m =
     rw (a, b) refl
 
 lists_large : (k : ℕ) → 2 ≤ k → share_from ≤ k
-    → (inner_words (degree k) ∷ []) ∷ part_shapes k (degree k) ≡ lists_of k
+    → (inner_words (degree k) ∷ []) ∷ shape (part_len k 0) ∷ shape (part_len k (degree k - 1)) ∷ [] ≡ lists_of k
 lists_large k n m =
     let a : nat_lt k 2 ≡ false = grind (arith, nat_tests) in
     let b : nat_lt k share_from ≡ false = grind (arith, nat_tests) in
     rw (a, b) refl
 
--- the shape of one more part
-pub lists_step : (k j len : ℕ) (base mid new : List (List ℕ)) → mid ≡ base ++ part_shapes k j
-    → new ≡ mid ++ shape len ∷ [] → len ≡ part_len k j → new ≡ base ++ part_shapes k (j + 1)
-lists_step k j len base mid new e i l =
-    i ∙ ap (λ xs. xs ++ shape len ∷ []) e ∙ ap (λ n. (base ++ part_shapes k j) ++ shape n ∷ []) l
-    ∙ append_assoc base (part_shapes k j) (shape (part_len k j) ∷ [])
-    ∙ ap (λ xs. base ++ xs) (sym (part_shapes_more k j))
-
--- the top row alone, and behind it the shapes of all parts
-pub lists_whole : (k d j : ℕ) (old mid out : List (List ℕ)) → 2 ≤ k → share_from ≤ k → d ≡ degree k → j ≡ d
-    → mid ≡ old ++ ((2 * d + 3) ∷ []) ∷ [] → out ≡ mid ++ part_shapes k j → out ≡ old ++ lists_of k
-lists_whole k d j old mid out n m e i p o =
-    o ∙ ap (λ xs. xs ++ part_shapes k j) p ∙ append_assoc old (((2 * d + 3) ∷ []) ∷ []) (part_shapes k j)
-    ∙ ap (λ x. old ++ ((2 * d + 3) ∷ []) ∷ part_shapes k x) (i ∙ e)
-    ∙ ap (λ x. old ++ ((2 * x + 3) ∷ []) ∷ part_shapes k (degree k)) e
+-- the top row alone, and behind it the shapes of the first part and of the last
+pub lists_whole : (k d first last : ℕ) (old mid next out : List (List ℕ)) → 2 ≤ k → share_from ≤ k → d ≡ degree k
+    → mid ≡ old ++ ((2 * d + 3) ∷ []) ∷ [] → first ≡ part_len k 0 → next ≡ mid ++ shape first ∷ []
+    → last ≡ part_len k (d - 1) → out ≡ next ++ shape last ∷ [] → out ≡ old ++ lists_of k
+lists_whole k d first last old mid next out n m e p f i l o =
+    let top = (2 * d + 3) ∷ [] in
+    o ∙ ap (λ xs. xs ++ shape last ∷ []) i ∙ ap (λ xs. (xs ++ shape first ∷ []) ++ shape last ∷ []) p
+    ∙ append_assoc (old ++ top ∷ []) (shape first ∷ []) (shape last ∷ [])
+    ∙ append_assoc old (top ∷ []) (shape first ∷ shape last ∷ [])
+    ∙ ap (λ x. old ++ top ∷ shape x ∷ shape last ∷ []) f
+    ∙ ap (λ x. old ++ top ∷ shape (part_len k 0) ∷ shape x ∷ []) l
+    ∙ ap (λ x. old ++ ((2 * x + 3) ∷ []) ∷ shape (part_len k 0) ∷ shape (part_len k (x - 1)) ∷ []) e
     ∙ ap (λ xs. old ++ xs) (lists_large k n m)

@@ -1,6 +1,5 @@
 -- The building lists of a state, as lists.
-use Rattle.std.specs.Prelude.{ℕ, ◌%◌, ◌/◌, ◌==◌, nat_lt, if◌then◌else◌, List, [], ◌∷◌, map, Option, Some, None}
-use Rattle.std.specs.List.{range_with_len}
+use Rattle.std.specs.Prelude.{ℕ, ◌-◌, ◌%◌, ◌/◌, ◌==◌, nat_lt, if◌then◌else◌, List, [], ◌∷◌, Option, Some, None}
 use Rattle.std.specs.Ordering.{nat_cmp}
 use Rattle.std.specs.BTreeMap as tree
 use Rattle.std.specs.BTreeSet.{BTreeSet, contains}
@@ -11,16 +10,12 @@ use Rattle.ist_core.specs.RowLayout.{inner_words}
 use Rattle.ist_core.specs.Shapes.{shape, share_from}
 use Rattle.ist_enabled.specs.declared.replicas.Replica.{Replica}
 
--- the shapes of the first j parts of k keys
-abbrev pub part_shapes : ℕ → ℕ → List (List ℕ)
-part_shapes k j = map (λ i. shape (part_len k i)) (range_with_len 0 j)
-
--- the building lists of a rebuild whose target is finished with k keys
+-- the building lists of a rebuild whose target is finished with k keys. Its parts have the lengths of the first and the last
 abbrev pub lists_of : ℕ → List (List ℕ)
 lists_of k =
     if nat_lt k 2 then []
     else (if nat_lt k share_from then shape k ∷ []
-    else (inner_words (degree k) ∷ []) ∷ part_shapes k (degree k))
+    else (inner_words (degree k) ∷ []) ∷ shape (part_len k 0) ∷ shape (part_len k (degree k - 1)) ∷ [])
 
 -- the building lists by a target that may stand
 abbrev pub target_lists : Option InnerRow → List (List ℕ)

@@ -56,7 +56,8 @@ fn add_target(
     }
 }
 
-/// Adds the building lists of a rebuild whose target is finished with `k` keys.
+/// Adds the building lists of a rebuild whose target is finished with `k` keys. Of the parts of a
+/// shared root the first and the last are enough, since the parts have two lengths at most.
 fn add_lists(alloc: Global, k: u64, lists: &mut Vec<Vec<u64>>) -> Result<(), AllocError>
     ensures added { OnOk result (map (λ v. v.items) lists.new.items
         ≡ map (λ v. v.items) lists.old.items ++ lists_of k) }
@@ -71,10 +72,8 @@ fn add_lists(alloc: Global, k: u64, lists: &mut Vec<Vec<u64>>) -> Result<(), All
     let mut top = Vec::new(alloc);
     top.push(2 * children + 3)?;
     lists.push(top)?;
-    for j in 0..children {
-        add_shape_alone(alloc, part_len_of(k, j), lists)?;
-    }
-    Ok(())
+    add_shape_alone(alloc, part_len_of(k, 0), lists)?;
+    add_shape_alone(alloc, part_len_of(k, children - 1), lists)
 }
 
 /// Adds the shape of an ideal tree of `n` keys as a list of its own.
