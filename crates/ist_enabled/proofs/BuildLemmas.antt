@@ -1,5 +1,5 @@
 -- The building lists of a state, by its rebuilds. Serves `shapes.rt`.
-use Rattle.std.proofs.Common.{◌≡◌, ◌↔◌, ◌∙◌, ◌+◌, ◌-◌, ◌*◌, ◌/◌, ◌%◌, ◌<◌, ◌≤◌, ◌⊎◌, ◌==◌, ℕ, zero, suc, IsTrue, Bool, true, false, nat_lt, if◌then◌else◌, List, [], ◌∷◌, ◌++◌, length, slice_index_or, map, add-one, Option, Some, None, refl, sym, ap, subst, inl, inr, ⊎_elim, true≢false, append_assoc, append-nil, arith}
+use Rattle.std.proofs.Common.{◌≡◌, ◌↔◌, ◌∙◌, ◌+◌, ◌-◌, ◌*◌, ◌/◌, ◌%◌, ◌<◌, ◌≤◌, ◌⊎◌, ◌==◌, ℕ, zero, suc, IsTrue, Bool, true, false, nat_lt, if◌then◌else◌, List, [], ◌∷◌, ◌++◌, length, get_or, slice_index_or, take, map, add-one, Option, Some, None, refl, sym, ap, subst, inl, inr, ⊎_elim, true≢false, append_assoc, append-nil, arith}
 use Rattle.std.specs.Ordering.{nat_cmp}
 use Rattle.std.specs.BTreeMap as tree
 use Rattle.std.specs.BTreeSet.{BTreeSet, contains}
@@ -8,6 +8,7 @@ use Rattle.std.specs.Cmp.{nat_cmp_total}
 use Rattle.std.proofs.lemmas.Bool.{cases_lt}
 use Rattle.std.proofs.lemmas.Bool.Decides.{nat_tests}
 use Rattle.std.proofs.lemmas.Grind.{flat_map-append}
+use Rattle.std.proofs.lemmas.List.{take_more}
 use Rattle.std.proofs.lemmas.List.FromFn.{map-range_with_len_more}
 use Rattle.std.proofs.lemmas.Map.Lookups.{exact_unsigned}
 use Rattle.std.proofs.lemmas.Map.Views.{btree_map_get_iff}
@@ -25,7 +26,7 @@ use Rattle.ist_core.proofs.RootLemmas.{least_degree-le}
 use Rattle.ist_core.proofs.PartLemmas.{part_len-long, part_len-short}
 use Rattle.ist_core.proofs.ShapeLemmas.{shape_none, shape_one, shape_many}
 use Rattle.ist_enabled.specs.declared.replicas.Replica.{Replica}
-use Rattle.ist_enabled.specs.Builds.{lists_of, target_lists, entry_lists}
+use Rattle.ist_enabled.specs.Builds.{lists_of, target_keys, entry_keys, HasTarget}
 use Rattle.ist_enabled.specs.Mirroring.{Mirrors}
 use Rattle.ist_enabled.specs.Remembering.{KnowsStarts}
 use Rattle.ist_enabled.specs.Searching.{AreBuilding}
@@ -109,98 +110,145 @@ build_listed k _ two (build_part j n m) =
     in_lists k (shape (part_len k j)) false false (grind (arith, nat_tests)) (grind (arith, nat_tests))
     (inr (⊎_elim (λ e. inl (ap shape e)) (λ e. inr (inl (ap shape e))) (part_first_or_last k j m)))
 
--- ---- the lists of a target, and of an entry
+-- ---- the targets of rebuilds
 
-target_in : (o : Option InnerRow) (r : InnerRow) (k : ℕ) (l : List ℕ) → o ≡ Some r → r.status ≡ 4 * k + 3
-    → Among l (lists_of k) → Among l (target_lists o)
-target_in o r k l e i h = subst (λ x. Among l (target_lists x)) (sym e) (at (r.status % 4 == 3) refl)
+target_in : (o : Option InnerRow) (r : InnerRow) (k : ℕ) → o ≡ Some r → r.status ≡ 4 * k + 3 → Among k (target_keys o)
+target_in o r k e i = subst (λ x. Among k (target_keys x)) (sym e) (at (r.status % 4 == 3) refl)
   where
-    at : (b : Bool) → (r.status % 4 == 3) ≡ b → Among l (if b then lists_of (r.status / 4) else [])
-    at true q = let n : k ≡ r.status / 4 = omega arith in subst (λ x. Among l (lists_of x)) n h
+    at : (b : Bool) → (r.status % 4 == 3) ≡ b → Among k (if b then (r.status / 4) ∷ [] else [])
+    at true q = inl (omega arith)
     at false q =
         absurd (let n : r.status % 4 ≡ 3 = omega arith in let m : (r.status % 4 == 3) ≡ true = grind (arith, nat_tests) in true≢false (sym m ∙ q))
 
-target_out : (o : Option InnerRow) (l : List ℕ) → Among l (target_lists o)
-    → (r : InnerRow) × (k : ℕ) × (o ≡ Some r) × (r.status ≡ 4 * k + 3) × Among l (lists_of k)
-target_out None l h = absurd h
-target_out (Some r) l h = at (r.status % 4 == 3) refl h
+target_out : (o : Option InnerRow) (k : ℕ) → Among k (target_keys o)
+    → (r : InnerRow) × (o ≡ Some r) × (r.status ≡ 4 * k + 3)
+target_out None k h = absurd h
+target_out (Some r) k h = at (r.status % 4 == 3) refl h
   where
-    at : (b : Bool) → (r.status % 4 == 3) ≡ b → Among l (if b then lists_of (r.status / 4) else [])
-        → (s : InnerRow) × (k : ℕ) × (Some r ≡ Some s) × (s.status ≡ 4 * k + 3) × Among l (lists_of k)
-    at true q a = (r, r.status / 4, refl, let m : r.status % 4 ≡ 3 = grind (arith, nat_tests) in omega arith, a)
+    at : (b : Bool) → (r.status % 4 == 3) ≡ b → Among k (if b then (r.status / 4) ∷ [] else [])
+        → (s : InnerRow) × (Some r ≡ Some s) × (s.status ≡ 4 * k + 3)
+    at true q (inl e) = (r, refl, let m : r.status % 4 ≡ 3 = grind (arith, nat_tests) in omega arith)
+    at true q (inr n) = absurd n
     at false q a = absurd a
 
-module _ (s : Replica) (started : BTreeSet ℕ) (e : ℕ × RebuildRow) (l : List ℕ) where
+module _ (s : Replica) (started : BTreeSet ℕ) (e : ℕ × RebuildRow) (k : ℕ) where
   entry_in : IsTrue (contains nat_cmp started e.0)
-      → Among l (target_lists (tree.get nat_cmp s.inners e.1.target)) → Among l (entry_lists s started e)
+      → Among k (target_keys (tree.get nat_cmp s.inners e.1.target)) → Among k (entry_keys s started e)
   entry_in h a = at (contains nat_cmp started e.0) h
     where
-      at : (b : Bool) → b ≡ true → Among l (if b then target_lists (tree.get nat_cmp s.inners e.1.target) else [])
+      at : (b : Bool) → b ≡ true → Among k (if b then target_keys (tree.get nat_cmp s.inners e.1.target) else [])
       at true i = a
       at false i = cc
 
-  entry_out : Among l (entry_lists s started e)
-      → IsTrue (contains nat_cmp started e.0) × Among l (target_lists (tree.get nat_cmp s.inners e.1.target))
+  entry_out : Among k (entry_keys s started e)
+      → IsTrue (contains nat_cmp started e.0) × Among k (target_keys (tree.get nat_cmp s.inners e.1.target))
   entry_out h = at (contains nat_cmp started e.0) refl h
     where
       at : (b : Bool) → contains nat_cmp started e.0 ≡ b
-          → Among l (if b then target_lists (tree.get nat_cmp s.inners e.1.target) else [])
-          → IsTrue (contains nat_cmp started e.0) × Among l (target_lists (tree.get nat_cmp s.inners e.1.target))
+          → Among k (if b then target_keys (tree.get nat_cmp s.inners e.1.target) else [])
+          → IsTrue (contains nat_cmp started e.0) × Among k (target_keys (tree.get nat_cmp s.inners e.1.target))
       at true i a = (i, a)
       at false i a = absurd a
 
-module _ {A : Type 0} (f : A → List (List ℕ)) where
-  flat_in : (es : List A) (e : A) (l : List ℕ) → Contains es e → Among l (f e) → Among l (flat_map f es)
-  flat_in [] e l c h = absurd (let n = c.1 in omega arith)
-  flat_in (x ∷ xs) e l c h = at c.0 c.1 c.2 (λ k. flat_in xs e l k h)
-    where
-      at : (k : ℕ) → k < length (x ∷ xs) → slice_index_or (x ∷ xs) k e ≡ e
-          → (Contains xs e → Among l (flat_map f xs)) → Among l (f x ++ flat_map f xs)
-      at zero n i g = among_left l (f x) (flat_map f xs) (subst (λ y. Among l (f y)) (sym i) h)
-      at (suc k) n i g = among_right l (f x) (flat_map f xs) (g (k, omega arith, i))
+module _ {A B : Type 0} (f : A → List B) where
+  flat_in : (es : List A) (e : A) (l : B) → Among e es → Among l (f e) → Among l (flat_map f es)
+  flat_in [] e l c h = absurd c
+  flat_in (x ∷ xs) e l (inl i) h = among_left l (f x) (flat_map f xs) (subst (λ y. Among l (f y)) i h)
+  flat_in (x ∷ xs) e l (inr c) h = among_right l (f x) (flat_map f xs) (flat_in xs e l c h)
 
-  flat_out : (es : List A) (l : List ℕ) → Among l (flat_map f es) → (e : A) × Contains es e × Among l (f e)
+  flat_out : (es : List A) (l : B) → Among l (flat_map f es) → (e : A) × Among e es × Among l (f e)
   flat_out [] l h = absurd h
   flat_out (x ∷ xs) l h = at (among-append l (f x) (flat_map f xs) h) (λ a. flat_out xs l a)
     where
-      at : Among l (f x) ⊎ Among l (flat_map f xs) → (Among l (flat_map f xs) → (e : A) × Contains xs e × Among l (f e))
-          → (e : A) × Contains (x ∷ xs) e × Among l (f e)
-      at (inl a) g = (x, (0, omega arith, refl), a)
-      at (inr a) g = let r = g a in (r.0, (r.1.0 + 1, let n = r.1.1 in omega arith, rw (add-one r.1.0) r.1.2), r.2)
+      at : Among l (f x) ⊎ Among l (flat_map f xs) → (Among l (flat_map f xs) → (e : A) × Among e xs × Among l (f e))
+          → (e : A) × Among e (x ∷ xs) × Among l (f e)
+      at (inl a) g = (x, inl refl, a)
+      at (inr a) g = let r = g a in (r.0, inr r.1, r.2)
 
--- ---- all lists
+-- an element by its place is among the elements, and the other way round
+contained_among : {A : Type 0} (es : List A) (e : A) → Contains es e → Among e es
+contained_among [] e c = absurd (let n = c.1 in omega arith)
+contained_among (x ∷ xs) e c = at c.0 c.1 c.2 (λ k. contained_among xs e k)
+  where
+    at : (k : ℕ) → k < length (x ∷ xs) → slice_index_or (x ∷ xs) k e ≡ e → (Contains xs e → Among e xs) → Among e (x ∷ xs)
+    at zero n i g = inl (sym i)
+    at (suc k) n i g = inr (g (k, omega arith, i))
 
--- the building lists of a state are those by its rebuilds
-pub lists_are : (s : Replica) (t : Snapshot) (started : BTreeSet ℕ) → 2 ≤ share_from → Mirrors s t
-    → KnowsStarts started t → tree.IsOrdered nat_cmp s.rebuilds
-    → (l : List ℕ) → IsBuilding t l ↔ Among l (flat_map (entry_lists s started) s.rebuilds.entries)
-lists_are s t started two h k o l = (
+among_contained : {A : Type 0} (es : List A) (e : A) → Among e es → Contains es e
+among_contained [] e a = absurd a
+among_contained (x ∷ xs) e (inl i) = (0, omega arith, sym i)
+among_contained (x ∷ xs) e (inr a) =
+    let r = among_contained xs e a in (r.0 + 1, let n = r.1 in omega arith, rw (add-one r.0) r.2)
+
+-- the numbers that the code gathers are those of the targets of started rebuilds
+targets_are : (s : Replica) (t : Snapshot) (started : BTreeSet ℕ) → Mirrors s t → KnowsStarts started t
+    → tree.IsOrdered nat_cmp s.rebuilds → (k : ℕ) → HasTarget t k ↔ Among k (flat_map (entry_keys s started) s.rebuilds.entries)
+targets_are s t started h known o k = (
   (λ b.
       let found : tree.get nat_cmp s.rebuilds b.rebuild ≡ Some b.row = h.rebuilds b.rebuild ∙ ap as_rebuild b.published in
       let target : tree.get nat_cmp s.inners b.row.target ≡ Some b.finished.row = h.inners b.row.target ∙ ap as_inner b.finished.published in
-      flat_in (entry_lists s started) s.rebuilds.entries (b.rebuild, b.row) l ((btree_map_get_iff nat_cmp_total exact_unsigned s.rebuilds o b.rebuild b.row).0 found)
-      (entry_in s started (b.rebuild, b.row) l ((k b.rebuild).1 b.started) (target_in (tree.get nat_cmp s.inners b.row.target) b.finished.row b.k l target b.finished.status (build_listed b.k l two b.build)))),
+      let at = (btree_map_get_iff nat_cmp_total exact_unsigned s.rebuilds o b.rebuild b.row).0 found in
+      flat_in (entry_keys s started) s.rebuilds.entries (b.rebuild, b.row) k (contained_among s.rebuilds.entries (b.rebuild, b.row) at)
+      (entry_in s started (b.rebuild, b.row) k ((known b.rebuild).1 b.started) (target_in (tree.get nat_cmp s.inners b.row.target) b.finished.row k target b.finished.status))),
   (λ a.
-      let f = flat_out (entry_lists s started) s.rebuilds.entries l a in
+      let f = flat_out (entry_keys s started) s.rebuilds.entries k a in
       let e = f.0 in
-      let found = (btree_map_get_iff nat_cmp_total exact_unsigned s.rebuilds o e.0 e.1).1 f.1 in
-      let out = entry_out s started e l f.2 in
-      let by = target_out (tree.get nat_cmp s.inners e.1.target) l out.1 in
+      let found = (btree_map_get_iff nat_cmp_total exact_unsigned s.rebuilds o e.0 e.1).1 (among_contained s.rebuilds.entries e f.1) in
+      let out = entry_out s started e k f.2 in
+      let by = target_out (tree.get nat_cmp s.inners e.1.target) k out.1 in
       record {
         rebuild = e.0;
         row = e.1;
         published = rebuild_stands s t e.0 h e.1 found;
-        started = (k e.0).0 out.0;
-        k = by.1;
-        finished = record { row = by.0; published = inner_stands s t e.1.target h by.0 by.2; status = by.3 };
-        build = listed_build by.1 l by.4;
+        started = (known e.0).0 out.0;
+        finished = record { row = by.0; published = inner_stands s t e.1.target h by.0 by.1; status = by.2 };
       }),
 )
 
-pub lists_are_all : (s : Replica) (t : Snapshot) (started : BTreeSet ℕ) (lists : List (List ℕ)) → 2 ≤ share_from
-    → Mirrors s t → KnowsStarts started t → tree.IsOrdered nat_cmp s.rebuilds
-    → lists ≡ flat_map (entry_lists s started) s.rebuilds.entries → AreBuilding t lists
-lists_are_all s t started lists two h k o e l = subst (λ (xs : List (List ℕ)). IsBuilding t l ↔ Among l xs) (sym e) (lists_are s t started two h k o l)
+pub targets_are_all : (s : Replica) (t : Snapshot) (started : BTreeSet ℕ) (keys : List ℕ) → Mirrors s t → KnowsStarts started t
+    → tree.IsOrdered nat_cmp s.rebuilds → keys ≡ flat_map (entry_keys s started) s.rebuilds.entries
+    → (k : ℕ) → HasTarget t k ↔ Among k keys
+targets_are_all s t started keys h known o e k =
+    subst (λ (xs : List ℕ). HasTarget t k ↔ Among k xs) (sym e) (targets_are s t started h known o k)
+
+-- the lists for these numbers are the building lists of the state
+pub lists_are_all : (t : Snapshot) (once : List ℕ) (lists : List (List ℕ)) → 2 ≤ share_from
+    → ((k : ℕ) → HasTarget t k ↔ Among k once) → lists ≡ flat_map lists_of once → AreBuilding t lists
+lists_are_all t once lists two same i l =
+    subst (λ (xs : List (List ℕ)). IsBuilding t l ↔ Among l xs) (sym i) (
+      (λ b.
+          let has : HasTarget t b.k = record { rebuild = b.rebuild; row = b.row; published = b.published; started = b.started; finished = b.finished } in
+          flat_in lists_of once b.k l ((same b.k).0 has) (build_listed b.k l two b.build)),
+      (λ a.
+          let f = flat_out lists_of once l a in
+          let has = (same f.0).1 f.1 in
+          record { rebuild = has.rebuild; row = has.row; published = has.published; started = has.started; k = f.0; finished = has.finished; build = listed_build f.0 l f.2 }),
+    )
+
+-- ---- each number once
+
+pub once_more : (xs old new : List ℕ) (i n : ℕ) → i < length xs
+    → ((x : ℕ) → Among x new ↔ (Among x old ⊎ (x ≡ get_or xs i n)))
+    → ((x : ℕ) → Among x old ↔ Among x (take i xs)) → (x : ℕ) → Among x new ↔ Among x (take (i + 1) xs)
+once_more xs old new i n h added so x =
+    let whole = take_more xs i n h in (
+      (λ a.
+          subst (Among x) (sym whole)
+          (⊎_elim (λ b. among_left x (take i xs) (get_or xs i n ∷ []) ((so x).0 b)) (λ e. among_right x (take i xs) (get_or xs i n ∷ []) (inl e)) ((added x).0 a))),
+      (λ a.
+          (added x).1
+          (⊎_elim (λ b. inl ((so x).1 b)) (λ c. inr (⊎_elim (λ e. e) (λ n. absurd n) c)) (among-append x (take i xs) (get_or xs i n ∷ []) (subst (Among x) whole a)))),
+    )
+
+pub once_known : (xs : List ℕ) (n : ℕ) → Among n xs → (x : ℕ) → Among x xs ↔ (Among x xs ⊎ (x ≡ n))
+once_known xs n a x = (inl, (λ h. ⊎_elim (λ b. b) (λ e. subst (λ y. Among y xs) (sym e) a) h))
+
+pub once_pushed : (xs new : List ℕ) (n : ℕ) → new ≡ xs ++ n ∷ [] → (x : ℕ) → Among x new ↔ (Among x xs ⊎ (x ≡ n))
+once_pushed xs new n e x =
+    subst (λ ys. Among x ys ↔ (Among x xs ⊎ (x ≡ n))) (sym e) (
+      (λ a. ⊎_elim inl (λ c. inr (⊎_elim (λ i. i) (λ none. absurd none) c)) (among-append x xs (n ∷ []) a)),
+      (λ h. ⊎_elim (among_left x xs (n ∷ [])) (λ i. among_right x xs (n ∷ []) (inl i)) h),
+    )
 
 -- ---- what the code adds
 

@@ -1,18 +1,24 @@
-use Rattle.std.proofs.Common.{◌≡◌, ◌∙◌, ap, map, rules}
+use Rattle.std.proofs.Common.{◌∙◌, ap, sym, subst}
 use Rattle.std.specs.List.{flat_map}
-use Rattle.std.specs.Map.Iter.{deref_pair}
-use Rattle.std.proofs.lemmas.Map.Iter.{iter_end}
+use Rattle.ist_core.specs.Elements.{Among}
 use Rattle.ist_core.specs.Shapes.{share_from_fits}
-use Rattle.ist_enabled.specs.Builds.{entry_lists}
+use Rattle.ist_enabled.specs.Builds.{lists_of}
+use Rattle.ist_enabled.proofs.AnswerLemmas.{if_ok, iff_trans}
 use Rattle.ist_enabled.proofs.BuildLemmas.{lists_are_all}
 use Rattle.ist_enabled.proofs.shapes.building_lists.Goals as goal
 
 pub returns : goal.returns
 returns c =
     record {
-      exact = λ t h k.
-          let gives = c.into_iter-rebuild-iterator.ensures.into_iter_gives in
-          let all : map deref_pair c.loop-rebuild.yielded ≡ c.args.replica.now.rebuilds.entries = search (rules, iter_end) in
-          lists_are_all c.args.replica.now t c.args.past.now.started _ share_from_fits h k gives.5
-          (c.loop-rebuild.invariant ∙ ap (flat_map (entry_lists c.args.replica.now c.args.past.now.started)) all);
+      exact = if_ok c.lists_for.result _ _
+          (λ lists e t h known.
+          lists_are_all t c.in_ok-once.once.items _ share_from_fits
+          (λ k.
+          iff_trans (c.in_ok-all.ensures.exact t h known k)
+          (let same = c.in_ok-once.ensures.same k in (
+            (λ a. same.1 (subst (Among k) (sym c.as_slice.ensures.value) a)),
+            (λ a. subst (Among k) c.as_slice.ensures.value (same.0 a)),
+          )))
+          (e ∙ ap (flat_map lists_of) c.as_slice-2.ensures.value))
+          c.lists_for.ensures.value;
     }
