@@ -50,7 +50,8 @@ first_shapes_more n j =
     ∙ ap (λ xs. first_shapes n j ++ xs) (append-nil (shape (part_len n j)))
 
 -- the shape of one more part
-pub shape_step : (n j len : ℕ) (base mid new : List ℕ) → mid ≡ base ++ first_shapes n j → new ≡ mid ++ shape len
+pub shape_step : (n j len : ℕ) (base mid new : List ℕ) → mid ≡ base ++ first_shapes n j
+    → new ≡ mid ++ shape len
     → len ≡ part_len n j → new ≡ base ++ first_shapes n (j + 1)
 shape_step n j len base mid new e i l =
     i ∙ ap (λ xs. xs ++ shape len) e ∙ ap (λ k. (base ++ first_shapes n j) ++ shape k) l
@@ -112,7 +113,8 @@ build_listed k _ two (build_part j n m) =
 
 -- ---- the targets of rebuilds
 
-target_in : (o : Option InnerRow) (r : InnerRow) (k : ℕ) → o ≡ Some r → r.status ≡ 4 * k + 3 → Among k (target_keys o)
+target_in : (o : Option InnerRow) (r : InnerRow) (k : ℕ) → o ≡ Some r → r.status ≡ 4 * k + 3
+    → Among k (target_keys o)
 target_in o r k e i = subst (λ x. Among k (target_keys x)) (sym e) (at (r.status % 4 == 3) refl)
   where
     at : (b : Bool) → (r.status % 4 == 3) ≡ b → Among k (if b then (r.status / 4) ∷ [] else [])
@@ -133,10 +135,12 @@ target_out (Some r) k h = at (r.status % 4 == 3) refl h
 
 module _ (s : Replica) (started : BTreeSet ℕ) (e : ℕ × RebuildRow) (k : ℕ) where
   entry_in : IsTrue (contains nat_cmp started e.0)
-      → Among k (target_keys (tree.get nat_cmp s.inners e.1.target)) → Among k (entry_keys s started e)
+      → Among k (target_keys (tree.get nat_cmp s.inners e.1.target))
+      → Among k (entry_keys s started e)
   entry_in h a = at (contains nat_cmp started e.0) h
     where
-      at : (b : Bool) → b ≡ true → Among k (if b then target_keys (tree.get nat_cmp s.inners e.1.target) else [])
+      at : (b : Bool) → b ≡ true
+          → Among k (if b then target_keys (tree.get nat_cmp s.inners e.1.target) else [])
       at true i = a
       at false i = cc
 
@@ -160,7 +164,8 @@ module _ {A B : Type 0} (f : A → List B) where
   flat_out [] l h = absurd h
   flat_out (x ∷ xs) l h = at (among-append l (f x) (flat_map f xs) h) (λ a. flat_out xs l a)
     where
-      at : Among l (f x) ⊎ Among l (flat_map f xs) → (Among l (flat_map f xs) → (e : A) × Among e xs × Among l (f e))
+      at : Among l (f x) ⊎ Among l (flat_map f xs)
+          → (Among l (flat_map f xs) → (e : A) × Among e xs × Among l (f e))
           → (e : A) × Among e (x ∷ xs) × Among l (f e)
       at (inl a) g = (x, inl refl, a)
       at (inr a) g = let r = g a in (r.0, inr r.1, r.2)
@@ -170,7 +175,8 @@ contained_among : {A : Type 0} (es : List A) (e : A) → Contains es e → Among
 contained_among [] e c = absurd (let n = c.1 in omega arith)
 contained_among (x ∷ xs) e c = at c.0 c.1 c.2 (λ k. contained_among xs e k)
   where
-    at : (k : ℕ) → k < length (x ∷ xs) → slice_index_or (x ∷ xs) k e ≡ e → (Contains xs e → Among e xs) → Among e (x ∷ xs)
+    at : (k : ℕ) → k < length (x ∷ xs) → slice_index_or (x ∷ xs) k e ≡ e
+        → (Contains xs e → Among e xs) → Among e (x ∷ xs)
     at zero n i g = inl (sym i)
     at (suc k) n i g = inr (g (k, omega arith, i))
 
@@ -181,8 +187,10 @@ among_contained (x ∷ xs) e (inr a) =
     let r = among_contained xs e a in (r.0 + 1, let n = r.1 in omega arith, rw (add-one r.0) r.2)
 
 -- the numbers that the code gathers are those of the targets of started rebuilds
-targets_are : (s : Replica) (t : Snapshot) (started : BTreeSet ℕ) → Mirrors s t → KnowsStarts started t
-    → tree.IsOrdered nat_cmp s.rebuilds → (k : ℕ) → HasTarget t k ↔ Among k (flat_map (entry_keys s started) s.rebuilds.entries)
+targets_are : (s : Replica) (t : Snapshot) (started : BTreeSet ℕ) → Mirrors s t
+    → KnowsStarts started t
+    → tree.IsOrdered nat_cmp s.rebuilds → (k : ℕ)
+    → HasTarget t k ↔ Among k (flat_map (entry_keys s started) s.rebuilds.entries)
 targets_are s t started h known o k = (
   (λ b.
       let found : tree.get nat_cmp s.rebuilds b.rebuild ≡ Some b.row = h.rebuilds b.rebuild ∙ ap as_rebuild b.published in
@@ -205,7 +213,8 @@ targets_are s t started h known o k = (
       }),
 )
 
-pub targets_are_all : (s : Replica) (t : Snapshot) (started : BTreeSet ℕ) (keys : List ℕ) → Mirrors s t → KnowsStarts started t
+pub targets_are_all : (s : Replica) (t : Snapshot) (started : BTreeSet ℕ) (keys : List ℕ)
+    → Mirrors s t → KnowsStarts started t
     → tree.IsOrdered nat_cmp s.rebuilds → keys ≡ flat_map (entry_keys s started) s.rebuilds.entries
     → (k : ℕ) → HasTarget t k ↔ Among k keys
 targets_are_all s t started keys h known o e k =
@@ -213,7 +222,8 @@ targets_are_all s t started keys h known o e k =
 
 -- the lists for these numbers are the building lists of the state
 pub lists_are_all : (t : Snapshot) (once : List ℕ) (lists : List (List ℕ)) → 2 ≤ share_from
-    → ((k : ℕ) → HasTarget t k ↔ Among k once) → lists ≡ flat_map lists_of once → AreBuilding t lists
+    → ((k : ℕ) → HasTarget t k ↔ Among k once) → lists ≡ flat_map lists_of once
+    → AreBuilding t lists
 lists_are_all t once lists two same i l =
     subst (λ (xs : List (List ℕ)). IsBuilding t l ↔ Among l xs) (sym i) (
       (λ b.
@@ -229,7 +239,8 @@ lists_are_all t once lists two same i l =
 
 pub once_more : (xs old new : List ℕ) (i n : ℕ) → i < length xs
     → ((x : ℕ) → Among x new ↔ (Among x old ⊎ (x ≡ get_or xs i n)))
-    → ((x : ℕ) → Among x old ↔ Among x (take i xs)) → (x : ℕ) → Among x new ↔ Among x (take (i + 1) xs)
+    → ((x : ℕ) → Among x old ↔ Among x (take i xs)) → (x : ℕ)
+    → Among x new ↔ Among x (take (i + 1) xs)
 once_more xs old new i n h added so x =
     let whole = take_more xs i n h in (
       (λ a.
@@ -243,7 +254,8 @@ once_more xs old new i n h added so x =
 pub once_known : (xs : List ℕ) (n : ℕ) → Among n xs → (x : ℕ) → Among x xs ↔ (Among x xs ⊎ (x ≡ n))
 once_known xs n a x = (inl, (λ h. ⊎_elim (λ b. b) (λ e. subst (λ y. Among y xs) (sym e) a) h))
 
-pub once_pushed : (xs new : List ℕ) (n : ℕ) → new ≡ xs ++ n ∷ [] → (x : ℕ) → Among x new ↔ (Among x xs ⊎ (x ≡ n))
+pub once_pushed : (xs new : List ℕ) (n : ℕ) → new ≡ xs ++ n ∷ [] → (x : ℕ)
+    → Among x new ↔ (Among x xs ⊎ (x ≡ n))
 once_pushed xs new n e x =
     subst (λ ys. Among x ys ↔ (Among x xs ⊎ (x ≡ n))) (sym e) (
       (λ a. ⊎_elim inl (λ c. inr (⊎_elim (λ i. i) (λ none. absurd none) c)) (among-append x xs (n ∷ []) a)),
@@ -266,7 +278,8 @@ lists_large k n m =
     rw (a, b) refl
 
 -- the top row alone, and behind it the shapes of the first part and of the last
-pub lists_whole : (k d first last : ℕ) (old mid next out : List (List ℕ)) → 2 ≤ k → share_from ≤ k → d ≡ degree k
+pub lists_whole : (k d first last : ℕ) (old mid next out : List (List ℕ)) → 2 ≤ k → share_from ≤ k
+    → d ≡ degree k
     → mid ≡ old ++ ((2 * d + 3) ∷ []) ∷ [] → first ≡ part_len k 0 → next ≡ mid ++ shape first ∷ []
     → last ≡ part_len k (d - 1) → out ≡ next ++ shape last ∷ [] → out ≡ old ++ lists_of k
 lists_whole k d first last old mid next out n m e p f i l o =

@@ -45,7 +45,8 @@ module _ (P : List ℕ → Type 0) (room : ℕ) where
       record { building = x ∷ f.building; spare = f.spare; merge = from_left x f.merge; reads = reads_first r p f.reads; few = f.few; one_each = f.one_each }
 
   finds : (may : Spare) (rest : List ℕ) (free : Bool) (xs building spare : List ℕ)
-      → IsMerge xs building spare → Reads rest free building → Each (IsSpare may) spare → Distinct spare
+      → IsMerge xs building spare → Reads rest free building → Each (IsSpare may) spare
+      → Distinct spare
       → Goes P room may rest free xs
   finds may rest free _ _ _ at_end r few one = all_read
   finds may rest free _ building _ (from_right {sizes = xs} {right = ss} x m) r few one =
@@ -123,7 +124,8 @@ spare_is_fair t xs h =
     all_right (y ∷ ys) = from_right y (all_right ys)
 
 -- a row may be reserved if it is fair to hold it too
-pub reserves : (t : Snapshot) (caller base size : ℕ) (xs : List ℕ) (fair : Bool) → caller < t.callers → base ≡ t.next
+pub reserves : (t : Snapshot) (caller base size : ℕ) (xs : List ℕ) (fair : Bool)
+    → caller < t.callers → base ≡ t.next
     → t.next + size ≤ t.words → xs ≡ sizes_held t caller ++ size ∷ []
     → (IsTrue fair ↔ IsFair t xs) → IsTrue fair ↔ CanReserve t caller base size
 reserves t caller base size xs fair known at fits e i = (

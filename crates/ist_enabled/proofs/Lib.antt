@@ -10,6 +10,7 @@ pub mod RowLemmas
 pub mod InstallLemmas
 pub mod SpareLemmas
 pub mod FairLemmas
+pub mod AddedLemmas
 pub mod ReadingLemmas
 pub mod ListLemmas
 pub mod BuildLemmas

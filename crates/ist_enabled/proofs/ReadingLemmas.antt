@@ -1,4 +1,4 @@
--- Readings of sizes, one size further: what they leave goes on exactly where they did. Serves `fairness.rt`.
+-- Readings, one size further: what they leave goes on where they did. Serves `fairness.rt`.
 use Rattle.std.proofs.Common.{◌≡◌, ◌≢◌, ◌↔◌, ◌∙◌, ◌+◌, ◌-◌, ◌<◌, ◌≤◌, ◌⊎◌, Bool, true, false, not, ℕ, zero, suc, IsTrue, List, [], ◌∷◌, ◌++◌, length, get_or, map, take, drop, refl, sym, ap, subst, inl, inr, ⊎_elim, true≢false, nat_eq, arith, length-drop}
 use Rattle.std.specs.Prelude.{slice_index_or}
 use Rattle.std.proofs.lemmas.Bool.Decides.{nat_tests}
@@ -11,51 +11,6 @@ use Rattle.ist_enabled.specs.Searching.{IsSpare, without_spare, Goes, all_read, 
 use Rattle.ist_enabled.specs.Readings.{rest_at, GoesFrom, SomeGoes, LeavesSame, IsReached, BeginsAmong}
 use Rattle.ist_enabled.proofs.RowLemmas.{behind}
 use Rattle.ist_enabled.proofs.LoseLemmas.{first_behind}
-
--- ---- facts with "or"
-
--- what was added in two steps, and in three
-pub two_added : {A B C X Y G : Type 0} → (B ↔ (A ⊎ X)) → (C ↔ (B ⊎ Y)) → (G ↔ (X ⊎ Y)) → C ↔ (A ⊎ G)
-two_added b c g = (
-  (λ k. ⊎_elim (λ h. ⊎_elim inl (λ x. inr (g.1 (inl x))) (b.0 h)) (λ y. inr (g.1 (inr y))) (c.0 k)),
-  (λ k. ⊎_elim (λ a. c.1 (inl (b.1 (inl a)))) (λ h. ⊎_elim (λ x. c.1 (inl (b.1 (inr x)))) (λ y. c.1 (inr y)) (g.0 h)) k),
-)
-
-pub three_added : {A B C D X Y Z G : Type 0} → (B ↔ (A ⊎ X)) → (C ↔ (B ⊎ Y)) → (D ↔ (C ⊎ Z)) → (G ↔ (X ⊎ (Y ⊎ Z)))
-    → D ↔ (A ⊎ G)
-three_added {A} {B} {C} {D} {X} {Y} {Z} {G} b c d g =
-    let both : C ↔ (A ⊎ (X ⊎ Y)) = two_added {G = X ⊎ Y} b c ((λ h. h), (λ h. h)) in
-    two_added both d (
-      (λ k. ⊎_elim (λ x. inl (inl x)) (λ h. ⊎_elim (λ y. inl (inr y)) inr h) (g.0 k)),
-      (λ k. g.1 (⊎_elim (λ h. ⊎_elim inl (λ y. inr (inl y)) h) (λ z. inr (inr z)) k)),
-    )
-
--- what adds nothing
-pub none_added : {A X : Type 0} → ¬ X → A ↔ (A ⊎ X)
-none_added none = (inl, (λ k. ⊎_elim (λ a. a) (λ x. absurd (none x)) k))
-
--- what adds something else that says the same
-pub other_added : {A B X Y : Type 0} → (B ↔ (A ⊎ X)) → (X ↔ Y) → B ↔ (A ⊎ Y)
-other_added b i = (
-  (λ k. ⊎_elim inl (λ x. inr (i.0 x)) (b.0 k)),
-  (λ k. b.1 (⊎_elim inl (λ y. inr (i.1 y)) k)),
-)
-
--- what was added to what says the same as a part of the whole
-pub more_added : {A B C D X : Type 0} → (B ↔ (A ⊎ X)) → (A ↔ C) → (D ↔ (C ⊎ X)) → B ↔ D
-more_added b a d = (
-  (λ k. d.1 (⊎_elim (λ h. inl (a.0 h)) inr (b.0 k))),
-  (λ k. b.1 (⊎_elim (λ h. inl (a.1 h)) inr (d.0 k))),
-)
-
--- a flag that was tested the other way round
-pub not_set : (b : Bool) → not b ≡ true → b ≡ false
-not_set true e = absurd (true≢false (sym e))
-not_set false e = refl
-
-pub is_set : (b : Bool) → not b ≡ false → b ≡ true
-is_set true e = refl
-is_set false e = absurd (true≢false e)
 
 -- ---- one size further
 
@@ -124,12 +79,14 @@ out_is P room may less rest free x xs s e = (
 -- ---- readings
 
 module _ (lists : List (List ℕ)) (room : ℕ) (sizes : List ℕ) where
-  some_left : (rs qs : List Reading) → SomeGoes lists room rs sizes → SomeGoes lists room (rs ++ qs) sizes
+  some_left : (rs qs : List Reading) → SomeGoes lists room rs sizes
+      → SomeGoes lists room (rs ++ qs) sizes
   some_left [] qs h = absurd h
   some_left (r ∷ rs) qs (inl g) = inl g
   some_left (r ∷ rs) qs (inr g) = inr (some_left rs qs g)
 
-  some_right : (rs qs : List Reading) → SomeGoes lists room qs sizes → SomeGoes lists room (rs ++ qs) sizes
+  some_right : (rs qs : List Reading) → SomeGoes lists room qs sizes
+      → SomeGoes lists room (rs ++ qs) sizes
   some_right [] qs h = h
   some_right (r ∷ rs) qs h = inr (some_right rs qs h)
 
@@ -155,7 +112,8 @@ module _ (lists : List (List ℕ)) (room : ℕ) (sizes : List ℕ) where
   some_more rs i default h = some_pushed (take i rs) (take (i + 1) rs) (get_or rs i default) (take_more rs i default h)
 
   -- what leaves the same goes on in the same way
-  pub reached_goes : (rs : List Reading) (r : Reading) → IsReached lists rs r → GoesFrom lists room r sizes
+  pub reached_goes : (rs : List Reading) (r : Reading) → IsReached lists rs r
+      → GoesFrom lists room r sizes
       → SomeGoes lists room rs sizes
   reached_goes [] r h g = absurd h
   reached_goes (q ∷ rs) r (inl s) g =
@@ -172,7 +130,8 @@ module _ (lists : List (List ℕ)) (room : ℕ) (sizes : List ℕ) where
   reached_added rs r h = (inl, (λ k. ⊎_elim (λ a. a) (reached_goes rs r h) k))
 
 -- at the end of the sizes each reading will do
-pub end_read : (lists : List (List ℕ)) (room : ℕ) (rs : List Reading) (rest : List ℕ) (empty : Bool) → length rest < 1
+pub end_read : (lists : List (List ℕ)) (room : ℕ) (rs : List Reading) (rest : List ℕ) (empty : Bool)
+    → length rest < 1
     → empty ≡ nat_eq (length rs) 0 → IsTrue (not empty) ↔ SomeGoes lists room rs rest
 end_read lists room rs (x ∷ rest) empty n e = absurd (omega arith)
 end_read lists room [] [] empty n e = ((λ y. absurd (true≢false (sym y ∙ ap not e))), (λ h. absurd h))
@@ -249,7 +208,8 @@ module _ {A : Type 0} (f : A → List ℕ) (xs : List A) where
       take_all (length (f x) - n) (drop n (f x)) (omega arith) ∙ sym (ap (drop n) (list_at f xs i x h e))
 
 -- behind the first of what is left
-pub rest_behind : (lists : List (List ℕ)) (i n : ℕ) (left : List ℕ) → left ≡ rest_at lists i n → 1 ≤ length left
+pub rest_behind : (lists : List (List ℕ)) (i n : ℕ) (left : List ℕ) → left ≡ rest_at lists i n
+    → 1 ≤ length left
     → behind left ≡ rest_at lists i (n + 1)
 rest_behind lists i n left e some = ap behind e ∙ at n (slice_index_or lists i []) (subst (λ ys. 1 ≤ length ys) e some)
   where
@@ -261,13 +221,16 @@ rest_behind lists i n left e some = ap behind e ∙ at n (slice_index_or lists i
 
 -- what a list leaves behind the size with which it goes on
 module _ (lists : List (List ℕ)) (room : ℕ) (may : Spare) (i n : ℕ) (left : List ℕ) (left_is : left ≡ rest_at lists i n) (x : ℕ) (xs : List ℕ) where
-  pub nothing_on : length left < 1 → ¬ (GoesOnWith (λ l. Among l lists) room may (rest_at lists i n) x xs)
+  pub nothing_on : length left < 1
+      → ¬ (GoesOnWith (λ l. Among l lists) room may (rest_at lists i n) x xs)
   nothing_on h = subst (λ ys. ¬ (GoesOnWith (λ l. Among l lists) room may ys x xs)) left_is (on_none (λ l. Among l lists) room may left x xs h)
 
-  pub other_on : get_or left 0 0 ≢ x → ¬ (GoesOnWith (λ l. Among l lists) room may (rest_at lists i n) x xs)
+  pub other_on : get_or left 0 0 ≢ x
+      → ¬ (GoesOnWith (λ l. Among l lists) room may (rest_at lists i n) x xs)
   other_on ne = subst (λ ys. ¬ (GoesOnWith (λ l. Among l lists) room may ys x xs)) left_is (on_other (λ l. Among l lists) room may left x xs ne)
 
-  pub this_on : (full : Bool) → 1 ≤ length left → get_or left 0 0 ≡ x → full ≡ is_full room (behind left)
+  pub this_on : (full : Bool) → 1 ≤ length left → get_or left 0 0 ≡ x
+      → full ≡ is_full room (behind left)
       → Goes (λ l. Among l lists) room may (rest_at lists i (n + 1)) full xs
       ↔ GoesOnWith (λ l. Among l lists) room may (rest_at lists i n) x xs
   this_on full some e f =
@@ -293,7 +256,8 @@ module _ (lists : List (List ℕ)) (room : ℕ) (may : Spare) (x : ℕ) (xs : Li
       subst (λ some. BeginsAmong lists some room may x xs ↔ BeginsOne (λ l. Among l lists) room may x xs) (sym (take_all i lists h)) begins_all
 
   -- one of the lists up to one more
-  pub begins_more : (i : ℕ) → i < length lists → BeginsAmong lists (take (i + 1) lists) room may x xs
+  pub begins_more : (i : ℕ) → i < length lists
+      → BeginsAmong lists (take (i + 1) lists) room may x xs
       ↔ (BeginsAmong lists (take i lists) room may x xs ⊎ GoesOnWith (λ l. Among l lists) room may (rest_at lists i 0) x xs)
   begins_more i h =
       let here = get_or lists i [] in

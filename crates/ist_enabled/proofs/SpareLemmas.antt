@@ -60,7 +60,8 @@ module _ (may : Spare) (xs : List ℕ) (some : 1 ≤ length xs) where
     (λ h. let k = each_before may (get_or xs 0 0) (behind xs) h.1.0 in ((h.0, k.0), (k.1, h.1.1))),
   )
 
-  pub spare_first : (less : Spare) → IsSpare may (get_or xs 0 0) → less ≡ without_spare may (get_or xs 0 0)
+  pub spare_first : (less : Spare) → IsSpare may (get_or xs 0 0)
+      → less ≡ without_spare may (get_or xs 0 0)
       → AreSpare less (behind xs) ↔ AreSpare may xs
   spare_first less is e = (
     (λ h. subst (AreSpare may) (first_behind xs some) (spare_apart.1 (is, subst (λ m. AreSpare m (behind xs)) e h))),
@@ -80,7 +81,8 @@ each_in (y ∷ ys) h = (one h.0, each_in ys h.1)
     one (inr (inr (inl h))) = inr (inr (inl h.0))
     one (inr (inr (inr h))) = inr (inr (inr (inl h.0)))
 
-pub each_out : (ys : List ℕ) → Each (λ size. Among size spare_sizes) ys → Each (IsSpare all_spare) ys
+pub each_out : (ys : List ℕ) → Each (λ size. Among size spare_sizes) ys
+    → Each (IsSpare all_spare) ys
 each_out [] h = tt
 each_out (y ∷ ys) h = (one h.0, each_out ys h.1)
   where

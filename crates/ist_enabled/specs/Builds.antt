@@ -13,7 +13,8 @@ use Rattle.ist_core.specs.Snapshots.{Snapshot}
 use Rattle.ist_core.specs.Rebuilding.{IsStarted, IsFinishedWith}
 use Rattle.ist_enabled.specs.declared.replicas.Replica.{Replica}
 
--- the building lists of a rebuild whose target is finished with k keys. Its parts have the lengths of the first and the last
+-- the building lists of a rebuild whose target is finished with k keys. Each part has the length
+-- of the first or of the last one
 abbrev pub lists_of : ℕ → List (List ℕ)
 lists_of k =
     if nat_lt k 2 then []

@@ -1,5 +1,5 @@
--- Readings of the sizes so far, one behind another: what each leaves, and whether it goes on to the end.
-use Rattle.std.specs.Prelude.{◌≡◌, ◌⊎◌, ℕ, List, [], ◌∷◌, drop, slice_index_or}
+-- Readings of the sizes so far: what each leaves, and whether it goes on to the end of the sizes.
+use Rattle.std.specs.Prelude.{◌≡◌, ◌↔◌, ◌⊎◌, ℕ, List, [], ◌∷◌, drop, slice_index_or}
 use Rattle.ist_core.specs.Elements.{Among}
 use Rattle.ist_enabled.specs.declared.fairness.Reading.{Reading}
 use Rattle.ist_enabled.specs.declared.fairness.Spare.{Spare}
@@ -19,6 +19,11 @@ abbrev pub SomeGoes : List (List ℕ) → ℕ → List Reading → List ℕ → 
 SomeGoes lists room [] sizes = ⊥
 SomeGoes lists room (r ∷ rs) sizes = GoesFrom lists room r sizes ⊎ SomeGoes lists room rs sizes
 
+-- to the readings were added what goes on exactly where P holds
+abbrev pub Adds : List (List ℕ) → ℕ → List Reading → List Reading → (List ℕ → Type 0) → Type 0
+Adds lists room old new P =
+    (sizes : List ℕ) → SomeGoes lists room new sizes ↔ (SomeGoes lists room old sizes ⊎ P sizes)
+
 -- two readings leave the same
 pub record LeavesSame (lists : List (List ℕ)) (a b : Reading) : Type 0 where
   pub may : a.may ≡ b.may
@@ -31,7 +36,8 @@ IsReached lists [] reading = ⊥
 IsReached lists (r ∷ rs) reading = LeavesSame lists r reading ⊎ IsReached lists rs reading
 
 -- one of some lists begins with the size, and the further sizes can be read behind it
-pub record BeginsAmong (lists some : List (List ℕ)) (room : ℕ) (may : Spare) (size : ℕ) (sizes : List ℕ) : Type 0 where
+pub record BeginsAmong (lists some : List (List ℕ)) (room : ℕ) (may : Spare) (size : ℕ)
+    (sizes : List ℕ) : Type 0 where
   pub rest : List ℕ
   pub listed : Among (size ∷ rest) some
   pub goes : Goes (λ l. Among l lists) room may rest (is_full room rest) sizes

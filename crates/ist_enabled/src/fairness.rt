@@ -3,13 +3,13 @@
 //!
 //! They are read one at a time. Behind each size only what a reading leaves is kept, and each once.
 //! So there are few readings at a time, however many ways there are to come to one.
-ghost use Rattle.std.specs.Prelude.{◌≡◌, ◌↔◌, ◌+◌, ◌∷◌, ◌⊎◌, ◌<◌, ◌^◌, ℕ, IsTrue, IfOk, OnOk, List, map, length};
+ghost use Rattle.std.specs.Prelude.{◌≡◌, ◌↔◌, ◌+◌, ◌∷◌, ◌<◌, ◌^◌, ℕ, IsTrue, IfOk, OnOk, List, map, length};
 ghost use Rattle.ist_core.specs.Elements.{Among};
 ghost use Rattle.ist_core.specs.Snapshots.{Snapshot};
 ghost use Rattle.ist_core.specs.Fairness.{IsFair};
 ghost use Rattle.ist_enabled.specs.Searching as searching;
 ghost use Rattle.ist_enabled.specs.Searching.{IsSpare, AreSpare, without_spare, GoesOnWith, BeginsOne, LeavesOut, AreBuilding};
-ghost use Rattle.ist_enabled.specs.Readings.{GoesFrom, SomeGoes, LeavesSame, IsReached, rest_at};
+ghost use Rattle.ist_enabled.specs.Readings.{GoesFrom, SomeGoes, Adds, LeavesSame, IsReached, rest_at};
 
 use crate::giving_up::are_same;
 use ist_layout::{CHANGE_WORDS, LEAF_WORDS, PAIR_WORDS, REBUILD_WORDS};
@@ -24,8 +24,8 @@ pub struct Spare {
     pub change: bool,
 }
 
-/// What a reading of some sizes leaves: which rows may still be held beside the builds, the building
-/// list that was begun with the place from which on it is left, and whether another may be begun.
+/// What a reading of some sizes leaves: which rows may still be held beside the builds, the list
+/// that was begun with the place from which on it is left, and whether another may be begun.
 #[derive(Clone, Copy, Drop)]
 pub struct Reading {
     pub may: Spare,
@@ -97,9 +97,9 @@ fn read_on(
     readings: &[Reading],
     size: u64,
 ) -> Result<Vec<Reading>, AllocError>
-    ensures exact { IfOk result (λ next. (sizes : List ℕ)
-        → (SomeGoes (map (λ v. v.items) lists.now) room next.items sizes
-        ↔ SomeGoes (map (λ v. v.items) lists.now) room readings.now (size ∷ sizes))) }
+    ensures exact { let all = map (λ v. v.items) lists.now in
+        IfOk result (λ next. (sizes : List ℕ)
+        → (SomeGoes all room next.items sizes ↔ SomeGoes all room readings.now (size ∷ sizes))) }
 {
     let mut next = Vec::new(alloc);
     for reading in readings {
@@ -116,10 +116,9 @@ fn add_behind(
     size: u64,
     next: &mut Vec<Reading>,
 ) -> Result<(), AllocError>
-    ensures added { OnOk result ((sizes : List ℕ)
-        → (SomeGoes (map (λ v. v.items) lists.now) room next.new.items sizes
-        ↔ (SomeGoes (map (λ v. v.items) lists.now) room next.old.items sizes
-        ⊎ GoesFrom (map (λ v. v.items) lists.now) room reading (size ∷ sizes)))) }
+    ensures added { let all = map (λ v. v.items) lists.now in
+        OnOk result (Adds all room next.old.items next.new.items
+        (λ sizes. GoesFrom all room reading (size ∷ sizes))) }
 {
     add_left_out(lists, room, reading, size, next)?;
     add_on(
@@ -145,11 +144,10 @@ fn add_left_out(
     size: u64,
     next: &mut Vec<Reading>,
 ) -> Result<(), AllocError>
-    ensures added { OnOk result ((sizes : List ℕ)
-        → (SomeGoes (map (λ v. v.items) lists.now) room next.new.items sizes
-        ↔ (SomeGoes (map (λ v. v.items) lists.now) room next.old.items sizes
-        ⊎ LeavesOut (λ l. Among l (map (λ v. v.items) lists.now)) room reading.may
-        (rest_at (map (λ v. v.items) lists.now) reading.list reading.at) reading.free size sizes))) }
+    ensures added { let all = map (λ v. v.items) lists.now in
+        OnOk result (Adds all room next.old.items next.new.items
+        (LeavesOut (λ l. Among l all) room reading.may (rest_at all reading.list reading.at)
+        reading.free size)) }
 {
     if !is_spare(reading.may, size) {
         return Ok(());
@@ -173,11 +171,9 @@ fn add_on(
     size: u64,
     next: &mut Vec<Reading>,
 ) -> Result<(), AllocError>
-    ensures added { OnOk result ((sizes : List ℕ)
-        → (SomeGoes (map (λ v. v.items) lists.now) room next.new.items sizes
-        ↔ (SomeGoes (map (λ v. v.items) lists.now) room next.old.items sizes
-        ⊎ GoesOnWith (λ l. Among l (map (λ v. v.items) lists.now)) room may
-        (rest_at (map (λ v. v.items) lists.now) list at) size sizes))) }
+    ensures added { let all = map (λ v. v.items) lists.now in
+        OnOk result (Adds all room next.old.items next.new.items
+        (GoesOnWith (λ l. Among l all) room may (rest_at all list at) size)) }
 {
     let left = rest_of(lists, list, at);
     match left {
@@ -205,10 +201,9 @@ fn add_begun(
     size: u64,
     next: &mut Vec<Reading>,
 ) -> Result<(), AllocError>
-    ensures added { OnOk result ((sizes : List ℕ)
-        → (SomeGoes (map (λ v. v.items) lists.now) room next.new.items sizes
-        ↔ (SomeGoes (map (λ v. v.items) lists.now) room next.old.items sizes
-        ⊎ BeginsOne (λ l. Among l (map (λ v. v.items) lists.now)) room may size sizes))) }
+    ensures added { let all = map (λ v. v.items) lists.now in
+        OnOk result (Adds all room next.old.items next.new.items
+        (BeginsOne (λ l. Among l all) room may size)) }
 {
     for list in 0..lists.len() {
         add_on(lists, room, may, list, 0, size, next)?;
@@ -223,10 +218,8 @@ fn add_reading(
     reading: Reading,
     readings: &mut Vec<Reading>,
 ) -> Result<(), AllocError>
-    ensures added { OnOk result ((sizes : List ℕ)
-        → (SomeGoes (map (λ v. v.items) lists.now) room readings.new.items sizes
-        ↔ (SomeGoes (map (λ v. v.items) lists.now) room readings.old.items sizes
-        ⊎ GoesFrom (map (λ v. v.items) lists.now) room reading sizes))) }
+    ensures added { let all = map (λ v. v.items) lists.now in
+        OnOk result (Adds all room readings.old.items readings.new.items (GoesFrom all room reading)) }
 {
     if is_reached(lists, readings.as_slice(), reading) {
         return Ok(());

@@ -1,6 +1,7 @@
 use Rattle.std.proofs.Common.{◌<◌, ◌≤◌, map, length, arith}
 use Rattle.std.proofs.lemmas.List.{length-map}
-use Rattle.ist_enabled.proofs.ReadingLemmas.{none_added, other_added, two_added, begins_none, begins_more, begins_end}
+use Rattle.ist_enabled.proofs.AddedLemmas.{none_added, other_added, two_added}
+use Rattle.ist_enabled.proofs.ReadingLemmas.{begins_none, begins_more, begins_end}
 use Rattle.ist_enabled.proofs.fairness.add_begun.Goals as goal
 
 pub loop-list-init : goal.loop-list-init

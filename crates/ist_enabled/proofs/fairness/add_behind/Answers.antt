@@ -2,7 +2,8 @@ use Rattle.std.proofs.Common.{map}
 use Rattle.ist_core.specs.Elements.{Among}
 use Rattle.ist_enabled.specs.Readings.{rest_at}
 use Rattle.ist_enabled.proofs.AnswerLemmas.{on_ok}
-use Rattle.ist_enabled.proofs.ReadingLemmas.{two_added, three_added, goes_free, goes_bound, not_set, is_set}
+use Rattle.ist_enabled.proofs.AddedLemmas.{two_added, three_added, not_set, is_set}
+use Rattle.ist_enabled.proofs.ReadingLemmas.{goes_free, goes_bound}
 use Rattle.ist_enabled.proofs.fairness.add_behind.Goals as goal
 
 pub returns-then-not-reading : goal.returns-then-not-reading

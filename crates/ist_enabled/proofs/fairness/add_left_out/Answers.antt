@@ -2,7 +2,8 @@ use Rattle.std.proofs.Common.{map}
 use Rattle.ist_core.specs.Elements.{Among}
 use Rattle.ist_enabled.specs.Readings.{rest_at}
 use Rattle.ist_enabled.proofs.AnswerLemmas.{is_not, on_ok}
-use Rattle.ist_enabled.proofs.ReadingLemmas.{none_added, other_added, out_is}
+use Rattle.ist_enabled.proofs.AddedLemmas.{none_added, other_added}
+use Rattle.ist_enabled.proofs.ReadingLemmas.{out_is}
 use Rattle.ist_enabled.proofs.fairness.add_left_out.Goals as goal
 
 pub returns-then-not-is_spare : goal.returns-then-not-is_spare

@@ -1,6 +1,7 @@
 use Rattle.std.proofs.Common.{map}
 use Rattle.ist_enabled.proofs.AnswerLemmas.{on_ok}
-use Rattle.ist_enabled.proofs.ReadingLemmas.{none_added, other_added, nothing_on, other_on, this_on}
+use Rattle.ist_enabled.proofs.AddedLemmas.{none_added, other_added}
+use Rattle.ist_enabled.proofs.ReadingLemmas.{nothing_on, other_on, this_on}
 use Rattle.ist_enabled.proofs.fairness.add_on.Goals as goal
 
 pub returns-in-empty : goal.returns-in-empty

@@ -1,5 +1,6 @@
 use Rattle.std.proofs.Common.{map, ◌∷◌}
-use Rattle.ist_enabled.proofs.ReadingLemmas.{more_added, some_more}
+use Rattle.ist_enabled.proofs.AddedLemmas.{more_added}
+use Rattle.ist_enabled.proofs.ReadingLemmas.{some_more}
 use Rattle.ist_enabled.proofs.fairness.read_on.Goals as goal
 
 pub loop-reading-preserved : goal.loop-reading-preserved
