@@ -29,7 +29,8 @@ made_more f a j here x old new e i at v =
 -- ---- parts
 
 -- a part that is cut out by its start and its length
-pub cut_part : (pairs : List Pair) (j start len : ℕ) → start ≡ part_start (length pairs) j → len ≡ part_len (length pairs) j
+pub cut_part : (pairs : List Pair) (j start len : ℕ) → start ≡ part_start (length pairs) j
+    → len ≡ part_len (length pairs) j
     → take (start + len - start) (drop start pairs) ≡ part_of pairs j
 cut_part pairs j start len e i =
     let whole : start + len - start ≡ len = omega arith in
@@ -69,7 +70,8 @@ slots_are base n pairs e =
     ∙ twice (range_with_len 0 (degree (length pairs)))
     ∙ ap (map (λ (part : ℕ × List Pair). word_of (tree_at part.0 part.1))) (sym (placed_by_index base pairs))
   where
-    twice : (js : List ℕ) → map (λ i. word_of (tree_at (part_base base (length pairs) i) (part_of pairs i))) js
+    twice : (js : List ℕ)
+        → map (λ i. word_of (tree_at (part_base base (length pairs) i) (part_of pairs i))) js
         ≡ map (λ (part : ℕ × List Pair). word_of (tree_at part.0 part.1)) (map (λ i. (part_base base (length pairs) i, part_of pairs i)) js)
     twice [] = refl
     twice (j ∷ js) = ap (λ ws. slot_word base pairs j ∷ ws) (twice js)
@@ -77,7 +79,8 @@ slots_are base n pairs e =
 -- ---- rows
 
 -- the rows of the last part and those behind it
-pub part_laid : (r : Replica) (t : Snapshot) (base at j : ℕ) (pairs part : List Pair) → j < degree (length pairs)
+pub part_laid : (r : Replica) (t : Snapshot) (base at j : ℕ) (pairs part : List Pair)
+    → j < degree (length pairs)
     → at ≡ part_base base (length pairs) j → part ≡ part_of pairs j
     → Mirrors r (record t { pieces = with_pieces (with_pieces t.pieces (rows_behind base pairs (j + 1))) (rows_from at part) })
     → Mirrors r (record t { pieces = with_pieces t.pieces (rows_behind base pairs j) })
@@ -91,14 +94,16 @@ part_laid r t base at j pairs part h e i m =
     m
 
 -- behind the last part nothing is laid
-pub none_laid : (r : Replica) (t : Snapshot) (base d : ℕ) (pairs : List Pair) → d ≡ degree (length pairs) → Mirrors r t
+pub none_laid : (r : Replica) (t : Snapshot) (base d : ℕ) (pairs : List Pair)
+    → d ≡ degree (length pairs) → Mirrors r t
     → Mirrors r (record t { pieces = with_pieces t.pieces (rows_behind base pairs d) })
 none_laid r t base d pairs e m =
     subst (λ rows. Mirrors r (record t { pieces = with_pieces t.pieces rows }))
     (sym (ap (rows_behind base pairs) e ∙ rows_behind-last base pairs)) m
 
 -- the top row is laid last
-pub top_laid : (r : Replica) (t : Snapshot) (base : ℕ) (pairs : List Pair) (row : InnerRow) → 2 ≤ length pairs
+pub top_laid : (r : Replica) (t : Snapshot) (base : ℕ) (pairs : List Pair) (row : InnerRow)
+    → 2 ≤ length pairs
     → Inner row ≡ top_row base pairs
     → Mirrors r (record t { pieces = with_row (with_pieces t.pieces (rows_behind base pairs 0)) base (Some (Inner row)) })
     → Mirrors r (record t { pieces = with_pieces t.pieces (rows_from base pairs) })
@@ -107,7 +112,8 @@ top_laid r t base pairs row two e m =
     (subst (λ p. Mirrors r (record t { pieces = with_row (with_pieces t.pieces (rows_behind base pairs 0)) base (Some p) })) e m)
 
 -- the one row of a pair, and none of no pair
-pub leaf_laid : (r : Replica) (t : Snapshot) (base : ℕ) (pairs : List Pair) (default : Pair) → length pairs ≡ 1
+pub leaf_laid : (r : Replica) (t : Snapshot) (base : ℕ) (pairs : List Pair) (default : Pair)
+    → length pairs ≡ 1
     → Mirrors r (record t { pieces = with_row t.pieces base (Some (Leaf record { key = (get_or pairs 0 default).key; value = (get_or pairs 0 default).value })) })
     → Mirrors r (record t { pieces = with_pieces t.pieces (rows_from base pairs) })
 unfolding rows_within
@@ -115,7 +121,8 @@ leaf_laid r t base [] default one m = absurd (omega arith)
 leaf_laid r t base (p ∷ []) default one m = m
 leaf_laid r t base (p ∷ q ∷ pairs) default one m = absurd (omega arith)
 
-pub nothing_laid : (r : Replica) (t : Snapshot) (base : ℕ) (pairs : List Pair) → length pairs < 1 → Mirrors r t
+pub nothing_laid : (r : Replica) (t : Snapshot) (base : ℕ) (pairs : List Pair) → length pairs < 1
+    → Mirrors r t
     → Mirrors r (record t { pieces = with_pieces t.pieces (rows_from base pairs) })
 unfolding rows_within
 nothing_laid r t base [] none m = m
@@ -135,5 +142,6 @@ opened r t first pairs e m =
     (subst (λ base. Mirrors r (record t { pieces = with_pieces (λ at. None) (rows_from base pairs) })) e m)
 
 -- nothing is found in a map without entries
-pub none_found : {X : Type 0} (m : BTreeMap ℕ X) (key : ℕ) → m.entries ≡ [] → tree.get nat_cmp m key ≡ None
+pub none_found : {X : Type 0} (m : BTreeMap ℕ X) (key : ℕ) → m.entries ≡ []
+    → tree.get nat_cmp m key ≡ None
 none_found m key e = rw e refl

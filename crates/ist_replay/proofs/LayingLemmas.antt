@@ -50,7 +50,8 @@ cut_by_index n xs j (suc k) =
     ∙ ap (λ ps. here ∷ ps) (cut_by_index n xs (j + 1) k)
 
 -- where the trees begin from part j on
-bases_by_index : (n base j k : ℕ) → bases_from (base + words_before n j) (map (part_len n) (range_with_len j k))
+bases_by_index : (n base j k : ℕ)
+    → bases_from (base + words_before n j) (map (part_len n) (range_with_len j k))
     ≡ map (λ i. base + words_before n i) (range_with_len j k)
 bases_by_index n base j zero = refl
 bases_by_index n base j (suc k) =
@@ -59,7 +60,8 @@ bases_by_index n base j (suc k) =
     ap (λ b. (base + words_before n j) ∷ bases_from b (map (part_len n) (range_with_len (j + 1) k))) next
     ∙ ap (λ bs. (base + words_before n j) ∷ bs) (bases_by_index n base (j + 1) k)
 
-zip_by_index : {A B : Type 0} (f : ℕ → A) (g : ℕ → B) (js : List ℕ) → zip (map f js) (map g js) ≡ map (λ j. (f j, g j)) js
+zip_by_index : {A B : Type 0} (f : ℕ → A) (g : ℕ → B) (js : List ℕ)
+    → zip (map f js) (map g js) ≡ map (λ j. (f j, g j)) js
 zip_by_index f g [] = refl
 zip_by_index f g (j ∷ js) = ap (λ xs. (f j, g j) ∷ xs) (zip_by_index f g js)
 
@@ -85,14 +87,16 @@ placed_by_index base pairs =
 
 -- ---- rows by the indices of parts
 
-joined_by_index : {A B : Type 0} (f : A → List B) (p : ℕ → A) (g : ℕ → List B) → ((i : ℕ) → f (p i) ≡ g i)
+joined_by_index : {A B : Type 0} (f : A → List B) (p : ℕ → A) (g : ℕ → List B)
+    → ((i : ℕ) → f (p i) ≡ g i)
     → (js : List ℕ) → flat_map f (map p js) ≡ flat_map g js
 joined_by_index f p g same [] = refl
 joined_by_index f p g same (j ∷ js) =
     ap (λ xs. xs ++ flat_map f (map p js)) (same j) ∙ ap (λ xs. g j ++ xs) (joined_by_index f p g same js)
 
 -- a part of two pairs or more has fewer pairs
-pub fewer_in_part : (pairs : List Pair) (i : ℕ) → 2 ≤ length pairs → length (part_of pairs i) < length pairs
+pub fewer_in_part : (pairs : List Pair) (i : ℕ) → 2 ≤ length pairs
+    → length (part_of pairs i) < length pairs
 fewer_in_part pairs i two =
     let n = length pairs in
     let less = part_len-lt n i two in
@@ -143,21 +147,24 @@ rows_behind-first base pairs j h =
     ap (λ k. flat_map (λ i. rows_from (part_base base (length pairs) i) (part_of pairs i)) (range_with_len j k)) left
 
 -- behind the last part lies none
-pub rows_behind-last : (base : ℕ) (pairs : List Pair) → rows_behind base pairs (degree (length pairs)) ≡ []
+pub rows_behind-last : (base : ℕ) (pairs : List Pair)
+    → rows_behind base pairs (degree (length pairs)) ≡ []
 rows_behind-last base pairs =
     let none : degree (length pairs) - degree (length pairs) ≡ 0 = omega arith in
     ap (λ k. flat_map (λ i. rows_from (part_base base (length pairs) i) (part_of pairs i)) (range_with_len (degree (length pairs)) k)) none
 
 -- ---- first keys
 
-first_key : {A : Type 0} (key : A → ℕ) (len s : ℕ) (xs : List A) (behind : List (List A)) → 1 ≤ len → s < length xs
+first_key : {A : Type 0} (key : A → ℕ) (len s : ℕ) (xs : List A) (behind : List (List A)) → 1 ≤ len
+    → s < length xs
     → first_keys key (take len (drop s xs) ∷ behind) ≡ get_or (map key xs) s 0 ∷ first_keys key behind
 first_key key zero s xs behind one h = absurd (omega arith)
 first_key key (suc len) s [] behind one h = absurd (omega arith)
 first_key key (suc len) zero (x ∷ xs) behind one h = refl
 first_key key (suc len) (suc s) (x ∷ xs) behind one h = first_key key (suc len) s xs behind one (omega arith)
 
-keys_by_index : {A : Type 0} (key : A → ℕ) (xs : List A) (j k : ℕ) → 2 ≤ length xs → j + k ≤ degree (length xs)
+keys_by_index : {A : Type 0} (key : A → ℕ) (xs : List A) (j k : ℕ) → 2 ≤ length xs
+    → j + k ≤ degree (length xs)
     → first_keys key (map (λ i. take (part_len (length xs) i) (drop (part_start (length xs) i) xs)) (range_with_len j k))
     ≡ map (λ i. get_or (map key xs) (part_start (length xs) i) 0) (range_with_len j k)
 keys_by_index key xs j zero two h = refl

@@ -11,7 +11,8 @@ use Rattle.ist_core.proofs.WordLemmas.{ideal_words_is}
 use Rattle.ist_replay.specs.Laying.{words_before, part_base, FitsAt}
 
 -- the trees of one part more
-pub words_before-suc : (n j : ℕ) → words_before n (j + 1) ≡ words_before n j + ideal_words (part_len n j)
+pub words_before-suc : (n j : ℕ)
+    → words_before n (j + 1) ≡ words_before n j + ideal_words (part_len n j)
 words_before-suc n j = ap (words_before n) (let e : j + 1 ≡ suc j = omega arith in e) ∙ sum_of_more ideal_words n j
 
 -- further parts take no less
@@ -25,7 +26,8 @@ words_before-le n j (suc more) =
     omega arith
 
 -- the tree of the next part begins where this one ends
-pub part_base-suc : (base n j : ℕ) → part_base base n j + ideal_words (part_len n j) ≡ part_base base n (j + 1)
+pub part_base-suc : (base n j : ℕ)
+    → part_base base n j + ideal_words (part_len n j) ≡ part_base base n (j + 1)
 part_base-suc base n j = let one = words_before-suc n j in omega arith
 
 -- the first one lies behind the inner row
@@ -46,7 +48,8 @@ few_fit base n fits =
     omega arith
 
 -- a part fits where the whole does
-pub part_fits : (base n j : ℕ) → 2 ≤ n → j < degree n → FitsAt base n → FitsAt (part_base base n j) (part_len n j)
+pub part_fits : (base n j : ℕ) → 2 ≤ n → j < degree n → FitsAt base n
+    → FitsAt (part_base base n j) (part_len n j)
 part_fits base n j two h fits =
     let low = fits.behind_fixed in
     let high = fits.below_limit in
@@ -58,7 +61,8 @@ part_fits base n j two h fits =
     record { behind_fixed = omega arith; below_limit = omega arith }
 
 -- and its base is one of a row
-pub part_base_fits : (base n j : ℕ) → 2 ≤ n → j < degree n → FitsAt base n → part_base base n j < 2 ^ 28
+pub part_base_fits : (base n j : ℕ) → 2 ≤ n → j < degree n → FitsAt base n
+    → part_base base n j < 2 ^ 28
 part_base_fits base n j two h fits =
     let part = part_fits base n j two h fits in
     let high = part.below_limit in
@@ -67,13 +71,15 @@ part_base_fits base n j two h fits =
     omega arith
 
 -- the same of a part that is known by its base and its length
-pub part_fits_at : (base n j at len : ℕ) → 2 ≤ n → j < degree n → FitsAt base n → at ≡ part_base base n j
+pub part_fits_at : (base n j at len : ℕ) → 2 ≤ n → j < degree n → FitsAt base n
+    → at ≡ part_base base n j
     → len ≡ part_len n j → FitsAt at len
 part_fits_at base n j at len two h fits e i =
     subst (λ b. FitsAt b len) (sym e) (subst (FitsAt (part_base base n j)) (sym i) (part_fits base n j two h fits))
 
 -- the tree of the part before ends where this one begins
-pub part_before : (base n j at len words : ℕ) → 0 < j → at ≡ part_base base n j → len ≡ part_len n (j - 1)
+pub part_before : (base n j at len words : ℕ) → 0 < j → at ≡ part_base base n j
+    → len ≡ part_len n (j - 1)
     → words ≡ ideal_words len → (words ≤ at) × (at - words ≡ part_base base n (j - 1))
 part_before base n j at len words some e i w =
     let one = part_base-suc base n (j - 1) in
@@ -83,7 +89,8 @@ part_before base n j at len words some e i w =
     (omega arith, omega arith)
 
 -- the tree of a table that may begin so fits
-pub opens_fit : (pairs : List Pair) (words : ℕ) → CanOpen pairs words → FitsAt first_row (length pairs)
+pub opens_fit : (pairs : List Pair) (words : ℕ) → CanOpen pairs words
+    → FitsAt first_row (length pairs)
 opens_fit pairs words opens =
     let room = opens.room in
     let within = opens.within in

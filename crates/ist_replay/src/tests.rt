@@ -73,3 +73,14 @@ fn no_pairs_have_no_rows(rt: HostRuntime) -> Result<(), AllocError> {
     assert_eq!(rt; (replica.inners.len(), replica.leaves.len()), (0, 0));
     Ok(())
 }
+
+#[test]
+fn a_large_table_opens(rt: HostRuntime) -> Result<(), AllocError> {
+    let mut pairs = Vec::new(rt.alloc());
+    for key in 0..20000 {
+        pairs.push(Pair { key, value: 1 })?;
+    }
+    let replica = open_replica(rt.alloc(), pairs.as_slice(), 1 << 18)?;
+    assert_eq!(rt; replica.leaves.len(), 20000);
+    Ok(())
+}
