@@ -1,0 +1,4 @@
+pub mod JoinLemmas
+pub mod KnownLemmas
+pub mod ComingLemmas
+pub mod AddingLemmas

@@ -1,0 +1,2 @@
+-- what the public contracts rest on, in the order to read them
+pub mod Coming

@@ -1,0 +1,24 @@
+//! Laws over what a seat knows. The functions take no steps and answer nothing: contracts are laws.
+ghost use Rattle.ist_steps.specs.Coming.{EnabledEventsCome, CountsCome, DrawsCome};
+ghost use Rattle.ist_steps.specs.Coming.{GoneWordsAreMissed, RowsAreKnown, OpenIsGone, MarkIsGone};
+
+/// What is enabled in the log that a seat has seen it may come to make, whatever others do
+/// meanwhile: an exchange where the word still stands, and a Count or a Draw whatever stands.
+///
+/// An Install needs that all changes of the caller are resolved, which its call asks, and so does a
+/// Count.
+pub fn enabled_events_come()
+    ensures exchange { EnabledEventsCome }
+    ensures count { CountsCome }
+    ensures draw { DrawsCome }
+{}
+
+/// Where the word that an exchange is to find is gone for good, it may be named for any event of
+/// the seat's own: it fails. The words of published rows are known, an open node that was closed is
+/// never open again, and a marked one that was finished never marked.
+pub fn gone_words_are_missed()
+    ensures missed { GoneWordsAreMissed }
+    ensures known { RowsAreKnown }
+    ensures open_word { OpenIsGone }
+    ensures marked_word { MarkIsGone }
+{}
