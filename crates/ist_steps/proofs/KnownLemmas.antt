@@ -36,7 +36,7 @@ pub data IsFast (t : Snapshot) : ℕ → Type 0 where
   in_piece : (base k : ℕ) (p : Piece) → t.pieces base ≡ Some p → k < size_of p → IsFast t (base + k)
 
 -- a row that grew has as many words
-same_size : (p q : Piece) → Grows p q → size_of q ≡ size_of p
+pub same_size : (p q : Piece) → Grows p q → size_of q ≡ size_of p
 same_size _ _ leaf_stays = refl
 same_size _ _ (inner_grows {old = old} {new = new} g) =
     let keys = ap length g.keys in

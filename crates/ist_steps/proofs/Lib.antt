@@ -2,3 +2,9 @@ pub mod JoinLemmas
 pub mod KnownLemmas
 pub mod ComingLemmas
 pub mod AddingLemmas
+pub mod SizeLemmas
+pub mod BeatenLemmas
+pub mod RootLemmas
+pub mod PlacedLemmas
+pub mod FilledLemmas
+pub mod PartLemmas
