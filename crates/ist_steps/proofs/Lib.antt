@@ -8,3 +8,4 @@ pub mod RootLemmas
 pub mod PlacedLemmas
 pub mod FilledLemmas
 pub mod PartLemmas
+pub mod GoingLemmas
