@@ -1,0 +1,155 @@
+-- What hangs below a slot that was passed. Serves `target_of` and `pass_slot`.
+use Rattle.std.proofs.Common.{◌≡◌, ◌≢◌, ℕ, ◌+◌, ◌^◌, ◌<◌, Option, Some, None, option_map, refl, sym, ap, ◌∙◌, subst, arith}
+use Rattle.ist_core.specs.declared.states.RebuildRow.{RebuildRow}
+use Rattle.ist_core.specs.References.{Empty, Unset, LeafAt, InnerAt, ChangeAt, RebuildAt, ref_of}
+use Rattle.ist_core.specs.Pieces.{Inner, Rebuild}
+use Rattle.ist_core.specs.Logs.{Passes}
+use Rattle.ist_core.specs.Marking.{HasTarget, as_child, behind_rebuild, IsFrozen, CountsFor, no_key, one_key}
+use Rattle.ist_core.proofs.GrowingLemmas.{rebuild_there}
+use Rattle.ist_core.proofs.NamingLemmas.{SideNames, IsRebuildFor}
+use Rattle.ist_links.proofs.ClosedLemmas.{same_rebuild}
+use Rattle.ist_rule.specs.declared.view.View.{View}
+use Rattle.ist_rule.specs.Rule.{IsSound}
+use Rattle.ist_rule.specs.Learning.{now, Looked}
+use Rattle.ist_dcss.proofs.FieldLemmas.{row_low, looked_row}
+use Rattle.ist_steps.specs.Going.{WentOn}
+use Rattle.ist_steps.proofs.GoingLemmas.{looked_went, went_grow}
+use Rattle.ist_layout.specs.declared.references.Ref as layout
+use Rattle.ist_layout.specs.Meanings.{ref_meant}
+use Rattle.ist_mark.specs.declared.below.Below.TheVariants.{Keys, Node}
+use Rattle.ist_mark.specs.Marking.{Marks}
+use Rattle.ist_mark.specs.Passing.{IsRebuild, to_row, to_target, HangsBelow, PassedWith}
+use Rattle.ist_mark.proofs.KeepingLemmas.{happened_went}
+use Rattle.ist_mark.proofs.NodeLemmas.{frozen_names, target_inner}
+
+-- ---- the target of a rebuild
+
+-- the rebuild behind a load of its target
+rebuild_behind : (v : View) (place word : ℕ) (w : View) → Looked v place word w → (rebuild : ℕ)
+    → IsRebuild (now v) rebuild → place ≡ rebuild + 0
+    → (r : RebuildRow) × ((now w).pieces rebuild ≡ Some (Rebuild r)) × (word ≡ r.target)
+rebuild_behind v place word w l rebuild b at =
+    let it = rebuild_there (now v).pieces (now w).pieces
+    (went_grow Marks v w (looked_went Marks v place word w l)) rebuild b.row b.published in (
+      it.0,
+      it.1,
+      looked_row v place word w l rebuild (Rebuild it.0) 0 it.0.target it.1 refl at,
+    )
+
+-- the load tells the target
+pub target_told : (v : View) (place word : ℕ) (w : View) → Looked v place word w → (rebuild : ℕ)
+    → IsRebuild (now v) rebuild → place ≡ rebuild + 0 → HasTarget (now w) rebuild word
+target_told v place word w l rebuild b at =
+    let it = rebuild_behind v place word w l rebuild b at in
+    record { row = it.0; published = it.1; target_is = sym it.2 }
+
+-- which is a place of the table
+pub target_low : (v : View) (place word : ℕ) (w : View) → Looked v place word w → (rebuild : ℕ)
+    → IsRebuild (now v) rebuild → place ≡ rebuild + 0 → word < 2 ^ 32
+target_low v place word w l rebuild b at =
+    let it = rebuild_behind v place word w l rebuild b at in
+    let inner = (target_inner w.start w.words l.sound.lawful.opens w.log l.sound.lawful.enabled
+    rebuild it.0 it.1).1 in
+    let low = row_low w l.sound it.0.target (Inner inner.0) inner.1 0 (omega arith) in
+    let place_low = low.0 in
+    let all = low.1 in
+    let same = it.2 in
+    omega arith
+
+-- ---- words
+
+-- what a passed word names
+side_of_word : (v : View) → IsSound v → (node i word : ℕ) → IsFrozen v.log node i word
+    → SideNames (now v).pieces node i (ref_of word)
+side_of_word v s node i word p =
+    frozen_names v.start v.words s.lawful.opens v.log s.lawful.enabled node i word p
+
+-- an inner row that a passed word names hangs below
+pub row_below : (v : View) → IsSound v → (node i word child : ℕ) → IsFrozen v.log node i word
+    → ref_of word ≡ Some (InnerAt child) → HangsBelow v node word child
+row_below v s node i word child p is =
+    let names : SideNames (now v).pieces node i (Some (InnerAt child)) =
+    subst (SideNames (now v).pieces node i) is (side_of_word v s node i word p) in
+    record { above = names.0; called = as_child node i word p is; leads = to_row is }
+
+-- a rebuild that a passed word names is published
+pub rebuild_named : (v : View) → IsSound v → (node i word rebuild : ℕ) → IsFrozen v.log node i word
+    → ref_of word ≡ Some (RebuildAt rebuild) → IsRebuildFor (now v).pieces node i rebuild
+rebuild_named v s node i word rebuild p is =
+    subst (SideNames (now v).pieces node i) is (side_of_word v s node i word p)
+
+-- and its target hangs below
+pub target_below : (v : View) → IsSound v → (node i word rebuild child : ℕ)
+    → IsFrozen v.log node i word → ref_of word ≡ Some (RebuildAt rebuild)
+    → HasTarget (now v) rebuild child → HangsBelow v node word child
+target_below v s node i word rebuild child p is t =
+    let named = rebuild_named v s node i word rebuild p is in
+    let same = same_rebuild ((now v).pieces rebuild) named.row t.row named.published t.published in
+    let high = (target_inner v.start v.words s.lawful.opens v.log s.lawful.enabled rebuild t.row
+    t.published).0 in
+    let parent : t.row.parent ≡ node = ap (λ r. r.parent) (sym same) ∙ named.parent in
+    let target = t.target_is in
+    record {
+      above = omega arith;
+      called = behind_rebuild node i word rebuild p is t;
+      leads = to_target rebuild is t;
+    }
+
+-- ---- the word as it is read
+
+-- what the word is read as
+pub read_as : (word : ℕ) (o : Option layout.Ref) (x r : layout.Ref)
+    → option_map ref_meant o ≡ ref_of word → o ≡ Some x → x ≡ r → ref_of word ≡ Some (ref_meant r)
+read_as word o x r e is same =
+    sym e ∙ ap (option_map ref_meant) is ∙ ap (λ y. Some (ref_meant y)) same
+
+-- or as nothing
+pub read_none : (word : ℕ) (o : Option layout.Ref) → option_map ref_meant o ≡ ref_of word
+    → o ≡ None → ref_of word ≡ None
+read_none word o e is = sym e ∙ ap (option_map ref_meant) is
+
+-- a passed word that is read as an inner row leads to it
+pub passed_row : (v : View) → IsSound v → (node i word child : ℕ) → IsFrozen v.log node i word
+    → ref_of word ≡ Some (InnerAt child) → PassedWith v node i (Node child)
+passed_row v s node i word child p is =
+    record { word = word; frozen = p; is = row_below v s node i word child p is }
+
+-- one that is read as a rebuild leads to its target
+pub passed_target : (v w : View) → WentOn Marks v w → (node i word rebuild child : ℕ)
+    → IsFrozen v.log node i word → ref_of word ≡ Some (RebuildAt rebuild)
+    → HasTarget (now w) rebuild child → PassedWith w node i (Node child)
+passed_target v w g node i word rebuild child p is t =
+    let frozen = happened_went Marks v w g (Passes node i word) p in
+    record {
+      word = word;
+      frozen = frozen;
+      is = target_below w g.sound node i word rebuild child frozen is t;
+    }
+
+-- one that is read as a leaf counts for one key
+pub passed_leaf : (v : View) (node i word base : ℕ) → IsFrozen v.log node i word
+    → ref_of word ≡ Some (LeafAt base) → PassedWith v node i (Keys 1)
+passed_leaf v node i word base p is =
+    record { word = word; frozen = p; is = subst (λ o. CountsFor (now v) o 1) (sym is) one_key }
+
+-- and one that is read as Empty for none
+pub passed_empty : (v : View) (node i word : ℕ) → IsFrozen v.log node i word
+    → ref_of word ≡ Some Empty → PassedWith v node i (Keys 0)
+passed_empty v node i word p is =
+    record { word = word; frozen = p; is = subst (λ o. CountsFor (now v) o 0) (sym is) no_key }
+
+-- it is read as nothing else
+pub passed_set : (v : View) → IsSound v → (node i word : ℕ) → IsFrozen v.log node i word
+    → ref_of word ≢ Some Unset
+passed_set v s node i word p is =
+    subst (SideNames (now v).pieces node i) is (side_of_word v s node i word p)
+
+pub passed_plain : (v : View) → IsSound v → (node i word change : ℕ) → IsFrozen v.log node i word
+    → ref_of word ≢ Some (ChangeAt change)
+passed_plain v s node i word change p is =
+    subst (SideNames (now v).pieces node i) is (side_of_word v s node i word p)
+
+pub passed_some : (v : View) → IsSound v → (node i word : ℕ) → IsFrozen v.log node i word
+    → ref_of word ≢ None
+passed_some v s node i word p is =
+    subst (SideNames (now v).pieces node i) is (side_of_word v s node i word p)

@@ -1,0 +1,92 @@
+-- What is put together of marking, passing and finishing. Serves `count_slot` and `mark_and_count`.
+use Rattle.std.proofs.Common.{ℕ, ◌+◌, ◌^◌, ◌<◌, sym, ◌∙◌, subst, arith}
+use Rattle.ist_core.specs.References.{ref_of}
+use Rattle.ist_core.specs.Logs.{Passes}
+use Rattle.ist_core.specs.Marking.{CountsFor, of_child, of_target}
+use Rattle.ist_core.specs.Rebuilding.{IsFinishedWith}
+use Rattle.ist_core.specs.Snapshots.{Snapshot}
+use Rattle.ist_links.proofs.FinishedLemmas.{target_grows}
+use Rattle.ist_rule.specs.declared.view.View.{View}
+use Rattle.ist_rule.specs.Rule.{IsSound}
+use Rattle.ist_rule.specs.Learning.{now}
+use Rattle.ist_steps.specs.Going.{WentOn}
+use Rattle.ist_steps.proofs.GoingLemmas.{went_grow, went_who}
+use Rattle.ist_mark.specs.declared.below.Below.TheVariants.{Keys, Node}
+use Rattle.ist_mark.specs.Marking.{MayMark, Marks}
+use Rattle.ist_mark.specs.Passing.{LeadsTo, to_row, to_target, MayPass, PassedWith, IsCounted, AreCounted, one_slot_more, MayFinish}
+use Rattle.ist_mark.proofs.CountLemmas.{count_few, counted_few}
+use Rattle.ist_mark.proofs.KeepingLemmas.{happened_went, may_pass_went, counted_went}
+use Rattle.ist_mark.proofs.PassLemmas.{degree_low}
+
+-- ---- one slot
+
+-- an inner row below a passed slot has a cause to be marked, and lies above the node
+pub below_called : (v w : View) (node degree i child : ℕ) → MayPass v node degree
+    → WentOn Marks v w → PassedWith w node i (Node child) → (node < child) × MayMark w child
+below_called v w node degree i child m g p = (
+  p.is.above,
+  record { number = m.number; mine = went_who Marks v w g ∙ m.mine; called = p.is.called },
+)
+
+-- a word that leads to a finished row counts for its number
+leads_counts : (t : Snapshot) (word child k : ℕ) → LeadsTo t word child → IsFinishedWith t child k
+    → CountsFor t (ref_of word) k
+leads_counts t word child k (to_row is) f =
+    subst (λ o. CountsFor t o k) (sym is) (of_child f)
+leads_counts t word child k (to_target rebuild is h) f =
+    subst (λ o. CountsFor t o k) (sym is) (of_target h f)
+
+-- it leads there still
+leads_later : (v w : View) → WentOn Marks v w → (word child : ℕ) → LeadsTo (now v) word child
+    → LeadsTo (now w) word child
+leads_later v w g word child (to_row is) = to_row is
+leads_later v w g word child (to_target rebuild is h) =
+    to_target rebuild is (target_grows (now v) (now w) (went_grow Marks v w g) rebuild child h)
+
+-- once the row is finished, the slot is counted
+pub row_counted : (v w : View) → WentOn Marks v w → (node i child k : ℕ)
+    → PassedWith v node i (Node child) → IsFinishedWith (now w) child k → IsCounted w node i k
+row_counted v w g node i child k p f =
+    record {
+      word = p.word;
+      frozen = happened_went Marks v w g (Passes node i p.word) p.frozen;
+      counts = leads_counts (now w) p.word child k (leads_later v w g p.word child p.is.leads) f;
+    }
+
+-- a slot without a row is counted
+pub keys_counted : (v : View) (node i k : ℕ) → PassedWith v node i (Keys k) → IsCounted v node i k
+keys_counted v node i k p = record { word = p.word; frozen = p.frozen; counts = p.is }
+
+-- ---- all slots
+
+-- one slot more is counted
+pub slot_counted : (v w : View) → WentOn Marks v w → (node i k here : ℕ)
+    → AreCounted (now v) v.log node i k → IsCounted w node i here
+    → AreCounted (now w) w.log node (i + 1) (k + here)
+slot_counted v w g node i k here a c =
+    one_slot_more c.word (counted_went Marks v w g node i k a) c.frozen c.counts
+
+-- the sum of slots that were counted, with one more, is no great number
+pub sum_low : (v w : View) → IsSound v → IsSound w → (node degree i k here : ℕ)
+    → MayPass v node degree → i < degree → AreCounted (now v) v.log node i k
+    → IsCounted w node i here → k + here < 2 ^ 64
+sum_low v w s r node degree i k here m less a c =
+    let low = degree_low v s node degree m in
+    let few = counted_few v.start v.words s.lawful.opens v.log s.lawful.enabled node i k a in
+    let more = count_few w.start w.words r.lawful.opens w.log r.lawful.enabled (ref_of c.word) here
+    c.counts in
+    omega arith
+
+-- a node whose slots were all counted may be finished
+pub all_counted : (v w : View) → WentOn Marks v w → (node degree k : ℕ) → MayPass v node degree
+    → AreCounted (now w) w.log node degree k → MayFinish w node k
+all_counted v w g node degree k m a =
+    let here = may_pass_went Marks v w g node degree m in
+    record {
+      number = here.number;
+      mine = here.mine;
+      row = here.row;
+      published = here.published;
+      closed = here.closed;
+      counted = subst (λ n. AreCounted (now w) w.log node n k) (sym here.degree_is) a;
+    }

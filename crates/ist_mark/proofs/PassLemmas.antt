@@ -1,0 +1,299 @@
+-- Passing a slot: what a load of it tells. Serves `look` and `pass`.
+use Rattle.std.proofs.Common.{◌≡◌, ◌≢◌, ℕ, ◌+◌, ◌*◌, ◌<◌, ◌&&◌, ◌==◌, not, Bool, true, false, if◌then◌else◌, List, length, get_or, Option, Some, None, refl, sym, ap, ◌∙◌, subst, inl, ⊎_elim, length-append, arith}
+use Rattle.std.proofs.lemmas.Option.{slice_get-get_or}
+use Rattle.ist_core.specs.declared.events.Event.{Event}
+use Rattle.ist_core.specs.declared.events.Event.TheVariants.{Enter, Reserve, Install, Okay, Decide, Resolve, Count, Mark, Pass, Finish, Root, Draw, Place, Lose}
+use Rattle.ist_core.specs.declared.pairs.Pair.{Pair}
+use Rattle.ist_core.specs.declared.states.InnerRow.{InnerRow}
+use Rattle.ist_core.specs.RowLayout.{place_limit, slot_place}
+use Rattle.ist_core.specs.References.{Ref, Empty, Unset, LeafAt, InnerAt, ChangeAt, RebuildAt, ref_of, word_of, unset_word}
+use Rattle.ist_core.specs.Statuses.{marked_word, finished_word}
+use Rattle.ist_core.specs.Pieces.{Inner, Change, as_inner}
+use Rattle.ist_core.specs.Snapshots.{Snapshot}
+use Rattle.ist_core.specs.StartLayout.{start}
+use Rattle.ist_core.specs.Logs.{Log}
+use Rattle.ist_core.specs.Slots.{SlotHolds, in_row, past_change, past_rebuild, logical}
+use Rattle.ist_core.specs.Freezing.{KeepsWord, holds_it, holds_change}
+use Rattle.ist_core.specs.Marking.{IsFrozen}
+use Rattle.ist_core.specs.Lawful.{EachEnabled, CanOpen, state_of}
+use Rattle.ist_core.specs.Writing.{place_of_slot}
+use Rattle.ist_core.proofs.FrozenLemmas.{closed}
+use Rattle.ist_core.proofs.NamingLemmas.{slot_names, SlotNames}
+use Rattle.ist_core.proofs.OrderLemmas.{names}
+use Rattle.ist_core.proofs.PlaceLemmas.{anchor_free}
+use Rattle.ist_core.proofs.ReferenceLemmas.{ref_of-unset}
+use Rattle.ist_core.proofs.RoomLemmas.{published_good, ref_of-change}
+use Rattle.ist_core.proofs.ShapedLemmas.{shaped}
+use Rattle.ist_core.proofs.SlotLemmas.{slot_once}
+use Rattle.ist_links.proofs.FinishedLemmas.{finished_slot}
+use Rattle.ist_rule.specs.declared.view.View.{View}
+use Rattle.ist_rule.specs.Shown.{IsShown}
+use Rattle.ist_rule.specs.Rule.{IsSound}
+use Rattle.ist_rule.specs.Learning.{now, Looked, LoggedLoad, LoadedAs, as_event, as_load}
+use Rattle.ist_rule.specs.Watching.{number_of, is_marked, is_change, pass_of, CanLoadPass}
+use Rattle.ist_rule.proofs.WatchLemmas.{both_true, if_some, no_change, eq_true}
+use Rattle.ist_dcss.specs.Helping as dcss
+use Rattle.ist_dcss.specs.Helping.{MayHelp, Serves, Helped}
+use Rattle.ist_dcss.proofs.FieldLemmas.{row_low}
+use Rattle.ist_rule.specs.declared.view.Who.{Who}
+use Rattle.ist_rule.proofs.GoingOnLemmas.{goes_on_same}
+use Rattle.ist_dcss.proofs.SlotPlaceLemmas.{slot_shown, no_anchor}
+use Rattle.ist_steps.specs.Going.{LaterBy, none_yet, of_other, of_own, WentOn}
+use Rattle.ist_steps.proofs.GoingLemmas.{goes_on_went, logged_load_went, looked_went}
+use Rattle.ist_mark.specs.Marking.{Marks}
+use Rattle.ist_mark.specs.Passing.{MayPass, IsNoChange}
+use Rattle.ist_mark.proofs.KeepingLemmas.{may_pass_went}
+use Rattle.ist_mark.proofs.NodeLemmas.{closed_status}
+use Rattle.ist_links.proofs.ClosedLemmas.{closed_was_linked}
+use Rattle.ist_links.proofs.LinkLemmas.{linked_or_finished}
+use Rattle.ist_rebuilds.proofs.ContentLemmas.{linked_set}
+use Rattle.ist_rule.proofs.WatchLemmas.{place_inner}
+use Rattle.ist_steps.proofs.GoingLemmas.{went_now}
+
+-- ---- the slots of a node that isn't open
+
+module _ (pairs : List Pair) (words : ℕ) (opens : CanOpen pairs words) (log : Log)
+    (h : EachEnabled (start pairs words) log) (node i word : ℕ) (row : InnerRow)
+    (published : (state_of pairs words log).pieces node ≡ Some (Inner row))
+    (slot : SlotHolds (state_of pairs words log) node i word) where
+  abbrev t : Snapshot
+  t = state_of pairs words log
+
+  -- each slot of a finished node was passed, with the word that it holds, if that is no change's
+  frozen_if_finished : (k : ℕ) → row.status ≡ finished_word k → IsNoChange word
+      → IsFrozen log node i word
+  frozen_if_finished k is plain =
+      let p = finished_slot pairs words log h node i word
+      (k, record { row = row; published = published; status = is }) slot in
+      let keeps = (closed pairs words opens log h node i p.word p.passed).keeps in
+      at p.word p.passed keeps
+    where
+      at : (v : ℕ) → IsFrozen log node i v → KeepsWord t log node i v → IsFrozen log node i word
+      at v p (holds_it k) =
+          subst (IsFrozen log node i)
+          (slot_once t node i v word (anchor_free pairs words log h) k slot) p
+      at v p (holds_change x) =
+          let same = slot_once t node i word (word_of (ChangeAt x.base))
+          (anchor_free pairs words log h) slot x.in_slot in
+          absurd (plain x.base (ap ref_of same
+          ∙ ref_of-change x.base (published_good pairs words opens log x.base (Change x.change) h
+          x.published)))
+
+  -- no slot of a marked node is Unset: the node is linked
+  set_if_marked : row.status ≡ marked_word → word ≢ unset_word
+  set_if_marked marked unset =
+      let was = closed_was_linked pairs words opens log h node row published
+      (λ e. let one : row.status ≡ 1 = marked in omega arith) in
+      ⊎_elim
+      (λ linked. linked_set pairs words opens log h node i word linked slot
+      (ap (logical t.pieces) unset ∙ ap (λ o. past_rebuild t.pieces (past_change t.pieces o))
+      ref_of-unset))
+      (λ f.
+      let same = same_row f.1.row row f.1.published published in
+      let odd : f.1.row.status ≡ 4 * f.0 + 3 = f.1.status in
+      let one : f.1.row.status ≡ 1 = ap (λ r. r.status) same ∙ marked in
+      omega arith)
+      (linked_or_finished pairs words opens log h node was)
+    where
+      same_row : (a b : InnerRow) → t.pieces node ≡ Some (Inner a) → t.pieces node ≡ Some (Inner b)
+          → a ≡ b
+      same_row a b e f = cc
+
+-- ---- what a load tells
+
+-- where a test names an event and it is named none, the test fails
+not_named : {A : Type 0} (b : Bool) (x : A) → (if b then Some x else None) ≡ None → b ≡ false
+not_named true x e = absurd (cc)
+not_named false x e = refl
+
+-- a test of a word that is no change's
+plain_test : (o : Option Ref) → ((change : ℕ) → o ≢ Some (ChangeAt change)) → is_change o ≡ false
+plain_test (Some (ChangeAt base)) plain = absurd (plain base refl)
+plain_test (Some Empty) plain = refl
+plain_test (Some Unset) plain = refl
+plain_test (Some (LeafAt base)) plain = refl
+plain_test (Some (InnerAt base)) plain = refl
+plain_test (Some (RebuildAt base)) plain = refl
+plain_test None plain = refl
+
+-- a load of a slot that is no Pass, of a marked node and no change's, gives Unset
+unset_by_test : (a b c : Bool) → (a && (not b && not c)) ≡ false → a ≡ true → b ≡ false → c ≡ true
+unset_by_test true false true e f g = refl
+unset_by_test true false false e f g = absurd (cc)
+unset_by_test true true c e f g = absurd (cc)
+unset_by_test false b c e f g = absurd (cc)
+
+pub record LookTells (v w : View) (node i word : ℕ) : Type 0 where
+  pub went : WentOn Marks v w
+  pub change : (change : ℕ) → ref_of word ≡ Some (ChangeAt change) → MayHelp w change
+  pub frozen : IsNoChange word → IsFrozen w.log node i word
+
+module _ (v : View) (node degree i place word : ℕ) (m : MayPass v node degree) (less : i < degree)
+    (at : place ≡ slot_place node degree i) (w : View) where
+  -- a load that is a Pass froze the slot
+  passed_now : (event : Event) (l : LoggedLoad v event place word w)
+      → pass_of v node i l.before word ≡ Some event → LookTells v w node i word
+  passed_now event l named =
+      let u = state_of v.start v.words l.before in
+      let test = is_marked (as_inner (u.pieces node))
+      && (not (is_change (ref_of word)) && not (word == unset_word)) in
+      let pass : Event = Pass (number_of v.who) node i word in
+      let is = if_some test pass event named in
+      let both = both_true (is_marked (as_inner (u.pieces node)))
+      (not (is_change (ref_of word)) && not (word == unset_word)) is.0 in
+      let plain = both_true (not (is_change (ref_of word))) (not (word == unset_word)) both.1 in
+      let logged : LoggedLoad v pass place word w =
+      subst (λ (e : Event). LoggedLoad v e place word w) (sym is.1) l in
+      record {
+        went = logged_load_went Marks v pass place word w logged tt refl;
+        change = λ c e. absurd (no_change (ref_of word) plain.0 c e);
+        frozen = λ k. subst (λ log. IsFrozen log node i word)
+            (sym (ap (λ (x : View). x.log) logged.view)) (inl (refl, refl, refl));
+      }
+
+  -- one that is none met a change, or came behind a Pass of another
+  passed_before : Looked v place word w → pass_of v node i w.log word ≡ None
+      → LookTells v w node i word
+  passed_before l none =
+      record {
+        went = went;
+        change = λ c e.
+            let named : SlotNames (now w).pieces node i (Some (ChangeAt c)) =
+            subst (SlotNames (now w).pieces node i) e
+            (slot_names (now w) node i word
+            (names w.start w.words l.sound.lawful.opens w.log enabled) holds) in
+            record {
+              number = here.number;
+              mine = here.mine;
+              row = named.row;
+              installed = named.published;
+            };
+        frozen = λ plain.
+            ⊎_elim
+            (λ marked.
+            absurd (set_if_marked w.start w.words l.sound.lawful.opens w.log enabled node i word
+            here.row here.published holds marked (unset marked plain)))
+            (λ f.
+            frozen_if_finished w.start w.words l.sound.lawful.opens w.log enabled node i word
+            here.row here.published holds f.0 f.1 plain)
+            (closed_status w.start w.words w.log enabled node here.row here.published here.closed);
+      }
+    where
+      went : WentOn Marks v w
+      went = looked_went Marks v place word w l
+
+      here : MayPass w node degree
+      here = may_pass_went Marks v w went node degree m
+
+      enabled : EachEnabled (start w.start w.words) w.log
+      enabled = l.sound.lawful.enabled
+
+      in_slot : (x : ℕ) × SlotHolds (now w) node i x
+      in_slot =
+          let slots = (shaped w.start w.words w.log enabled node (Inner here.row)
+          here.published).slots in
+          let same = here.degree_is in
+          let low = less in (
+            get_or here.row.slots i 0,
+            in_row here.row here.published (slice_get-get_or here.row.slots i 0 (omega arith)),
+          )
+
+      place_is : place_of_slot (now w) node i ≡ place
+      place_is =
+          place_inner (now w) node i here.row here.published
+          (no_anchor w.start w.words w.log enabled node here.row here.published)
+          ∙ ap (λ d. slot_place node d i) here.degree_is ∙ sym at
+
+      holds : SlotHolds (now w) node i word
+      holds =
+          subst (SlotHolds (now w) node i)
+          (sym (l.stood in_slot.0 (subst (λ p. IsShown (now w) p in_slot.0) place_is
+          (slot_shown w.start w.words w.log enabled node i in_slot.0 in_slot.1)))) in_slot.1
+
+      unset : here.row.status ≡ marked_word → IsNoChange word → word ≡ unset_word
+      unset marked plain =
+          let u = state_of v.start v.words w.log in
+          let piece : u.pieces node ≡ Some (Inner here.row) =
+          ap (λ x. x.pieces node) (sym (went_now Marks v w went)) ∙ here.published in
+          let test : is_marked (as_inner (u.pieces node)) ≡ true =
+          ap (λ o. is_marked (as_inner o)) piece ∙ ap (λ n. n == marked_word) marked in
+          let c = unset_by_test (is_marked (as_inner (u.pieces node))) (is_change (ref_of word))
+          (word == unset_word)
+          (not_named _ (Pass (number_of v.who) node i word) none) test
+          (plain_test (ref_of word) plain) in
+          eq_true word unset_word c
+
+  pub look_tells : LoadedAs v (pass_of v node i) place word w → LookTells v w node i word
+  look_tells (as_event event l named) = passed_now event l named
+  look_tells (as_load l none) = passed_before l none
+
+-- a caller that may pass a slot may load it so
+pub can_look : (v : View) (node degree i place : ℕ) → MayPass v node degree → i < degree
+    → place ≡ slot_place node degree i → CanLoadPass v node i place
+can_look v node degree i place m less at =
+    let same = m.degree_is in
+    record {
+      number = m.number;
+      mine = m.mine;
+      row = m.row;
+      published = m.published;
+      within = omega arith;
+      at = at ∙ ap (λ d. slot_place node d i) (sym m.degree_is);
+    }
+
+-- a node has fewer slots than a table has places
+pub degree_low : (v : View) → IsSound v → (node degree : ℕ) → MayPass v node degree
+    → degree < place_limit
+degree_low v s node degree m =
+    let d = shaped v.start v.words v.log s.lawful.enabled node (Inner m.row) m.published in
+    let slots = d.slots in
+    let both = length-append m.row.keys m.row.slots in
+    let same = m.degree_is in
+    let low = row_low v s node (Inner m.row) m.published (3 + length m.row.keys + length m.row.slots)
+    (omega arith) in
+    let place = low.0 in
+    let all = low.1 in
+    omega arith
+
+-- ---- going on
+
+-- a seat goes on to itself
+pub went_same : (v : View) → IsSound v → WentOn Marks v v
+went_same v s = goes_on_went Marks v v (goes_on_same v s)
+
+-- steps of help are steps of marking
+serves_marks : (change : ℕ) (event : Event) → Serves change event → Marks event
+serves_marks change (Okay caller other) is = tt
+serves_marks change (Decide caller other said) is = tt
+serves_marks change (Resolve caller other) is = tt
+serves_marks change (Enter caller) is = absurd is
+serves_marks change (Reserve caller base size) is = absurd is
+serves_marks change (Install caller base rows) is = absurd is
+serves_marks change (Count caller at) is = absurd is
+serves_marks change (Mark caller at) is = absurd is
+serves_marks change (Pass caller at j w) is = absurd is
+serves_marks change (Finish caller at keys) is = absurd is
+serves_marks change (Root caller rebuild w rows) is = absurd is
+serves_marks change (Draw caller rebuild part) is = absurd is
+serves_marks change (Place caller rebuild j w rows) is = absurd is
+serves_marks change (Lose caller bases) is = absurd is
+
+served_later : (change : ℕ) {who : Who} {a b : Log} → dcss.LaterBy who (Serves change) a b
+    → LaterBy who Marks a b
+served_later change dcss.none_yet = none_yet
+served_later change (dcss.of_other event k other) = of_other event (served_later change k) other
+served_later change (dcss.of_own event k is) =
+    of_own event (served_later change k) (serves_marks change event is)
+
+-- a seat that helped went on so
+pub helped_went : (change : ℕ) (v w : View) → Helped change v w → WentOn Marks v w
+helped_went change v w h =
+    record {
+      later = served_later change h.later;
+      sound = h.sound;
+      same = h.same;
+      since = h.since;
+      more = h.more;
+      loads = h.loads;
+      loaded = h.loaded;
+    }

@@ -1,0 +1,42 @@
+use Rattle.std.proofs.Common.{◌≡◌, ◌^◌, ◌+◌, ◌<◌, ap, arith}
+use Rattle.ist_rule.proofs.KnownPlaceLemmas.{known_low}
+use Rattle.ist_mark.proofs.FinishLemmas.{keys_few, may_finish, finish_told}
+use Rattle.ist_mark.proofs.statuses.finish.Goals as goal
+
+-- the number is that of few leaves
+pub overflow_cast-keys : goal.overflow_cast-keys
+overflow_cast-keys c =
+    let few = keys_few c.args.seat.now.view c.know.ensures.sound c.args.node c.args.keys
+    c.requires.may_finish in
+    let h : c.args.keys < 2 ^ 32 = omega arith in
+    record { fits = h }
+
+-- the node may be finished
+pub exchange-requires : goal.exchange-requires
+exchange-requires c =
+    let from = c.from.ensures in
+    let at : c.from.result + 0 ≡ c.args.node + 0 = omega arith in
+    let can = may_finish c.args.seat.now.view c.know.ensures.sound c.args.node c.args.keys
+    c.requires.may_finish _ at _ _ c.to_word.ensures.value c.to_word-2.ensures.value in
+    let low = known_low c.args.seat.now.view _ c.know.ensures.sound can.known in
+    let known = c.know.ensures.words in
+    let same = ap (λ t. t.words) c.requires.same_table in
+    (c.requires.same_table, (omega arith, can))
+
+-- the seat made one step of marking
+pub returns-clause-went : goal.returns-clause-went
+returns-clause-went c =
+    let from = c.from.ensures in
+    let at : c.from.result + 0 ≡ c.args.node + 0 = omega arith in
+    (finish_told c.args.seat.now.view c.know.ensures.sound c.args.node c.args.keys
+    c.requires.may_finish _ at _ _ _ _ c.to_word.ensures.value c.to_word-2.ensures.value
+    c.exchange.ensures.exchanged).0
+
+-- and the node is finished
+pub returns-clause-finished : goal.returns-clause-finished
+returns-clause-finished c =
+    let from = c.from.ensures in
+    let at : c.from.result + 0 ≡ c.args.node + 0 = omega arith in
+    (finish_told c.args.seat.now.view c.know.ensures.sound c.args.node c.args.keys
+    c.requires.may_finish _ at _ _ _ _ c.to_word.ensures.value c.to_word-2.ensures.value
+    c.exchange.ensures.exchanged).1

@@ -1,0 +1,6 @@
+use Rattle.ist_mark.specs.Naming.{finishing}
+use Rattle.ist_mark.proofs.statuses.finish.Given as goal
+
+-- the event is the Finish of the node whose status lies there, with the number of the new word
+abbrev pub ghost-exchange : goal.ghost-exchange
+ghost-exchange a = finishing a.seat.now.view a.place a.new

@@ -1,0 +1,86 @@
+-- What the parts of marking know of a node that isn't open, and of its slots.
+use Rattle.std.specs.Prelude.{◌≡◌, ◌≢◌, ℕ, ◌+◌, ◌<◌, Some}
+use Rattle.ist_core.specs.declared.states.InnerRow.{InnerRow}
+use Rattle.ist_core.specs.declared.states.RebuildRow.{RebuildRow}
+use Rattle.ist_core.specs.References.{ChangeAt, InnerAt, RebuildAt, ref_of}
+use Rattle.ist_core.specs.Statuses.{open_word}
+use Rattle.ist_core.specs.Pieces.{Inner, Rebuild}
+use Rattle.ist_core.specs.Snapshots.{Snapshot}
+use Rattle.ist_core.specs.Logs.{Log}
+use Rattle.ist_core.specs.Marking.{HasTarget, IsCalled, IsFrozen, CountsFor}
+use Rattle.ist_rule.specs.declared.view.View.{View}
+use Rattle.ist_rule.specs.declared.view.Who.TheVariants.{Caller}
+use Rattle.ist_rule.specs.Learning.{now}
+use Rattle.ist_mark.specs.declared.below.Below.{Below}
+use Rattle.ist_mark.specs.declared.below.Below.TheVariants.{Keys, Node}
+
+-- the node is an inner row that isn't open
+pub record IsClosed (t : Snapshot) (node : ℕ) : Type 0 where
+  pub row : InnerRow
+  pub published : t.pieces node ≡ Some (Inner row)
+  pub closed : row.status ≢ open_word
+
+-- a caller may pass the slots of a node that isn't open, of which there are so many
+pub record MayPass (v : View) (node degree : ℕ) : Type 0 where
+  pub number : ℕ
+  pub mine : v.who ≡ Caller number
+  pub row : InnerRow
+  pub published : (now v).pieces node ≡ Some (Inner row)
+  pub closed : row.status ≢ open_word
+  pub degree_is : row.degree ≡ degree
+
+-- the word is that of no change
+abbrev pub IsNoChange : ℕ → Type 0
+IsNoChange word = (change : ℕ) → ref_of word ≢ Some (ChangeAt change)
+
+-- a rebuild is published at the base
+pub record IsRebuild (t : Snapshot) (base : ℕ) : Type 0 where
+  pub row : RebuildRow
+  pub published : t.pieces base ≡ Some (Rebuild row)
+
+-- ---- what hangs below a slot
+
+-- the passed word leads to the inner row: it is that of the row, or of a rebuild of it
+pub data LeadsTo (t : Snapshot) (word child : ℕ) : Type 0 where
+  to_row : ref_of word ≡ Some (InnerAt child) → LeadsTo t word child
+  to_target : (rebuild : ℕ) → ref_of word ≡ Some (RebuildAt rebuild) → HasTarget t rebuild child
+      → LeadsTo t word child
+
+-- an inner row hangs below the node: it lies above it, has a cause to be marked, and the word leads
+-- to it
+pub record HangsBelow (v : View) (node word child : ℕ) : Type 0 where
+  pub above : node < child
+  pub called : IsCalled (now v) v.log child
+  pub leads : LeadsTo (now v) word child
+
+-- what hangs below the node by the word: so many keys without an inner row, or an inner row
+abbrev pub IsBelow : View → ℕ → ℕ → Below → Type 0
+IsBelow v node word (Keys keys) = CountsFor (now v) (ref_of word) keys
+IsBelow v node word (Node child) = HangsBelow v node word child
+
+-- slot i of the node was passed, and what hangs below it is this
+pub record PassedWith (v : View) (node i : ℕ) (below : Below) : Type 0 where
+  pub word : ℕ
+  pub frozen : IsFrozen v.log node i word
+  pub is : IsBelow v node word below
+
+-- slot i of the node was passed, with a word that counts for so many keys
+pub record IsCounted (v : View) (node i keys : ℕ) : Type 0 where
+  pub word : ℕ
+  pub frozen : IsFrozen v.log node i word
+  pub counts : CountsFor (now v) (ref_of word) keys
+
+-- the first slots of the node, so many, were passed with words that count for so many keys in all
+pub data AreCounted (t : Snapshot) (log : Log) (node : ℕ) : ℕ → ℕ → Type 0 where
+  no_slot_yet : AreCounted t log node 0 0
+  one_slot_more : {i k here : ℕ} (word : ℕ) → AreCounted t log node i k → IsFrozen log node i word
+      → CountsFor t (ref_of word) here → AreCounted t log node (i + 1) (k + here)
+
+-- a caller may finish a node that isn't open with so many keys: all its slots were passed
+pub record MayFinish (v : View) (node keys : ℕ) : Type 0 where
+  pub number : ℕ
+  pub mine : v.who ≡ Caller number
+  pub row : InnerRow
+  pub published : (now v).pieces node ≡ Some (Inner row)
+  pub closed : row.status ≢ open_word
+  pub counted : AreCounted (now v) v.log node row.degree keys

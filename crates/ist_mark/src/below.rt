@@ -1,0 +1,10 @@
+//! What hangs below a slot.
+
+/// What hangs below a slot that was passed.
+#[derive(Clone, Copy, Debug, PartialEq, Eq, Drop)]
+pub(crate) enum Below {
+    /// So many keys, and no inner row.
+    Keys(u64),
+    /// An inner row.
+    Node(u32),
+}

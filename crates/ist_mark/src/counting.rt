@@ -1,0 +1,63 @@
+//! Marking a subtree, and counting its keys.
+ghost use Rattle.std.specs.Prelude.{◌≡◌, ◌<◌};
+ghost use Rattle.ist_core.specs.Rebuilding.{IsFinishedWith};
+ghost use Rattle.ist_rule.specs.Learning.{now};
+ghost use Rattle.ist_steps.specs.Going.{WentOn};
+ghost use Rattle.ist_mark.specs.Marking.{MayMark, Marks};
+ghost use Rattle.ist_mark.specs.Passing.{MayPass, IsCounted};
+
+use crate::below::Below;
+use crate::passing::pass_slot;
+use crate::statuses::{degree_of, finish, mark};
+use ist_rule::{TreeSeat, TreeTable, know};
+use std::sync::Wait;
+
+// Passes a slot of the node, marks what hangs below it, and answers how many keys that has.
+#[cycle(marking)]
+fn count_slot<R: Wait>(
+    table: &TreeTable,
+    rt: &R,
+    seat: &mut TreeSeat,
+    node: u32,
+    degree: u64,
+    index: u64,
+) -> u64
+    requires same_table { seat.old.table ≡ table.now.table }
+    requires may_pass { MayPass seat.old.view node degree }
+    requires within { index < degree }
+    ensures same_table { seat.new.table ≡ seat.old.table }
+    ensures went { WentOn Marks seat.old.view seat.new.view }
+    ensures counted { IsCounted seat.new.view node index result }
+{
+    match pass_slot(table, rt, seat, node, degree, index) {
+        Below::Keys(keys) => keys,
+        Below::Node(child) => mark_and_count(table, rt, seat, child),
+    }
+}
+
+/// Marks each row of the subtree below the node, from the node on, until all are finished, and
+/// answers the number of keys.
+///
+/// No update of a slot of the subtree takes effect from then on. Each change that stands in one is
+/// helped first, and what it leaves is what is counted. Several callers may mark one subtree, and
+/// answer the same. Retries while others install changes.
+#[cycle(marking)]
+pub fn mark_and_count<R: Wait>(table: &TreeTable, rt: &R, seat: &mut TreeSeat, node: u32) -> u64
+    requires same_table { seat.old.table ≡ table.now.table }
+    requires may_mark { MayMark seat.old.view node }
+    ensures same_table { seat.new.table ≡ seat.old.table }
+    ensures went { WentOn Marks seat.old.view seat.new.view }
+    ensures finished { IsFinishedWith (now seat.new.view) node result }
+{
+    if let Some(keys) = mark(table, seat, node) {
+        return keys;
+    }
+    let degree = degree_of(table, seat, node);
+    know(seat);
+    let mut keys = 0;
+    for index in 0..degree {
+        keys += count_slot(table, rt, seat, node, degree, index);
+    }
+    finish(table, seat, node, keys);
+    keys
+}

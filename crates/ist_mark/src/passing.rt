@@ -1,0 +1,111 @@
+//! Passing the slots of a node that isn't open, behind the changes that stand in them.
+ghost use Rattle.std.specs.Prelude.{◌≡◌, ℕ, ◌<◌, None, Some};
+ghost use Rattle.ist_core.specs.References.{ref_of, ChangeAt};
+ghost use Rattle.ist_core.specs.Marking.{HasTarget, IsFrozen};
+ghost use Rattle.ist_rule.specs.Learning.{now};
+ghost use Rattle.ist_dcss.specs.Helping.{MayHelp};
+ghost use Rattle.ist_steps.specs.Going.{WentOn};
+ghost use Rattle.ist_mark.specs.Marking.{Marks};
+ghost use Rattle.ist_mark.specs.Passing.{IsNoChange, MayPass, IsRebuild, PassedWith};
+
+use crate::below::Below;
+use ist_dcss::help;
+use ist_layout::{REBUILD_TARGET_OFFSET, Ref, slot_place};
+use ist_rule::{TreeSeat, TreeTable, know, load, load_pass};
+use std::sync::Wait;
+
+// The change whose word this is, if it is one's.
+fn change_in(word: u64) -> Option<u32>
+    ensures change { (change : ℕ) → result ≡ Some change → ref_of word ≡ Some (ChangeAt change) }
+    ensures no_change { result ≡ None → IsNoChange word }
+{
+    match Ref::from_word(word) {
+        Some(Ref::Change { base }) => Some(base),
+        _ => None,
+    }
+}
+
+// Loads a slot of the node. It is passed then, unless the word is that of a change.
+fn look(table: &TreeTable, seat: &mut TreeSeat, node: u32, degree: u64, index: u64) -> u64
+    requires same_table { seat.old.table ≡ table.now.table }
+    requires may_pass { MayPass seat.old.view node degree }
+    requires within { index < degree }
+    ensures same_table { seat.new.table ≡ seat.old.table }
+    ensures went { WentOn Marks seat.old.view seat.new.view }
+    ensures change { (change : ℕ) → ref_of result ≡ Some (ChangeAt change)
+        → MayHelp seat.new.view change }
+    ensures frozen { IsNoChange result → IsFrozen seat.new.view.log node index result }
+{
+    know(seat);
+    let place = slot_place(node, degree, index);
+    // Meets an install in the slot.
+    load_pass(table, seat, node, index, place)
+}
+
+// Passes a slot of the node, and answers its word. Helps each change that it meets there.
+fn pass<R: Wait>(
+    table: &TreeTable,
+    rt: &R,
+    seat: &mut TreeSeat,
+    node: u32,
+    degree: u64,
+    index: u64,
+) -> u64
+    requires same_table { seat.old.table ≡ table.now.table }
+    requires may_pass { MayPass seat.old.view node degree }
+    requires within { index < degree }
+    ensures same_table { seat.new.table ≡ seat.old.table }
+    ensures went { WentOn Marks seat.old.view seat.new.view }
+    ensures frozen { IsFrozen seat.new.view.log node index result }
+{
+    know(seat);
+    for _ in rt.forever() {
+        let word = look(table, seat, node, degree, index);
+        match change_in(word) {
+            Some(change) => help(table, seat, change),
+            None => return word,
+        };
+    }
+    unreachable!()
+}
+
+// The node that is rebuilt.
+fn target_of(table: &TreeTable, seat: &mut TreeSeat, rebuild: u32) -> u32
+    requires same_table { seat.old.table ≡ table.now.table }
+    requires published { IsRebuild (now seat.old.view) rebuild }
+    ensures same_table { seat.new.table ≡ seat.old.table }
+    ensures went { WentOn Marks seat.old.view seat.new.view }
+    ensures target { HasTarget (now seat.new.view) rebuild result }
+{
+    know(seat);
+    load(table, seat, u64::from(rebuild) + REBUILD_TARGET_OFFSET) as u32
+}
+
+/// Passes a slot of the node, and answers what hangs below it.
+pub(crate) fn pass_slot<R: Wait>(
+    table: &TreeTable,
+    rt: &R,
+    seat: &mut TreeSeat,
+    node: u32,
+    degree: u64,
+    index: u64,
+) -> Below
+    requires same_table { seat.old.table ≡ table.now.table }
+    requires may_pass { MayPass seat.old.view node degree }
+    requires within { index < degree }
+    ensures same_table { seat.new.table ≡ seat.old.table }
+    ensures went { WentOn Marks seat.old.view seat.new.view }
+    ensures passed { PassedWith seat.new.view node index result }
+{
+    let word = pass(table, rt, seat, node, degree, index);
+    know(seat);
+    match Ref::from_word(word) {
+        Some(Ref::Inner { base }) => Below::Node(base),
+        Some(Ref::Rebuild { base }) => Below::Node(target_of(table, seat, base)),
+        Some(Ref::Leaf { base: _ }) => Below::Keys(1),
+        Some(Ref::Empty) => Below::Keys(0),
+        Some(Ref::Unset) => unreachable!(),
+        Some(Ref::Change { base: _ }) => unreachable!(),
+        None => unreachable!(),
+    }
+}

@@ -1,0 +1,75 @@
+//! The status of a node, from open to marked to finished.
+ghost use Rattle.std.specs.Prelude.{◌≡◌, ℕ, None, Some};
+ghost use Rattle.ist_core.specs.Statuses.{status_of, Finished};
+ghost use Rattle.ist_core.specs.Rebuilding.{IsFinishedWith};
+ghost use Rattle.ist_rule.specs.Learning.{now, GoesOnTo};
+ghost use Rattle.ist_steps.specs.Going.{WentOn};
+ghost use Rattle.ist_mark.specs.Marking.{MayMark, Marks};
+ghost use Rattle.ist_mark.specs.Passing.{IsClosed, MayPass, MayFinish};
+
+use ist_layout::{INNER_DEGREE_OFFSET, INNER_STATUS_OFFSET, Status};
+use ist_rule::{TreeSeat, TreeTable, exchange, know, load};
+
+// The number of keys of a node with this status, if it is finished.
+fn keys_of(status: u64) -> Option<u64>
+    ensures finished { (k : ℕ) → result ≡ Some k → status_of status ≡ Some (Finished k) }
+{
+    match Status::from_word(status) {
+        Some(Status::Finished { keys }) => Some(u64::from(keys)),
+        _ => None,
+    }
+}
+
+// Marks the node if it is open, and answers its number of keys if it is finished.
+pub(crate) fn mark(table: &TreeTable, seat: &mut TreeSeat, node: u32) -> Option<u64>
+    requires same_table { seat.old.table ≡ table.now.table }
+    requires may_mark { MayMark seat.old.view node }
+    ensures same_table { seat.new.table ≡ seat.old.table }
+    ensures went { WentOn Marks seat.old.view seat.new.view }
+    ensures closed { IsClosed (now seat.new.view) node }
+    ensures finished { (k : ℕ) → result ≡ Some k → IsFinishedWith (now seat.new.view) node k }
+{
+    know(seat);
+    // Meets the Okay of a change in a slot of the node, and another's mark.
+    let stood = exchange(
+        table,
+        seat,
+        u64::from(node) + INNER_STATUS_OFFSET,
+        Status::Clear.to_word(),
+        Status::Marked.to_word(),
+    );
+    keys_of(stood)
+}
+
+// How many slots the node has.
+pub(crate) fn degree_of(table: &TreeTable, seat: &mut TreeSeat, node: u32) -> u64
+    requires same_table { seat.old.table ≡ table.now.table }
+    requires may_mark { MayMark seat.old.view node }
+    requires closed { IsClosed (now seat.old.view) node }
+    ensures same_table { seat.new.table ≡ seat.old.table }
+    ensures went { WentOn Marks seat.old.view seat.new.view }
+    ensures degree { MayPass seat.new.view node result }
+{
+    know(seat);
+    load(table, seat, u64::from(node) + INNER_DEGREE_OFFSET)
+}
+
+// Finishes the node, all of whose slots were passed, with this number of keys.
+pub(crate) fn finish(table: &TreeTable, seat: &mut TreeSeat, node: u32, keys: u64)
+    requires same_table { seat.old.table ≡ table.now.table }
+    requires may_finish { MayFinish seat.old.view node keys }
+    ensures same_table { seat.new.table ≡ seat.old.table }
+    ensures went { WentOn Marks seat.old.view seat.new.view }
+    ensures finished { IsFinishedWith (now seat.new.view) node keys }
+{
+    know(seat);
+    let keys = keys as u32;
+    // Meets another's finish, which has the same number.
+    exchange(
+        table,
+        seat,
+        u64::from(node) + INNER_STATUS_OFFSET,
+        Status::Marked.to_word(),
+        Status::Finished { keys }.to_word(),
+    );
+}
