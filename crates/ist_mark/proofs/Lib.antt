@@ -4,5 +4,6 @@ pub mod MarkLemmas
 pub mod CountLemmas
 pub mod FinishLemmas
 pub mod PassLemmas
+pub mod HelpLemmas
 pub mod BelowLemmas
 pub mod CountingLemmas

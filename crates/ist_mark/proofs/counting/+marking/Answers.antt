@@ -7,7 +7,7 @@ use Rattle.ist_mark.specs.Marking.{Marks}
 use Rattle.ist_mark.specs.Passing.{AreCounted, no_slot_yet}
 use Rattle.ist_mark.proofs.CountingLemmas.{below_called, row_counted, slot_counted, sum_low, all_counted}
 use Rattle.ist_mark.proofs.KeepingLemmas.{may_mark_went, may_pass_went}
-use Rattle.ist_mark.proofs.PassLemmas.{went_same}
+use Rattle.ist_mark.proofs.HelpLemmas.{went_same}
 use Rattle.ist_mark.proofs.counting.+marking.Goals as goal
 
 -- ---- a slot

@@ -2,7 +2,7 @@ use Rattle.std.proofs.Common.{refl, ◌∙◌}
 use Rattle.ist_steps.proofs.GoingLemmas.{went_more}
 use Rattle.ist_mark.specs.Marking.{Marks}
 use Rattle.ist_mark.proofs.KeepingLemmas.{may_pass_went}
-use Rattle.ist_mark.proofs.PassLemmas.{went_same, helped_went}
+use Rattle.ist_mark.proofs.HelpLemmas.{went_same, helped_went}
 use Rattle.ist_mark.proofs.passing.pass.Goals as goal
 
 -- before the first turn nothing was done
