@@ -1,19 +1,22 @@
 -- The events that were checked so far, and those that are left. Serves `checking.rt`.
-use Rattle.std.proofs.Common.{◌≡◌, ◌∙◌, ◌+◌, ◌<◌, ◌≤◌, ℕ, suc, List, [], ◌∷◌, ◌++◌, length, get_or, take, drop, reverse, Result, Err, sym, ap, subst, arith, add-one, drop-cons}
+use Rattle.std.proofs.Common.{◌≡◌, ◌∙◌, ◌+◌, ◌<◌, ℕ, suc, List, [], ◌∷◌, ◌++◌, length, get_or, take, drop, reverse, Result, Err, sym, ap, arith, drop-cons}
 use Rattle.std.proofs.lemmas.List.{take_more, take-append-drop, reverse-append, length-take-le}
 use Rattle.std.specs.BTreeMap.{BTreeMap}
 use Rattle.ist_core.specs.declared.pairs.Pair.{Pair}
 use Rattle.ist_core.specs.declared.events.Event.{Event}
 use Rattle.ist_core.specs.StartLayout.{start}
 use Rattle.ist_core.specs.Enabled.{Enabled}
-use Rattle.ist_core.specs.Lawful.{Lawful}
+use Rattle.ist_core.specs.Lawful.{Lawful, state_of}
+use Rattle.ist_enabled.specs.declared.replicas.Replica.{Replica}
+use Rattle.ist_enabled.specs.Mirroring.{Mirrors}
+use Rattle.ist_enabled.specs.Remembering.{KnowsSlots}
 use Rattle.ist_core.specs.declared.states.State.{State}
 use Rattle.ist_check.specs.declared.faults.CheckFault.{CheckFault}
 use Rattle.ist_check.specs.declared.faults.CheckFault.TheVariants.{Unlawful}
 use Rattle.ist_core.specs.Logs.{Log}
 use Rattle.ist_enabled.specs.declared.pasts.Past.{Past}
 use Rattle.ist_enabled.specs.declared.pasts.Slot.{Slot}
-use Rattle.ist_check.specs.Knowing.{Remembers}
+use Rattle.ist_check.specs.Knowing.{Knows, Remembers}
 use Rattle.ist_check.specs.Verdicts.{IsFirstUnlawful}
 
 -- the answer is the fault that names this event
@@ -50,7 +53,7 @@ module _ (events : List Event) (at : ℕ) (event : Event) (below : at < length e
       rest = drop-cons events at event below ∙ ap (λ e. e ∷ drop (suc at) events) (sym is) ∙ (let next : suc at ≡ at + 1 = omega arith in ap (λ n. event ∷ drop n events) next)
 
 -- what the other tables hold doesn't depend on that of the slots
-pub slots_apart : (past : Past) (slots : BTreeMap ℕ Slot) (pairs : List Pair) (words : ℕ) (log : Log)
+slots_apart : (past : Past) (slots : BTreeMap ℕ Slot) (pairs : List Pair) (words : ℕ) (log : Log)
     → Remembers past pairs words log → Remembers (record past { slots = slots }) pairs words log
 slots_apart past slots pairs words log it =
     record {
@@ -63,3 +66,23 @@ slots_apart past slots pairs words log it =
       started = it.started;
       builds = it.builds;
     }
+
+module _ (replica : Replica) (past : Past) (pairs : List Pair) (words : ℕ) (log : Log) (event : Event)
+    (knows : Knows replica past pairs words log) (may : Enabled (start pairs words) log event) where
+  -- an event that may come makes the log longer
+  pub lawful_more : Lawful pairs words (event ∷ log)
+  lawful_more = record { opens = knows.lawful.opens; enabled = (knows.lawful.enabled, may) }
+
+  -- and it is known what is behind it, where the replica, the slots and the other tables are brought forward
+  pub known_more : (behind : Replica) (after_it : Past) (slots : BTreeMap ℕ Slot)
+      → Mirrors behind (state_of pairs words (event ∷ log))
+      → KnowsSlots slots (start pairs words) (event ∷ log)
+      → Remembers after_it pairs words (event ∷ log)
+      → Knows behind (record after_it { slots = slots }) pairs words (event ∷ log)
+  known_more behind after_it slots mirrors of_slots others =
+      record {
+        lawful = lawful_more;
+        mirrors = mirrors;
+        slots = of_slots;
+        remembers = slots_apart after_it slots pairs words (event ∷ log) others;
+      }

@@ -1,5 +1,5 @@
 -- The tables of a new table: nothing happened yet. Serves `remembering.rt`.
-use Rattle.std.proofs.Common.{◌≡◌, ◌≤◌, ◌↔◌, ◌∙◌, IsTrue, ℕ, true, false, List, [], ◌∷◌, ◌++◌, drop, map, Option, Some, None, sym, ap, subst, arith}
+use Rattle.std.proofs.Common.{◌≡◌, ◌≤◌, ◌∙◌, IsTrue, ℕ, false, List, [], ◌∷◌, ◌++◌, drop, Some, None, sym, ap, subst, arith}
 use Rattle.std.specs.Ordering.{nat_cmp}
 use Rattle.std.specs.BTreeMap as tree
 use Rattle.std.specs.BTreeMap.{BTreeMap, is_at}
@@ -15,7 +15,7 @@ use Rattle.ist_core.specs.Marking.{IsCalled, as_target, as_child, behind_rebuild
 use Rattle.ist_core.specs.Rebuilding.{IsStarted}
 use Rattle.ist_enabled.specs.declared.pasts.LastUpdate.{LastUpdate}
 use Rattle.ist_enabled.specs.Answers.{Holds, FindsGreatest}
-use Rattle.ist_enabled.specs.Remembering.{LacksCount, IsUncounted, IsRefused, KnowsOkays, KnowsCalls, KnowsDraws, KnowsPasses, KnowsUpdates, KnowsRefusals, KnowsStarts, seen_builds}
+use Rattle.ist_enabled.specs.Remembering.{LacksCount, KnowsOkays, KnowsCalls, KnowsDraws, KnowsPasses, KnowsUpdates, KnowsRefusals, KnowsStarts, seen_builds}
 use Rattle.ist_replay.specs.Remembered.{TellsBuilds}
 use Rattle.ist_links.proofs.QuietLemmas.{start_quiet}
 

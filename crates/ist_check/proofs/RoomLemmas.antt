@@ -1,5 +1,5 @@
 -- The numbers behind an event that may come fit into words. Serves `checking.rt`.
-use Rattle.std.proofs.Common.{◌≡◌, ◌∙◌, ◌+◌, ◌<◌, ◌≤◌, ◌^◌, ℕ, List, ◌∷◌, Some, length, refl, sym, ap, subst, arith, option_map}
+use Rattle.std.proofs.Common.{◌≡◌, ◌∙◌, ◌+◌, ◌<◌, ◌^◌, ℕ, List, ◌∷◌, Some, length, refl, ap, subst, arith, option_map}
 use Rattle.std.specs.Ordering.{nat_cmp}
 use Rattle.std.specs.BTreeMap as tree
 use Rattle.ist_core.specs.declared.pairs.Pair.{Pair}
@@ -7,17 +7,16 @@ use Rattle.ist_core.specs.declared.states.InnerRow.{InnerRow}
 use Rattle.ist_core.specs.declared.states.RebuildRow.{RebuildRow}
 use Rattle.ist_core.specs.declared.lists.Row.{Row}
 use Rattle.ist_core.specs.declared.events.Event.{Event}
-use Rattle.ist_core.specs.declared.events.Event.TheVariants.{Enter, Reserve, Install, Okay, Decide, Resolve, Count, Mark, Pass, Finish, Root, Draw, Place, Lose}
-use Rattle.ist_core.specs.RowLayout.{place_limit}
+use Rattle.ist_core.specs.declared.events.Event.TheVariants.{Enter, Reserve, Install, Count, Finish, Draw}
 use Rattle.ist_core.specs.Elements.{Each}
-use Rattle.ist_core.specs.Pieces.{Inner, Rebuild, with_status, row_at, Change}
+use Rattle.ist_core.specs.Pieces.{with_status, row_at, Change}
 use Rattle.ist_core.specs.Snapshots.{HoldsRow}
 use Rattle.ist_core.specs.Statuses.{finished_word}
 use Rattle.ist_core.specs.StartLayout.{start}
 use Rattle.ist_core.specs.Logs.{Log}
 use Rattle.ist_core.specs.Installing.{CanInstall}
 use Rattle.ist_core.specs.Lawful.{Lawful, state_of}
-use Rattle.ist_core.proofs.RoomLemmas.{words_same, next_within, held_good}
+use Rattle.ist_core.proofs.RoomLemmas.{words_same, held_good}
 use Rattle.ist_core.proofs.RowLemmas.{changed_at-same}
 use Rattle.ist_core.proofs.YesLemmas.{count_low}
 use Rattle.ist_rebuilds.proofs.FinishedLeafLemmas.{finished_few}

@@ -1,7 +1,6 @@
 -- What the decisions ask of a state besides its replica, behind a lawful log. Serves `coming.rt`.
-use Rattle.std.proofs.Common.{◌≡◌, ◌∙◌, ℕ, zero, suc, ◌+◌, List, [], ◌∷◌, slice_get, Some, refl, sym, ap, subst, inl, inr, arith}
+use Rattle.std.proofs.Common.{◌≡◌, ℕ, suc, List, [], ◌∷◌, slice_get, Some, refl, inl, inr}
 use Rattle.ist_core.specs.declared.pairs.Pair.{Pair}
-use Rattle.ist_core.specs.declared.states.InnerRow.{InnerRow}
 use Rattle.ist_core.specs.Elements.{Each}
 use Rattle.ist_core.specs.Pieces.{Inner}
 use Rattle.ist_core.specs.Snapshots.{Snapshot}
@@ -15,7 +14,7 @@ use Rattle.ist_core.proofs.OrderLemmas.{names, child_above}
 use Rattle.ist_core.proofs.SoundLemmas.{sound}
 use Rattle.ist_core.proofs.StartLemmas.{sound_start}
 use Rattle.ist_enabled.specs.Ways.{KeysStay}
-use Rattle.ist_ideal.specs.Standing.{IsAbove, SlotsAbove, RowsRise, HeldAreFree}
+use Rattle.ist_ideal.specs.Standing.{RowsRise, HeldAreFree}
 
 -- what is so of the word at each index is so of each word
 each_word : (P : ℕ → Type 0) (words : List ℕ) → ((i word : ℕ) → slice_get words i ≡ Some word → P word)

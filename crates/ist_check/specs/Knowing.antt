@@ -1,5 +1,5 @@
 -- What the checker knows behind the events so far.
-use Rattle.std.specs.Prelude.{◌≤◌, ℕ, List, map, length}
+use Rattle.std.specs.Prelude.{ℕ, List, map}
 use Rattle.ist_core.specs.declared.pairs.Pair.{Pair}
 use Rattle.ist_core.specs.StartLayout.{start}
 use Rattle.ist_core.specs.Logs.{Log}

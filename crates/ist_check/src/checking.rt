@@ -21,7 +21,8 @@ use std::alloc::Global;
 pub fn check(alloc: Global, start: &[Pair], words: u32, log: &[Event]) -> Result<State, CheckFault>
     requires opens { CanOpen start.now words }
     ensures lawful { IfOk result (λ state. Lawful start.now words (reverse log.now)) }
-    ensures shown { IfOk result (λ state. Shows state (behind start.now words (reverse log.now))) }
+    ensures shown { IfOk result (λ state.
+        Shows state (behind start.now words (reverse log.now))) }
     ensures unlawful { (at : ℕ) → result ≡ Err (Unlawful at)
         → IsFirstUnlawful start.now words log.now at }
 {

@@ -1,4 +1,4 @@
-use Rattle.std.proofs.Common.{◌≡◌, ◌≤◌, length, reverse, take}
+use Rattle.std.proofs.Common.{◌≤◌, length, reverse, take}
 use Rattle.ist_check.specs.Knowing.{Knows}
 use Rattle.ist_check.proofs.checking.check.Given as goal
 

@@ -1,15 +1,11 @@
-use Rattle.std.proofs.Common.{◌≡◌, ◌↔◌, ◌∙◌, IsTrue, Result, Ok, Err, IfOk, sym, ap, subst}
+use Rattle.std.proofs.Common.{◌↔◌, ◌∙◌, IsTrue, sym, ap, subst}
 use Rattle.ist_core.specs.declared.events.Event.TheVariants.{Install, Root, Place, Lose}
 use Rattle.ist_core.specs.StartLayout.{start}
 use Rattle.ist_core.specs.Lawful.{state_of}
 use Rattle.ist_core.specs.Enabled.{Enabled}
+use Rattle.ist_enabled.proofs.AnswerLemmas.{if_ok}
 use Rattle.ist_check.proofs.StandingLemmas.{keys_stay, rows_rise, held_are_free}
 use Rattle.ist_check.proofs.coming.may_come.Goals as goal
-
--- what is so of each answer is so of what it says
-if_ok : {V E : Type 0} {P Q : V → Type 0} (r : Result V E) → ((v : V) → P v → Q v) → IfOk r P → IfOk r Q
-if_ok (Ok v) f h = f v h
-if_ok (Err e) f h = tt
 
 pub returns-in-Enter : goal.returns-in-Enter
 returns-in-Enter c =
@@ -32,7 +28,7 @@ pub returns-in-Root : goal.returns-in-Root
 returns-in-Root c =
     record {
       exact =
-          if_ok c.can_root.result
+          if_ok c.can_root.result _ _
           (λ may exact pairs words log knows.
           let i = c.in-Root in
           subst (λ e. IsTrue may ↔ Enabled (start pairs words) log e) (ap (Root i.c i.o i.word) c.as_slice-in-Root.ensures.value ∙ sym i.is)
@@ -44,7 +40,7 @@ pub returns-in-Place : goal.returns-in-Place
 returns-in-Place c =
     record {
       exact =
-          if_ok c.can_place.result
+          if_ok c.can_place.result _ _
           (λ may exact pairs words log knows.
           let i = c.in-Place in
           subst (λ e. IsTrue may ↔ Enabled (start pairs words) log e) (ap (Place i.c i.o i.part i.word) c.as_slice-in-Place.ensures.value ∙ sym i.is)
@@ -56,7 +52,7 @@ pub returns-in-Lose : goal.returns-in-Lose
 returns-in-Lose c =
     record {
       exact =
-          if_ok c.can_lose.result
+          if_ok c.can_lose.result _ _
           (λ may exact pairs words log knows.
           let i = c.in-Lose in
           subst (λ e. IsTrue may ↔ Enabled (start pairs words) log e) (ap (Lose i.caller) c.as_slice-in-Lose.ensures.value ∙ sym i.is)
