@@ -7,3 +7,5 @@ pub mod PassLemmas
 pub mod HelpLemmas
 pub mod BelowLemmas
 pub mod CountingLemmas
+pub mod TableExampleLemmas
+pub mod ExampleLemmas

@@ -9,5 +9,7 @@ mod below;
 mod counting;
 mod passing;
 mod statuses;
+#[cfg(test)]
+mod tests;
 
 pub use counting::mark_and_count;
