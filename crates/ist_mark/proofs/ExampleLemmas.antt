@@ -1,27 +1,17 @@
 -- A start of a rebuild of the row at 4, by rows at 15 and 20, and what is seen of it. Serves the
 -- tests.
-use Rattle.std.proofs.Common.{◌≡◌, ◌≢◌, ℕ, zero, suc, ◌+◌, ◌-◌, ◌<◌, ◌≤◌, List, [], ◌∷◌, map, drop, length, slice_get, Some, None, true, refl, sym, ap, ◌∙◌, subst, inl, inr, ⊎_elim, arith}
-use Rattle.std.specs.List.Sorted.{IsStrictlyIncreasing}
+use Rattle.std.proofs.Common.{◌≡◌, ◌≢◌, ℕ, zero, suc, ◌+◌, ◌<◌, ◌≤◌, List, [], ◌∷◌, slice_get, Some, None, true, refl, sym, ap, ◌∙◌, subst, inl, inr, arith}
 use Rattle.ist_core.specs.declared.lists.HeldRow.{HeldRow}
-use Rattle.ist_core.specs.declared.pairs.Pair.{Pair}
-use Rattle.ist_core.specs.declared.states.InnerRow.{InnerRow}
-use Rattle.ist_core.specs.Arithmetic.{degree, square_root, root_up_to, part_len, part_lens}
-use Rattle.ist_core.specs.Shapes.{ideal_words, ideal_words_within}
 use Rattle.ist_core.specs.References.{InnerAt, ChangeAt, RebuildAt, IsGoodBase}
-use Rattle.ist_core.specs.RowLayout.{first_row}
-use Rattle.ist_core.specs.Pieces.{Piece, Leaf, Inner, Change, Rebuild, row_at, words_of}
+use Rattle.ist_core.specs.Pieces.{Change, Rebuild, row_at, words_of}
 use Rattle.ist_core.specs.Elements.{Among}
 use Rattle.ist_core.specs.Snapshots.{HoldsRow}
-use Rattle.ist_core.specs.StartLayout.{start, top_row, rows_within, rows_from}
-use Rattle.ist_core.specs.Images.{IsImage, StandsAt}
+use Rattle.ist_core.specs.StartLayout.{start}
 use Rattle.ist_core.specs.Links.{Linked, at_anchor}
 use Rattle.ist_core.specs.Slots.{SlotHolds, in_anchor, anchor_is}
 use Rattle.ist_core.specs.Installing.{a_start}
-use Rattle.ist_core.specs.Lawful.{CanOpen}
-use Rattle.ist_core.specs.ExampleTables.{two_pairs}
 use Rattle.ist_core.proofs.NamingLemmas.{InnerHere, SlotNames, slot_names}
 use Rattle.ist_core.proofs.OrderLemmas.{names}
-use Rattle.ist_core.proofs.PieceLemmas.{among-pieces_of, slice_get-drop, stands_by}
 use Rattle.ist_core.proofs.ReferenceLemmas.{ref_of-word_of}
 use Rattle.ist_rule.specs.declared.view.View.{View}
 use Rattle.ist_rule.specs.declared.view.OwnWord.{OwnWord}
@@ -35,12 +25,10 @@ use Rattle.ist_dcss.specs.Helping.{MayHelp}
 use Rattle.ist_dcss.specs.Installing.{Filling, IsInstallable, IsInstalled}
 use Rattle.ist_dcss.proofs.CallingLemmas.{ever_now, open_unrefused, met_change, begun_allows}
 use Rattle.ist_core.specs.declared.states.ChangeRow.{ChangeRow}
-use Rattle.ist_core.specs.declared.states.RebuildRow.{RebuildRow}
 use Rattle.ist_core.specs.References.{ref_of}
 use Rattle.ist_core.specs.Growing.{ChangeGrows}
-use Rattle.ist_core.specs.Logs.{Log}
-use Rattle.ist_core.specs.Marking.{HasTarget, as_target}
-use Rattle.ist_core.specs.Rebuilding.{IsStarted, IsUpdate}
+use Rattle.ist_core.specs.Marking.{as_target}
+use Rattle.ist_core.specs.Rebuilding.{IsUpdate}
 use Rattle.ist_core.specs.Lawful.{state_of}
 use Rattle.ist_core.proofs.FateLemmas.{grow_between}
 use Rattle.ist_core.proofs.GrowingLemmas.{inner_there, change_there}
@@ -50,8 +38,7 @@ use Rattle.ist_rule.proofs.LaterLemmas.{later-goes_on}
 use Rattle.ist_dcss.proofs.InstallLemmas.{held_on}
 use Rattle.ist_dcss.specs.Helping.{IsDecided}
 use Rattle.ist_dcss.proofs.FieldLemmas.{looked_row, row_low}
-use Rattle.ist_steps.specs.Going.{WentOn}
-use Rattle.ist_steps.proofs.GoingLemmas.{looked_went, went_grow, went_more}
+use Rattle.ist_steps.proofs.GoingLemmas.{looked_went, went_grow}
 use Rattle.ist_mark.specs.Marking.{MayMark, Marks}
 
 good : (base : ℕ) → 4 ≤ base → base < 100 → IsGoodBase base

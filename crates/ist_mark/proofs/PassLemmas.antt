@@ -2,7 +2,7 @@
 use Rattle.std.proofs.Common.{◌≡◌, ◌≢◌, ℕ, ◌+◌, ◌*◌, ◌<◌, ◌&&◌, ◌==◌, not, Bool, true, false, if◌then◌else◌, List, length, get_or, Option, Some, None, refl, sym, ap, ◌∙◌, subst, inl, ⊎_elim, length-append, arith}
 use Rattle.std.proofs.lemmas.Option.{slice_get-get_or}
 use Rattle.ist_core.specs.declared.events.Event.{Event}
-use Rattle.ist_core.specs.declared.events.Event.TheVariants.{Enter, Reserve, Install, Okay, Decide, Resolve, Count, Mark, Pass, Finish, Root, Draw, Place, Lose}
+use Rattle.ist_core.specs.declared.events.Event.TheVariants.{Pass}
 use Rattle.ist_core.specs.declared.pairs.Pair.{Pair}
 use Rattle.ist_core.specs.declared.states.InnerRow.{InnerRow}
 use Rattle.ist_core.specs.RowLayout.{place_limit, slot_place}
@@ -32,14 +32,11 @@ use Rattle.ist_rule.specs.Rule.{IsSound}
 use Rattle.ist_rule.specs.Learning.{now, Looked, LoggedLoad, LoadedAs, as_event, as_load}
 use Rattle.ist_rule.specs.Watching.{number_of, is_marked, is_change, pass_of, CanLoadPass}
 use Rattle.ist_rule.proofs.WatchLemmas.{both_true, if_some, no_change, eq_true}
-use Rattle.ist_dcss.specs.Helping as dcss
-use Rattle.ist_dcss.specs.Helping.{MayHelp, Serves, Helped}
+use Rattle.ist_dcss.specs.Helping.{MayHelp}
 use Rattle.ist_dcss.proofs.FieldLemmas.{row_low}
-use Rattle.ist_rule.specs.declared.view.Who.{Who}
-use Rattle.ist_rule.proofs.GoingOnLemmas.{goes_on_same}
 use Rattle.ist_dcss.proofs.SlotPlaceLemmas.{slot_shown, no_anchor}
-use Rattle.ist_steps.specs.Going.{LaterBy, none_yet, of_other, of_own, WentOn}
-use Rattle.ist_steps.proofs.GoingLemmas.{goes_on_went, logged_load_went, looked_went}
+use Rattle.ist_steps.specs.Going.{WentOn}
+use Rattle.ist_steps.proofs.GoingLemmas.{logged_load_went, looked_went}
 use Rattle.ist_mark.specs.Marking.{Marks}
 use Rattle.ist_mark.specs.Passing.{MayPass, IsNoChange}
 use Rattle.ist_mark.proofs.KeepingLemmas.{may_pass_went}

@@ -1,38 +1,17 @@
 -- A table of the pairs (5, 7) and (9, 1) opens with its words. Serves the tests.
-use Rattle.std.proofs.Common.{◌≡◌, ◌≢◌, ℕ, zero, suc, ◌+◌, ◌-◌, ◌<◌, ◌≤◌, List, [], ◌∷◌, map, drop, length, slice_get, Some, None, refl, sym, ap, ◌∙◌, subst, inl, inr, ⊎_elim, arith}
+use Rattle.std.proofs.Common.{◌≡◌, ℕ, zero, suc, ◌+◌, ◌-◌, ◌<◌, ◌≤◌, List, [], ◌∷◌, map, length, slice_get, Some, refl, sym, ◌∙◌, subst, inl, inr, arith}
 use Rattle.std.specs.List.Sorted.{IsStrictlyIncreasing}
-use Rattle.ist_core.specs.declared.lists.HeldRow.{HeldRow}
 use Rattle.ist_core.specs.declared.pairs.Pair.{Pair}
-use Rattle.ist_core.specs.declared.states.InnerRow.{InnerRow}
 use Rattle.ist_core.specs.Arithmetic.{degree, square_root, root_up_to, part_len, part_lens}
 use Rattle.ist_core.specs.Shapes.{ideal_words, ideal_words_within}
-use Rattle.ist_core.specs.References.{InnerAt, ChangeAt, RebuildAt, IsGoodBase}
 use Rattle.ist_core.specs.RowLayout.{first_row}
-use Rattle.ist_core.specs.Pieces.{Piece, Leaf, Inner, Change, Rebuild, row_at, words_of}
+use Rattle.ist_core.specs.Pieces.{Piece, Leaf}
 use Rattle.ist_core.specs.Elements.{Among}
-use Rattle.ist_core.specs.Snapshots.{HoldsRow}
 use Rattle.ist_core.specs.StartLayout.{start, top_row, rows_within, rows_from}
 use Rattle.ist_core.specs.Images.{IsImage, StandsAt}
-use Rattle.ist_core.specs.Links.{Linked, at_anchor}
-use Rattle.ist_core.specs.Slots.{in_anchor, anchor_is}
-use Rattle.ist_core.specs.Installing.{a_start}
 use Rattle.ist_core.specs.Lawful.{CanOpen}
 use Rattle.ist_core.specs.ExampleTables.{two_pairs}
-use Rattle.ist_core.proofs.NamingLemmas.{InnerHere, SlotNames, slot_names}
-use Rattle.ist_core.proofs.OrderLemmas.{names}
 use Rattle.ist_core.proofs.PieceLemmas.{among-pieces_of, slice_get-drop, stands_by}
-use Rattle.ist_core.proofs.ReferenceLemmas.{ref_of-word_of}
-use Rattle.ist_rule.specs.declared.view.View.{View}
-use Rattle.ist_rule.specs.declared.view.OwnWord.{OwnWord}
-use Rattle.ist_rule.specs.declared.view.Who.TheVariants.{Caller}
-use Rattle.ist_rule.specs.Authors.{Later}
-use Rattle.ist_rule.specs.Shown.{shown_slot}
-use Rattle.ist_rule.specs.Rule.{IsSound, own_at}
-use Rattle.ist_rule.specs.Learning.{now, storing, Turned, beginning, Looked}
-use Rattle.ist_rule.proofs.HeldLemmas.{held_later}
-use Rattle.ist_dcss.specs.Helping.{MayHelp}
-use Rattle.ist_dcss.specs.Installing.{Filling, IsInstallable, IsInstalled}
-use Rattle.ist_dcss.proofs.CallingLemmas.{ever_now, open_unrefused, met_change, begun_allows}
 
 -- ---- the table
 

@@ -1,4 +1,4 @@
-use Rattle.std.proofs.Common.{◌≡◌, ◌<◌, ap, ◌∙◌, arith}
+use Rattle.std.proofs.Common.{ap, ◌∙◌, arith}
 use Rattle.ist_mark.proofs.ExampleLemmas.{change_low, start_seen}
 use Rattle.ist_mark.proofs.tests.follow.Goals as goal
 
