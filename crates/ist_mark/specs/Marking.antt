@@ -14,8 +14,8 @@ pub record MayMark (v : View) (node : ℕ) : Type 0 where
   pub mine : v.who ≡ Caller number
   pub called : IsCalled (now v) v.log node
 
--- the event is a step of marking: a Mark, a Pass or a Finish, or a step of help for a change that was
--- met
+-- the event is a step of marking: a Mark, a Pass or a Finish, or a step of help for a change that
+-- was met
 abbrev pub Marks : Event → Type 0
 Marks (Okay caller change) = Unit {0}
 Marks (Decide caller change said) = Unit {0}
