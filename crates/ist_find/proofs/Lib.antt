@@ -1,0 +1,6 @@
+pub mod RowLemmas
+pub mod KeyLemmas
+pub mod LoadLemmas
+pub mod ReadLemmas
+pub mod LookLemmas
+pub mod SearchLemmas

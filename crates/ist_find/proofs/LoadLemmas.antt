@@ -1,0 +1,76 @@
+-- What a seat's loads tell the laws on searches, which speak of one log. Serves `reading` and `finding`.
+use Rattle.std.proofs.Common.{◌≡◌, ℕ, ◌≤◌, List, length, refl, sym, ap, ◌∙◌, subst, le_refl, arith}
+use Rattle.ist_core.specs.declared.pairs.Pair.{Pair}
+use Rattle.ist_core.specs.RowLayout.{anchor_slot_place}
+use Rattle.ist_core.specs.Snapshots.{Snapshot}
+use Rattle.ist_core.specs.Logs.{Log, GoesOn, same_log, one_event}
+use Rattle.ist_core.specs.Lawful.{state_of}
+use Rattle.ist_rule.specs.declared.view.View.{View}
+use Rattle.ist_rule.specs.Shown.{IsShown, shown_slot, shown_row}
+use Rattle.ist_rule.specs.Learning.{GoesOnTo, Looked}
+use Rattle.ist_rule.proofs.LaterLemmas.{later-goes_on}
+use Rattle.ist_histories.specs.Loads.{HasWord, in_anchor_slot, in_published, log_at, IsLoad}
+use Rattle.ist_histories.proofs.LoadOnLemmas.{at_prefix, load_on}
+use Rattle.ist_find.specs.Reads.{loaded_in}
+
+-- a word that the table has at a place is shown there
+pub has_shown : (t : Snapshot) (place word : ℕ) → HasWord t place word → IsShown t place word
+has_shown t place word (in_anchor_slot at is) =
+    subst (λ p. IsShown t p word) (sym at) (subst (IsShown t anchor_slot_place) is shown_slot)
+has_shown t place word (in_published base k p e at got) =
+    subst (λ q. IsShown t q word) (sym at) (shown_row base p k e got)
+
+-- ---- the table and the log of a seat that went on
+
+-- what is so of the table of the first view is so of that of the second
+pub by_table : (v w : View) → GoesOnTo v w → (P : List Pair → ℕ → Type 0) → P v.start v.words
+    → P w.start w.words
+by_table v w g P h =
+    subst (λ p. P p w.words) (sym (ap (λ x. x.start) g.same))
+    (subst (P v.start) (sym (ap (λ x. x.words) g.same)) h)
+
+-- its log goes on
+pub goes_log : (v w : View) → GoesOnTo v w → GoesOn v.log w.log
+goes_log v w g = later-goes_on g.later
+
+-- a log that goes on is no shorter
+pub length_rises : (log longer : Log) → GoesOn log longer → length log ≤ length longer
+length_rises log _ same_log = omega arith
+length_rises log _ (one_event {log = rest} event g) =
+    let low = length_rises log rest g in omega arith
+
+pub goes_length : (v w : View) → GoesOnTo v w → length v.log ≤ length w.log
+goes_length v w g = length_rises v.log w.log (goes_log v w g)
+
+-- ---- loads
+
+-- a word that was the one shown behind the log of a seat is a load of that log
+pub shown_load : (pairs : List Pair) (words : ℕ) (log : Log) (place word least : ℕ)
+    → ((shown : ℕ) → IsShown (state_of pairs words log) place shown → word ≡ shown)
+    → least ≤ length log
+    → IsLoad pairs words log place least record { place = place; word = word; length = length log }
+shown_load pairs words log place word least stood low =
+    record {
+      tells = λ x h. stood x
+          (subst (λ l. IsShown (state_of pairs words l) place x) (at_prefix log log same_log)
+          (has_shown (state_of pairs words (log_at log (length log))) place x h));
+      place_is = refl;
+      since = low;
+      within = le_refl (length log);
+    }
+
+-- so is what a load gave
+pub looked_load : (v : View) (place word : ℕ) (w : View) → Looked v place word w → (at : ℕ)
+    → place ≡ at → (least : ℕ) → least ≤ length w.log
+    → IsLoad w.start w.words w.log at least (loaded_in w at word)
+looked_load v place word w l at is least low =
+    shown_load w.start w.words w.log at word least
+    (λ x s. l.stood x (subst (λ p. IsShown (state_of w.start w.words w.log) p x) (sym is) s)) low
+
+-- a load is one still where the seat goes on
+pub load_later : (v w : View) → GoesOnTo v w → (at word least : ℕ)
+    → IsLoad v.start v.words v.log at least (loaded_in v at word)
+    → IsLoad w.start w.words w.log at least (loaded_in v at word)
+load_later v w g at word least h =
+    load_on w.start w.words v.log w.log (goes_log v w g) at least (loaded_in v at word)
+    (by_table v w g (λ p n. IsLoad p n v.log at least (loaded_in v at word)) h)

@@ -1,0 +1,142 @@
+-- Published rows stay as a seat goes on by loads, and where their words lie. Serves `keys` and `children`.
+use Rattle.std.proofs.Common.{◌≡◌, ◌≢◌, ℕ, zero, suc, ◌+◌, ◌<◌, ◌≤◌, List, [], ◌∷◌, ◌++◌, length, slice_get, get_or, Some, refl, sym, ap, ◌∙◌, subst, arith, length-append}
+use Rattle.std.proofs.lemmas.Option.{slice_get-get_or}
+use Rattle.std.specs.List.Sorted.{IsStrictlyIncreasing}
+use Rattle.ist_core.specs.declared.states.InnerRow.{InnerRow}
+use Rattle.ist_core.specs.RowLayout.{place_limit, anchor, first_row, inner_degree_offset, key_place, slot_place}
+use Rattle.ist_core.specs.Arithmetic.{child_count}
+use Rattle.ist_core.specs.Pieces.{Piece, Inner, words_of, size_of, as_inner}
+use Rattle.ist_core.specs.Growing.{AllGrow}
+use Rattle.ist_core.specs.Naming.{HasDegree}
+use Rattle.ist_core.specs.Slots.{SlotHolds, in_row, IsChildFor, of_row}
+use Rattle.ist_core.proofs.GrowingLemmas.{inner_there}
+use Rattle.ist_core.proofs.ImageLemmas.{get_below, get-words_of_slot}
+use Rattle.ist_core.proofs.KeyLemmas.{keys_rising}
+use Rattle.ist_core.proofs.LeafOrderLemmas.{next_from_rising}
+use Rattle.ist_rule.specs.declared.view.View.{View}
+use Rattle.ist_rule.specs.Rule.{IsSound}
+use Rattle.ist_rule.specs.Learning.{now, GoesOnTo, Looked}
+use Rattle.ist_rule.proofs.GoingOnLemmas.{looked_goes_on}
+use Rattle.ist_dcss.proofs.GoingLemmas.{goes_on_helped, helped_grow}
+use Rattle.ist_dcss.proofs.SlotPlaceLemmas.{has_degree}
+use Rattle.ist_dcss.proofs.FieldLemmas.{row_low, looked_row}
+use Rattle.ist_find.specs.Searches.{IsRow, keys_in, keys_at}
+
+-- rows grow as a seat goes on
+pub goes_grow : (v w : View) → GoesOnTo v w → AllGrow (now v).pieces (now w).pieces
+goes_grow v w g = helped_grow 0 v w (goes_on_helped 0 v w g)
+
+-- a published inner row is published still
+pub row_on : (v w : View) → GoesOnTo v w → (node : ℕ) → IsRow v node → IsRow w node
+row_on v w g node r =
+    let on = inner_there (now v).pieces (now w).pieces (goes_grow v w g) node r.row r.published in
+    record { row = on.0; published = on.1 }
+
+-- the keys of a node are those of its row
+pub keys_are : (v : View) (node : ℕ) (r : IsRow v node) → keys_at v node ≡ r.row.keys
+keys_are v node r = ap (λ p. keys_in (as_inner p)) r.published
+
+-- they stay
+pub keys_on : (v w : View) → GoesOnTo v w → (node : ℕ) → IsRow v node
+    → keys_at w node ≡ keys_at v node
+keys_on v w g node r =
+    let on = inner_there (now v).pieces (now w).pieces (goes_grow v w g) node r.row r.published in
+    ap (λ p. keys_in (as_inner p)) on.1 ∙ on.2.keys ∙ sym (keys_are v node r)
+
+-- a key stands behind the four fields of its row
+behind_fields : (keys slots : List ℕ) (j : ℕ) → j < length keys
+    → slice_get (keys ++ slots) j ≡ Some (get_or keys j 0)
+behind_fields [] slots j h = absurd (omega arith)
+behind_fields (k ∷ keys) slots zero h = refl
+behind_fields (k ∷ keys) slots (suc j) h = behind_fields keys slots j (omega arith)
+
+-- what a seat knows of an inner row
+pub record KnowsRow (v : View) (node count : ℕ) : Type 0 where
+  pub row : IsRow v node
+  pub count_is : count ≡ length row.row.keys
+  pub degree : row.row.degree ≡ count + 1
+  pub slots : length row.row.slots ≡ count + 1
+  pub low : node + (5 + count + count) ≤ v.words
+  pub small : v.words ≤ place_limit
+
+pub knows_row : (v : View) → IsSound v → (node : ℕ) → IsRow v node
+    → KnowsRow v node (length (keys_at v node))
+knows_row v s node r =
+    let d = has_degree v.start v.words v.log s.lawful.enabled node r.row r.published in
+    let keys = d.keys in
+    let slots = d.slots in
+    let same : length (keys_at v node) ≡ length r.row.keys = ap length (keys_are v node r) in
+    let all : size_of (Inner r.row) ≡ 4 + (length r.row.keys + length r.row.slots) =
+    ap (λ n. suc (suc (suc (suc n)))) (length-append r.row.keys r.row.slots) ∙ omega arith in
+    let last : 4 + (length r.row.keys + length r.row.keys) < size_of (Inner r.row) = omega arith in
+    let low = row_low v s node (Inner r.row) r.published
+    (4 + (length r.row.keys + length r.row.keys)) last in
+    let place = low.0 in
+    record {
+      row = r;
+      count_is = same;
+      degree = omega arith;
+      slots = omega arith;
+      low = omega arith;
+      small = low.1;
+    }
+
+-- the keys of a row rise
+pub keys_rise : (v : View) → IsSound v → (node : ℕ) → IsRow v node
+    → IsStrictlyIncreasing (keys_at v node)
+keys_rise v s node r =
+    subst IsStrictlyIncreasing (sym (keys_are v node r))
+    (next_from_rising r.row.keys
+    (keys_rising v.start v.words s.lawful.opens v.log s.lawful.enabled node (Inner r.row)
+    r.published))
+
+-- a load of the degree gives one more than there are keys
+pub degree_told : (v : View) → IsSound v → (node : ℕ) → IsRow v node → (place degree : ℕ) (w : View)
+    → Looked v place degree w → place ≡ node + inner_degree_offset
+    → degree ≡ length (keys_at v node) + 1
+degree_told v s node r place degree w l at =
+    let d = has_degree v.start v.words v.log s.lawful.enabled node r.row r.published in
+    let on = inner_there (now v).pieces (now w).pieces
+    (goes_grow v w (looked_goes_on v place degree w l)) node r.row r.published in
+    looked_row v place degree w l node (Inner on.0) 2 on.0.degree on.1 refl at
+    ∙ on.2.degree ∙ sym d.keys ∙ ap (λ n. n + 1) (sym (ap length (keys_are v node r)))
+
+-- a load of a key gives it
+pub key_told : (v : View) (node : ℕ) → IsRow v node → (j place word : ℕ) (w : View)
+    → Looked v place word w → place ≡ key_place node (j + 1) → j < length (keys_at v node)
+    → word ≡ get_or (keys_at v node) j 0
+key_told v node r j place word w l at less =
+    let g = looked_goes_on v place word w l in
+    let on = row_on v w g node r in
+    let same : on.row.keys ≡ keys_at v node =
+    sym (keys_are w node on) ∙ keys_on v w g node r in
+    let count = ap length same in
+    let here : place ≡ node + suc (suc (suc (suc j))) = omega arith in
+    looked_row v place word w l node (Inner on.row) (suc (suc (suc (suc j))))
+    (get_or on.row.keys j 0) on.published (behind_fields on.row.keys on.row.slots j (omega arith))
+    here
+    ∙ ap (λ ks. get_or ks j 0) same
+
+-- a load of a slot gives what it holds
+pub slot_told : (v : View) (node : ℕ) → IsRow v node → (i place word : ℕ) (w : View)
+    → Looked v place word w → place ≡ slot_place node (length (keys_at v node) + 1) i
+    → i ≤ length (keys_at v node) → SlotHolds (now w) node i word
+slot_told v node r i place word w l at less =
+    let g = looked_goes_on v place word w l in
+    let k = knows_row w l.sound node (row_on v w g node r) in
+    let row = k.row.row in
+    let same = ap length (keys_on v w g node r) in
+    let count = k.count_is in
+    let slots = k.slots in
+    let got : slice_get row.slots i ≡ Some (get_or row.slots i 0) =
+    slice_get-get_or row.slots i 0 (omega arith) in
+    let here : place ≡ node + (4 + length row.keys + i) = omega arith in
+    let is = looked_row v place word w l node (Inner row) (4 + length row.keys + i)
+    (get_or row.slots i 0) k.row.published (get-words_of_slot row i ∙ got) here in
+    in_row row k.row.published (got ∙ ap Some (sym is))
+
+-- and the child for a key is the number of keys that are at most it
+pub child_is : (v : View) (node : ℕ) → IsRow v node → (key i : ℕ)
+    → i ≡ child_count (keys_at v node) key → IsChildFor (now v) node key i
+child_is v node r key i is =
+    of_row r.row r.published (is ∙ ap (λ ks. child_count ks key) (keys_are v node r))

@@ -1,0 +1,169 @@
+-- A search from its begin to its end, as its seat knows it. Serves `find_from_anchor`.
+use Rattle.std.proofs.Common.{◌≡◌, ℕ, suc, ◌+◌, ◌-◌, ◌<◌, ◌≤◌, List, ◌∷◌, drop, length, Option, refl, sym, ap, ap₂, ◌∙◌, subst, le_refl, arith}
+use Rattle.std.proofs.Math.Nat.{le_trans}
+use Rattle.ist_core.specs.declared.pairs.Pair.{Pair}
+use Rattle.ist_core.specs.Arithmetic.{child_count}
+use Rattle.ist_core.specs.RowLayout.{anchor}
+use Rattle.ist_core.specs.References.{Ref}
+use Rattle.ist_core.specs.Snapshots.{Snapshot}
+use Rattle.ist_core.specs.StartLayout.{start}
+use Rattle.ist_core.specs.Growing.{AllGrow}
+use Rattle.ist_core.specs.Logs.{Log, GoesOn, same_log, one_event}
+use Rattle.ist_core.specs.Slots.{IsChildFor, of_anchor, of_row}
+use Rattle.ist_core.specs.Links.{WasLinked}
+use Rattle.ist_core.specs.Writing.{place_of_slot}
+use Rattle.ist_core.specs.Lawful.{state_of}
+use Rattle.ist_core.proofs.GrowingLemmas.{inner_there}
+use Rattle.ist_core.proofs.FateLemmas.{grow_between}
+use Rattle.ist_rule.specs.declared.view.View.{View}
+use Rattle.ist_rule.specs.Rule.{IsSound}
+use Rattle.ist_rule.specs.Learning.{now, GoesOnTo, Turned, searching}
+use Rattle.ist_rule.proofs.LaterLemmas.{later_more, later-goes_on}
+use Rattle.ist_rule.specs.Authors.{Later}
+use Rattle.ist_histories.specs.Loads.{Load, log_at, IsLoad}
+use Rattle.ist_histories.specs.Searching.{ReadsTarget, no_rebuild, by_target, ReadsValue, LooksAt, ComesTo, begins, Searched, HasPosition}
+use Rattle.ist_histories.proofs.ChangeLemmas.{changes_rise}
+use Rattle.ist_histories.proofs.LoadOnLemmas.{at_on, at_prefix, load_on, come_on}
+use Rattle.ist_histories.proofs.PositionLemmas.{search_position, node_met}
+use Rattle.ist_find.specs.Searches.{HasSearched, HasFound}
+use Rattle.ist_find.specs.Reads.{HasCome, HasLooked, TellsValue}
+use Rattle.ist_find.proofs.LoadLemmas.{by_table, goes_log, goes_length, length_rises}
+use Rattle.ist_find.proofs.LookLemmas.{side_later}
+
+-- ---- the begin
+
+-- a search begins at the anchor
+pub begun_comes : (v w : View) (key : ℕ) → Turned v (searching v) w → HasCome w key anchor
+begun_comes v w key t =
+    record { last = w.loads.since; until = t.sound.well_made.since; comes = begins }
+
+-- a seat that has begun a search and gone on by loads has searched
+pub has_searched : (v b w : View) → Turned v (searching v) b → GoesOnTo b w → HasSearched v w
+has_searched v b w t g =
+    let since : w.loads.since ≡ length b.log = g.since ∙ ap (λ x. x.loads.since) t.view in
+    let low = length_rises v.log b.log (later-goes_on t.later) in
+    let one = ap (λ x. x.loaded) t.view in
+    let more = g.loaded in
+    record {
+      later = later_more t.later (subst (λ x. Later x b.log w.log) (ap (λ x. x.who) t.view) g.later);
+      sound = g.sound;
+      same = g.same ∙ ap {B = View} (λ (x : View). record x {
+        log = w.log;
+        loads = w.loads;
+        loaded = w.loaded;
+      }) t.view;
+      since = omega arith;
+      loaded = omega arith;
+    }
+
+-- ---- the end
+
+-- a log that goes on keeps at each length what it was
+log_stays : (log longer : Log) → GoesOn log longer → (n : ℕ) → n ≤ length log
+    → log_at longer n ≡ log_at log n
+log_stays log _ same_log n h = refl
+log_stays log _ (one_event {log = rest} event g) n h =
+    let low = length_rises log rest g in
+    let more : suc (length rest) - n ≡ suc (length rest - n) = omega arith in
+    ap (λ k. drop k (event ∷ rest)) more ∙ log_stays log rest g n h
+
+module _ (pairs : List Pair) (words : ℕ) (log longer : Log) (g : GoesOn log longer) where
+  -- what a rebuild reads as stays
+  target_later : (least side : ℕ) (ref : Ref) → ReadsTarget pairs words log least side ref
+      → ReadsTarget pairs words longer least side ref
+  target_later least side _ (no_rebuild ref is plain) = no_rebuild ref is plain
+  target_later least side _ (by_target base target is load) =
+      by_target base target is (load_on pairs words log longer g _ _ target load)
+
+  -- a look is one in a longer log too, at the same slot
+  look_later : (key least last node i : ℕ) (ref : Ref)
+      → (x : LooksAt pairs words log key least last node ref) → x.index ≡ i
+      → (y : LooksAt pairs words longer key least last node ref) × (y.index ≡ i)
+  look_later key least last node i ref x e =
+      let same = sym (log_stays log longer g x.slot.length x.is_load.within) in (
+        record {
+          slot = x.slot;
+          index = x.index;
+          index_is = subst (λ l. IsChildFor (state_of pairs words l) node key x.index) same x.index_is;
+          is_load = subst (λ l. IsLoad pairs words longer
+              (place_of_slot (state_of pairs words l) node x.index) least x.slot) same
+              (load_on pairs words log longer g _ least x.slot x.is_load);
+          side = x.side;
+          side_is = side_later pairs words log longer g x.slot x.side last x.side_is;
+          ref_is = target_later last x.side ref x.ref_is;
+        },
+        e,
+      )
+
+-- the child for a key stays where rows grow
+child_later : (t u : Snapshot) → AllGrow t.pieces u.pieces → (node key i : ℕ)
+    → IsChildFor t node key i → IsChildFor u node key i
+child_later t u g node key i (of_anchor e f) = of_anchor e f
+child_later t u g node key i (of_row r e f) =
+    let on = inner_there t.pieces u.pieces g node r e in
+    of_row on.0 on.1 (f ∙ ap (λ ks. child_count ks key) (sym on.2.keys))
+
+-- the value was loaded behind the last look
+pub has_found : (v w : View) (key node i : ℕ) (ref : Ref) (value : Option ℕ)
+    → HasLooked v key node i ref → TellsValue v w key ref value → HasFound w key node i value
+has_found v w key node i ref value h t =
+    let g = goes_log v w t.seen in
+    let look = by_table v w t.seen
+    (λ p n. (y : LooksAt p n v.log key h.least h.last node ref) × (y.index ≡ i))
+    (h.look, h.index_is) in
+    let later = look_later w.start w.words v.log w.log g key h.least h.last node i ref look.0 look.1
+    in
+    record {
+      searched = record {
+        least = h.least;
+        last = h.last;
+        since = t.seen.sound.well_made.since;
+        comes = subst (λ n. ComesTo w.start w.words w.log key n h.least node) (sym t.seen.since)
+            (come_on w.start w.words v.log w.log g key v.loads.since h.least node
+            (by_table v w t.seen (λ p n. ComesTo p n v.log key v.loads.since h.least node) h.comes));
+        ref = ref;
+        look = later.0;
+        value_is = t.has h.last h.until;
+      };
+      index_is = later.1;
+    }
+
+-- ---- what was found
+
+-- the value stands at a position, not before the changes that were seen when the search began
+pub found_position : (v b w : View) → Turned v (searching v) b → GoesOnTo b w
+    → (key node i : ℕ) (value : Option ℕ) → HasFound w key node i value
+    → HasPosition w.start w.words v.log w.log key value
+found_position v b w t g key node i value f =
+    let s = g.sound.lawful in
+    let since : w.loads.since ≡ length b.log = g.since ∙ ap (λ x. x.loads.since) t.view in
+    let at : log_at w.log w.loads.since ≡ b.log =
+    ap (log_at w.log) since ∙ at_prefix b.log w.log (goes_log b w g) in
+    let p = search_position w.start w.words s.opens w.log s.enabled key w.loads.since node value
+    f.searched in
+    let rise = changes_rise (start w.start w.words) v.log (log_at w.log w.loads.since)
+    (subst (GoesOn v.log) (sym at) (later-goes_on t.later)) in
+    record {
+      position = p.position;
+      from = le_trans rise p.from;
+      to = p.to;
+      value_is = p.value_is;
+    }
+
+-- the node was linked
+pub found_linked : (w : View) → IsSound w → (key node i : ℕ) (value : Option ℕ)
+    → HasFound w key node i value → WasLinked (start w.start w.words) w.log node
+found_linked w s key node i value f =
+    (node_met w.start w.words s.lawful.opens w.log s.lawful.enabled key w.loads.since
+    f.searched.least node f.searched.comes).linked
+
+-- the slot is that of the child for the key
+pub found_child : (w : View) → IsSound w → (key node i : ℕ) (value : Option ℕ)
+    → HasFound w key node i value → IsChildFor (now w) node key i
+found_child w s key node i value f =
+    let look = f.searched.look in
+    let at = log_at w.log look.slot.length in
+    subst (IsChildFor (now w) node key) f.index_is
+    (child_later (state_of w.start w.words at) (now w)
+    (grow_between w.start w.words at w.log s.lawful.enabled (at_on w.log look.slot.length)) node
+    key look.index look.index_is)

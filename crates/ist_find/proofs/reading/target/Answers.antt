@@ -1,0 +1,35 @@
+use Rattle.std.proofs.Common.{◌≡◌, ◌+◌, ◌<◌, ◌^◌, ◌∙◌, ap, arith}
+use Rattle.ist_core.specs.Pieces.{Inner, Rebuild}
+use Rattle.ist_dcss.proofs.FieldLemmas.{row_low}
+use Rattle.ist_find.proofs.ReadLemmas.{target_told}
+use Rattle.ist_find.proofs.reading.target.Goals as goal
+
+-- the rebuild lies within the table
+pub load-target-requires-clause-within : goal.load-target-requires-clause-within
+load-target-requires-clause-within c =
+    let r = c.requires.row in
+    let low = (row_low _ c.know.ensures.sound c.args.base (Rebuild r.row) r.published 0
+    (omega arith)).0 in
+    let from = c.from.ensures in
+    let known = c.know.ensures.words in
+    let same = ap (λ t. t.words) c.requires.same_table in
+    omega arith
+
+-- so does its target, and the table is small
+pub overflow_cast-result : goal.overflow_cast-result
+overflow_cast-result c =
+    let told = target_told _ _ c.args.word c.args.base _ _ c.requires.rebuild c.requires.row
+    c.load-target.ensures.looked (ap (λ n. n + 0) c.from.ensures) in
+    let r = told.found in
+    let low = row_low _ c.know-2.ensures.sound c.load-target.result (Inner r.row) r.published 0
+    (omega arith) in
+    let place = low.0 in
+    let small = low.1 in
+    let h : c.load-target.result < 2 ^ 32 = omega arith in
+    record { fits = h }
+
+-- the load tells how the slot reads
+pub returns-clause-target : goal.returns-clause-target
+returns-clause-target c =
+    target_told _ _ c.args.word c.args.base _ _ c.requires.rebuild c.requires.row
+    c.load-target.ensures.looked (ap (λ n. n + 0) c.from.ensures)

@@ -1,0 +1,51 @@
+//! The child of a node for a key, with what its slot holds.
+ghost use Rattle.std.specs.Prelude.{◌≡◌, ◌+◌, ◌≤◌};
+ghost use Rattle.ist_core.specs.Slots.{SlotHolds, IsChildFor};
+ghost use Rattle.ist_rule.specs.Learning.{now, GoesOnTo};
+ghost use Rattle.ist_find.specs.Searches.{IsRow, IsNode, keys_at, guess_in, distance};
+
+use crate::answers::Child;
+use crate::keys::{child_for, key_count};
+use ist_layout::{ANCHOR, ANCHOR_SLOT_PLACE, slot_place};
+use ist_rule::{TreeSeat, TreeTable, know, load};
+
+/// The child for the key of an inner row that is published in the seat's log, and the word that its
+/// slot holds at the last step of this call.
+///
+/// It looks first where linear interpolation between the end keys points, and goes on from there
+/// one key at a time.
+///
+/// Source: Perl, Itai and Avni, "Interpolation search", CACM 1978.
+pub fn child_at(table: &TreeTable, seat: &mut TreeSeat, node: u32, key: u64) -> Child
+    requires same_table { seat.old.table ≡ table.now.table }
+    requires row { IsRow seat.old.view node }
+    ensures same_table { seat.new.table ≡ seat.old.table }
+    ensures index { IsChildFor (now seat.new.view) node key result.index }
+    ensures word { SlotHolds (now seat.new.view) node result.index result.word }
+    ensures seen { GoesOnTo seat.old.view seat.new.view }
+    ensures loads { let guess = guess_in (keys_at seat.old.view node) key in
+        seat.new.view.loaded ≤ seat.old.view.loaded + distance guess result.index + 6 }
+{
+    let count = key_count(table, seat, node);
+    let index = child_for(table, seat, node, count, key);
+    know(seat);
+    let word = load(table, seat, slot_place(node, count + 1, index));
+    Child { index, word }
+}
+
+/// The same of the anchor too, whose one child is for all keys.
+pub(crate) fn slot_for(table: &TreeTable, seat: &mut TreeSeat, node: u32, key: u64) -> Child
+    requires same_table { seat.old.table ≡ table.now.table }
+    requires node { IsNode seat.old.view node }
+    ensures same_table { seat.new.table ≡ seat.old.table }
+    ensures index { IsChildFor (now seat.new.view) node key result.index }
+    ensures word { SlotHolds (now seat.new.view) node result.index result.word }
+    ensures seen { GoesOnTo seat.old.view seat.new.view }
+{
+    if node == ANCHOR {
+        know(seat);
+        let word = load(table, seat, ANCHOR_SLOT_PLACE);
+        return Child { index: 0, word };
+    }
+    child_at(table, seat, node, key)
+}

@@ -1,0 +1,69 @@
+//! The search for a key from the anchor down.
+ghost use Rattle.std.specs.Prelude.{◌≡◌};
+ghost use Rattle.ist_core.specs.StartLayout.{start};
+ghost use Rattle.ist_core.specs.Slots.{IsChildFor};
+ghost use Rattle.ist_core.specs.Links.{WasLinked};
+ghost use Rattle.ist_layout.specs.Meanings.{ref_meant};
+ghost use Rattle.ist_rule.specs.Learning.{now, GoesOnTo};
+ghost use Rattle.ist_histories.specs.Searching.{HasPosition};
+ghost use Rattle.ist_find.specs.Searches.{HasSearched, HasFound};
+ghost use Rattle.ist_find.specs.Reads.{HasCome, HasLooked, IsReached};
+
+use crate::answers::{Found, Look};
+use crate::children::slot_for;
+use crate::reading::{past_change, past_rebuild, value_in};
+use ist_layout::{ANCHOR, Ref};
+use ist_rule::{TreeSeat, TreeTable, begin_search, know};
+
+// Looks at the slot for the key of a node to which the search has come.
+fn look_at(table: &TreeTable, seat: &mut TreeSeat, node: u32, key: u64) -> Look
+    requires same_table { seat.old.table ≡ table.now.table }
+    requires come { HasCome seat.old.view key node }
+    ensures same_table { seat.new.table ≡ seat.old.table }
+    ensures seen { GoesOnTo seat.old.view seat.new.view }
+    ensures looked { HasLooked seat.new.view key node result.index (ref_meant result.reference) }
+    ensures reached { IsReached seat.new.view node (ref_meant result.reference) }
+{
+    know(seat);
+    let child = slot_for(table, seat, node, key);
+    know(seat);
+    let side = past_change(table, seat, child.word);
+    let reference = past_rebuild(table, seat, side);
+    know(seat);
+    Look {
+        index: child.index,
+        reference,
+    }
+}
+
+/// Searches for the key from the anchor down, by loads alone.
+///
+/// A change is read by its decision, and a rebuild by its target. An inner row is entered at the
+/// child for the key. The answer stands at some number of changes, no fewer than those that the
+/// seat had seen when the call began. Never waits: each row lies above the one before it.
+pub fn find_from_anchor(table: &TreeTable, seat: &mut TreeSeat, key: u64) -> Found
+    requires same_table { seat.old.table ≡ table.now.table }
+    ensures same_table { seat.new.table ≡ seat.old.table }
+    ensures seen { HasSearched seat.old.view seat.new.view }
+    ensures value { let w = seat.new.view in
+        HasPosition w.start w.words seat.old.view.log w.log key result.value }
+    ensures found { HasFound seat.new.view key result.node result.index result.value }
+    ensures linked { let w = seat.new.view in WasLinked (start w.start w.words) w.log result.node }
+    ensures index { IsChildFor (now seat.new.view) result.node key result.index }
+{
+    begin_search(table, seat);
+    know(seat);
+    let mut node = ANCHOR;
+    let mut look = look_at(table, seat, node, key);
+    while let Ref::Inner { base } = look.reference {
+        node = base;
+        look = look_at(table, seat, node, key);
+    }
+    let value = value_in(table, seat, look.reference, key);
+    know(seat);
+    Found {
+        value,
+        node,
+        index: look.index,
+    }
+}

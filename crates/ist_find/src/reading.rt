@@ -1,0 +1,163 @@
+//! What a word of a slot reads as, changes and rebuilds read away, and the value of a leaf.
+ghost use Rattle.std.specs.Prelude.{◌≡◌, ◌≢◌, ◌<◌, ℕ, Some, None, IfSome};
+ghost use Rattle.ist_core.specs.RowLayout.{change_words};
+ghost use Rattle.ist_core.specs.References.{ChangeAt, RebuildAt, LeafAt, ref_of};
+ghost use Rattle.ist_layout.specs.Meanings.{ref_meant};
+ghost use Rattle.ist_find.specs.Reads.{IsLeaf, IsChange, IsRebuild, Names, IsPlain, IsEnd};
+ghost use Rattle.ist_find.specs.Reads.{side_offset_of, TellsSide, TellsTarget, TellsValue};
+
+use ist_layout::{
+    CHANGE_DECISION_OFFSET, CHANGE_FROM_OFFSET, CHANGE_TO_OFFSET, DECIDED_YES, LEAF_KEY_OFFSET,
+    LEAF_VALUE_OFFSET, REBUILD_TARGET_OFFSET, Ref,
+};
+use ist_rule::{TreeSeat, TreeTable, know, load};
+
+// Which word of a change its slot reads as, where this is its decision.
+fn side_offset(decision: u64) -> u64
+    ensures value { result ≡ side_offset_of decision }
+    ensures within { result < change_words }
+{
+    if decision == DECIDED_YES {
+        CHANGE_TO_OFFSET
+    } else {
+        CHANGE_FROM_OFFSET
+    }
+}
+
+// The base of the change that the word names, if it names one.
+fn change_in(word: u64) -> Option<u32>
+    ensures some { IfSome result (λ base. ref_of word ≡ Some (ChangeAt base)) }
+    ensures none { result ≡ None → IsPlain (ref_of word) }
+{
+    match Ref::from_word(word) {
+        Some(Ref::Change { base }) => Some(base),
+        _ => None,
+    }
+}
+
+// What the slot of the change at `base` reads as: `to` where the change was decided yes at the
+// first step of this call, and otherwise `from`.
+fn side(table: &TreeTable, seat: &mut TreeSeat, word: u64, base: u32) -> u64
+    requires same_table { seat.old.table ≡ table.now.table }
+    requires change { ref_of word ≡ Some (ChangeAt base) }
+    requires row { IsChange seat.old.view base }
+    ensures same_table { seat.new.table ≡ seat.old.table }
+    ensures side { TellsSide seat.old.view seat.new.view word result }
+{
+    know(seat);
+    let decision = load(table, seat, u64::from(base) + CHANGE_DECISION_OFFSET);
+    know(seat);
+    load(table, seat, u64::from(base) + side_offset(decision))
+}
+
+/// What the word of a slot reads as once changes are read away.
+pub(crate) fn past_change(table: &TreeTable, seat: &mut TreeSeat, word: u64) -> u64
+    requires same_table { seat.old.table ≡ table.now.table }
+    requires names { Names seat.old.view (ref_of word) }
+    ensures same_table { seat.new.table ≡ seat.old.table }
+    ensures side { TellsSide seat.old.view seat.new.view word result }
+{
+    know(seat);
+    match change_in(word) {
+        Some(base) => side(table, seat, word, base),
+        None => word,
+    }
+}
+
+// The base of the rebuild that the word names, if it names one.
+fn rebuild_in(word: u64) -> Option<u32>
+    ensures some { IfSome result (λ base. ref_of word ≡ Some (RebuildAt base)) }
+    ensures none { result ≡ None → (base : ℕ) → ref_of word ≢ Some (RebuildAt base) }
+{
+    match Ref::from_word(word) {
+        Some(Ref::Rebuild { base }) => Some(base),
+        _ => None,
+    }
+}
+
+// The reference that the word names.
+fn named(word: u64) -> Ref
+    requires named { ref_of word ≢ None }
+    ensures value { ref_of word ≡ Some (ref_meant result) }
+{
+    match Ref::from_word(word) {
+        Some(reference) => reference,
+        None => Ref::Empty,
+    }
+}
+
+// The target of the rebuild at `base`.
+fn target(table: &TreeTable, seat: &mut TreeSeat, word: u64, base: u32) -> Ref
+    requires same_table { seat.old.table ≡ table.now.table }
+    requires rebuild { ref_of word ≡ Some (RebuildAt base) }
+    requires row { IsRebuild seat.old.view base }
+    ensures same_table { seat.new.table ≡ seat.old.table }
+    ensures target { TellsTarget seat.old.view seat.new.view word (ref_meant result) }
+{
+    know(seat);
+    let target = load(table, seat, u64::from(base) + REBUILD_TARGET_OFFSET);
+    know(seat);
+    Ref::Inner {
+        base: target as u32,
+    }
+}
+
+/// What such a word reads as once rebuilds are read away too.
+pub(crate) fn past_rebuild(table: &TreeTable, seat: &mut TreeSeat, word: u64) -> Ref
+    requires same_table { seat.old.table ≡ table.now.table }
+    requires names { Names seat.old.view (ref_of word) }
+    requires plain { IsPlain (ref_of word) }
+    ensures same_table { seat.new.table ≡ seat.old.table }
+    ensures target { TellsTarget seat.old.view seat.new.view word (ref_meant result) }
+{
+    know(seat);
+    match rebuild_in(word) {
+        Some(base) => target(table, seat, word, base),
+        None => named(word),
+    }
+}
+
+// The base of the leaf, if the reference is one.
+fn leaf_in(reference: Ref) -> Option<u32>
+    ensures some { IfSome result (λ base. ref_meant reference ≡ LeafAt base) }
+    ensures none { result ≡ None → (base : ℕ) → ref_meant reference ≢ LeafAt base }
+{
+    match reference {
+        Ref::Leaf { base } => Some(base),
+        _ => None,
+    }
+}
+
+// The value that the leaf gives the key.
+fn leaf_value(table: &TreeTable, seat: &mut TreeSeat, base: u32, key: u64) -> Option<u64>
+    requires same_table { seat.old.table ≡ table.now.table }
+    requires leaf { IsLeaf seat.old.view base }
+    ensures same_table { seat.new.table ≡ seat.old.table }
+    ensures value { TellsValue seat.old.view seat.new.view key (LeafAt base) result }
+{
+    know(seat);
+    if load(table, seat, u64::from(base) + LEAF_KEY_OFFSET) != key {
+        return None;
+    }
+    know(seat);
+    Some(load(table, seat, u64::from(base) + LEAF_VALUE_OFFSET))
+}
+
+/// The value that nothing, or a leaf, gives the key.
+pub(crate) fn value_in(
+    table: &TreeTable,
+    seat: &mut TreeSeat,
+    reference: Ref,
+    key: u64,
+) -> Option<u64>
+    requires same_table { seat.old.table ≡ table.now.table }
+    requires end { IsEnd seat.old.view (ref_meant reference) }
+    ensures same_table { seat.new.table ≡ seat.old.table }
+    ensures value { TellsValue seat.old.view seat.new.view key (ref_meant reference) result }
+{
+    know(seat);
+    match leaf_in(reference) {
+        Some(base) => leaf_value(table, seat, base, key),
+        None => None,
+    }
+}
