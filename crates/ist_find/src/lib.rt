@@ -9,6 +9,8 @@ mod children;
 mod finding;
 mod keys;
 mod reading;
+#[cfg(test)]
+mod tests;
 
 pub use answers::{Child, Found};
 pub use children::child_at;
