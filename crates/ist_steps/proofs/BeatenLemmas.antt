@@ -32,7 +32,7 @@ use Rattle.ist_steps.proofs.SizeLemmas.{IsRootSizes, root_sizes, root_sizes_once
 -- ---- logs
 
 -- an event of another ends no build of the caller
-others_build : (number : ℕ) (event : Event) → rule.author event ≢ Caller number
+pub others_build : (number : ℕ) (event : Event) → rule.author event ≢ Caller number
     → ¬ (EndsBuild number event)
 others_build number (Root c rebuild word rows) other = λ is. other (ap Caller is)
 others_build number (Place c rebuild i word rows) other = λ is. other (ap Caller is)

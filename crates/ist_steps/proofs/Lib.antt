@@ -9,3 +9,4 @@ pub mod PlacedLemmas
 pub mod FilledLemmas
 pub mod PartLemmas
 pub mod GoingLemmas
+pub mod SeenLemmas

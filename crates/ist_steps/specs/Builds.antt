@@ -24,8 +24,9 @@ use Rattle.ist_rule.specs.declared.view.View.{View}
 use Rattle.ist_rule.specs.declared.view.Who.TheVariants.{Caller}
 use Rattle.ist_rule.specs.Shown.{IsShown}
 use Rattle.ist_rule.specs.Rule.{IsSound}
-use Rattle.ist_rule.specs.Learning.{now}
-use Rattle.ist_rule.specs.Conditions.{StoredAll, CanExchange, CanExchangeOrLose}
+use Rattle.ist_rule.specs.Learning.{now, Looked}
+use Rattle.ist_rule.specs.Conditions.{IsKnown, StoredAll, CanExchange, CanExchangeOrLose}
+use Rattle.ist_steps.specs.Going.{WentOn}
 
 -- ---- what a seat has built
 
@@ -89,6 +90,19 @@ pub record WasUnset (v : View) (caller place : ℕ) : Type 0 where
   pub shown : IsShown (state_of v.start v.words prefix) place unset_word
 
 -- ---- the laws
+
+-- a load that gives Unset at a place that all know has seen it
+abbrev pub UnsetIsSeen : Type 0
+UnsetIsSeen =
+    (v w : View) (caller place : ℕ) → IsKnown v place → Looked v place unset_word w
+    → WasUnset w caller place
+
+-- it was so still when the caller has made loads, and events but a Root, a Place and a Lose
+abbrev pub UnsetStaysSeen : Type 0
+UnsetStaysSeen =
+    (v w : View) (caller place : ℕ) → v.who ≡ Caller caller
+    → WentOn (λ event. ¬ (EndsBuild caller event)) v w → WasUnset v caller place
+    → WasUnset w caller place
 
 -- an exchange of the root word may be the Root of what was built
 abbrev pub RootsCome : Type 0

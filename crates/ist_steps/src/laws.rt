@@ -2,6 +2,7 @@
 ghost use Rattle.ist_steps.specs.Coming.{EnabledEventsCome, CountsCome, DrawsCome};
 ghost use Rattle.ist_steps.specs.Coming.{GoneWordsAreMissed, RowsAreKnown, OpenIsGone, MarkIsGone};
 ghost use Rattle.ist_steps.specs.Builds.{RootsCome, RootsComeOrLose, PartsCome, PartsComeOrLose};
+ghost use Rattle.ist_steps.specs.Builds.{UnsetIsSeen, UnsetStaysSeen};
 
 /// What is enabled in the log that a seat has seen it may come to make, whatever others do
 /// meanwhile: an exchange where the word still stands, and a Count or a Draw whatever stands.
@@ -28,11 +29,14 @@ pub fn gone_words_are_missed()
 /// Unset still. Where it isn't, and was so when the caller looked, another has put a build of the
 /// same sizes there: then the exchange that fails is the loss of the rows.
 ///
-/// The caller looked behind its last Root, Place or Lose. A root over no key or over one has no
+/// The caller looked behind its last Root, Place or Lose: a load gave Unset, and since then it has
+/// made loads and other events. A root over no key or over one has no
 /// rows, so that there is nothing to lose, and an exchange that fails is a load.
 pub fn builds_come()
     ensures root { RootsCome }
     ensures root_or_lose { RootsComeOrLose }
     ensures part { PartsCome }
     ensures part_or_lose { PartsComeOrLose }
+    ensures seen { UnsetIsSeen }
+    ensures still_seen { UnsetStaysSeen }
 {}

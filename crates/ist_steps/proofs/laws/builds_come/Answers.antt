@@ -1,5 +1,6 @@
 use Rattle.ist_steps.proofs.PartLemmas.{part_comes, part_comes_or_loses}
 use Rattle.ist_steps.proofs.RootLemmas.{root_comes, root_comes_or_loses}
+use Rattle.ist_steps.proofs.SeenLemmas.{unset_seen, unset_still}
 use Rattle.ist_steps.proofs.laws.builds_come.Goals as goal
 
 pub returns : goal.returns
@@ -13,4 +14,6 @@ returns c =
           part_comes v s number rebuild i word rows mine stored b place at;
       part_or_lose = λ v s number rebuild i word rows mine stored b place at was.
           part_comes_or_loses v s number rebuild i word rows mine stored b place at was;
+      seen = λ v w caller place known l. unset_seen v w caller place known l;
+      still_seen = λ v w caller place mine g was. unset_still v w caller place mine g was;
     }
