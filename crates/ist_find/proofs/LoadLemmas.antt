@@ -1,5 +1,5 @@
 -- What a seat's loads tell the laws on searches, which speak of one log. Serves `reading` and `finding`.
-use Rattle.std.proofs.Common.{◌≡◌, ℕ, ◌≤◌, List, length, refl, sym, ap, ◌∙◌, subst, le_refl, arith}
+use Rattle.std.proofs.Common.{◌≡◌, ℕ, ◌≤◌, List, length, refl, sym, ap, subst, le_refl, arith}
 use Rattle.ist_core.specs.declared.pairs.Pair.{Pair}
 use Rattle.ist_core.specs.RowLayout.{anchor_slot_place}
 use Rattle.ist_core.specs.Snapshots.{Snapshot}

@@ -1,5 +1,5 @@
 -- Looks at slots and the nodes that a search comes to, by what a seat has loaded. Serves `finding`.
-use Rattle.std.proofs.Common.{◌≡◌, ◌≢◌, ℕ, ◌+◌, ◌<◌, ◌≤◌, ◌⊎◌, List, length, Option, Some, refl, sym, ap, ◌∙◌, subst, le_refl, ⊎_elim, inl, inr, arith}
+use Rattle.std.proofs.Common.{◌≡◌, ◌≢◌, ℕ, ◌≤◌, ◌⊎◌, List, length, Some, refl, sym, subst, inl, inr}
 use Rattle.std.proofs.Math.Nat.{le_trans}
 use Rattle.ist_core.specs.declared.pairs.Pair.{Pair}
 use Rattle.ist_core.specs.declared.states.InnerRow.{InnerRow}
@@ -10,7 +10,7 @@ use Rattle.ist_core.specs.StartLayout.{start}
 use Rattle.ist_core.specs.Logs.{Log, GoesOn}
 use Rattle.ist_core.specs.Slots.{SlotHolds, IsChildFor}
 use Rattle.ist_core.specs.Writing.{place_of_slot}
-use Rattle.ist_core.specs.Lawful.{Lawful, EachEnabled, state_of}
+use Rattle.ist_core.specs.Lawful.{EachEnabled, state_of}
 use Rattle.ist_core.proofs.FateLemmas.{enabled_before}
 use Rattle.ist_core.proofs.NamingLemmas.{slot_names}
 use Rattle.ist_core.proofs.OrderLemmas.{names}
@@ -21,13 +21,13 @@ use Rattle.ist_rule.specs.Learning.{now, GoesOnTo}
 use Rattle.ist_rule.proofs.GoingOnLemmas.{goes_on_more}
 use Rattle.ist_dcss.proofs.SlotPlaceLemmas.{shown_in_slot}
 use Rattle.ist_histories.specs.Loads.{Load, log_at, IsLoad}
-use Rattle.ist_histories.specs.Searching.{ReadsSide, no_change, by_to, by_from, ReadsTarget, no_rebuild, by_target, LooksAt, ComesTo, goes_down}
+use Rattle.ist_histories.specs.Searching.{ReadsSide, no_change, by_to, by_from, ComesTo, goes_down}
 use Rattle.ist_histories.proofs.LoadOnLemmas.{at_on, at_prefix, load_on, come_on}
 use Rattle.ist_histories.proofs.LoadLemmas.{look_of, comes_of}
 use Rattle.ist_histories.proofs.SearchLemmas.{seen, leads_linked, there_on}
 use Rattle.ist_histories.proofs.PositionLemmas.{node_met, look_up}
 use Rattle.ist_histories.proofs.NeededLemmas.{all_needed}
-use Rattle.ist_find.specs.Searches.{IsRow, IsNode, is_anchor, is_row}
+use Rattle.ist_find.specs.Searches.{IsNode, is_anchor, is_row}
 use Rattle.ist_find.specs.Reads.{Names, IsFoundAs, IsReached, IsEnd, TellsSide, TellsTarget, HasCome, HasLooked}
 use Rattle.ist_find.proofs.LoadLemmas.{by_table, goes_log, goes_length, shown_load}
 use Rattle.ist_find.proofs.ReadLemmas.{slot_named}

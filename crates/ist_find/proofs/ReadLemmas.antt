@@ -1,12 +1,11 @@
 -- What a word reads as, by the loads of its change, its rebuild or its leaf. Serves `reading`.
-use Rattle.std.proofs.Common.{◌≡◌, ◌≢◌, ℕ, ◌+◌, ◌<◌, ◌≤◌, ◌==◌, ◌⊎◌, Bool, true, false, if◌then◌else◌, length, slice_get, Option, Some, None, refl, sym, ap, ◌∙◌, subst, le_refl, ⊎_elim, inl, inr, arith}
+use Rattle.std.proofs.Common.{◌≡◌, ◌≢◌, ℕ, ◌+◌, ◌≤◌, ◌==◌, Bool, true, false, if◌then◌else◌, length, slice_get, Option, Some, None, refl, sym, ap, ◌∙◌, subst, le_refl, ⊎_elim}
 use Rattle.std.proofs.lemmas.Bool.Decides.{eqb_tells}
 use Rattle.std.proofs.Math.Nat.{le_trans}
-use Rattle.ist_core.specs.declared.states.ChangeRow.{ChangeRow}
 use Rattle.ist_core.specs.RowLayout.{change_decision_offset, change_from_offset, change_to_offset, rebuild_target_offset, leaf_key_offset, leaf_value_offset}
 use Rattle.ist_core.specs.References.{Ref, Empty, Unset, LeafAt, InnerAt, ChangeAt, RebuildAt, ref_of}
 use Rattle.ist_core.specs.Statuses.{decided_yes}
-use Rattle.ist_core.specs.Pieces.{Pieces, Leaf, Change, Rebuild, words_of}
+use Rattle.ist_core.specs.Pieces.{Change, Rebuild, words_of}
 use Rattle.ist_core.proofs.GrowingLemmas.{leaf_there, change_there, rebuild_there}
 use Rattle.ist_core.proofs.NamingLemmas.{SideNames, SlotNames, InnerHere}
 use Rattle.ist_core.proofs.OrderLemmas.{names}

@@ -1,16 +1,14 @@
 -- Published rows stay as a seat goes on by loads, and where their words lie. Serves `keys` and `children`.
-use Rattle.std.proofs.Common.{◌≡◌, ◌≢◌, ℕ, zero, suc, ◌+◌, ◌<◌, ◌≤◌, List, [], ◌∷◌, ◌++◌, length, slice_get, get_or, Some, refl, sym, ap, ◌∙◌, subst, arith, length-append}
+use Rattle.std.proofs.Common.{◌≡◌, ℕ, zero, suc, ◌+◌, ◌<◌, ◌≤◌, List, [], ◌∷◌, ◌++◌, length, slice_get, get_or, Some, refl, sym, ap, ◌∙◌, subst, arith, length-append}
 use Rattle.std.proofs.lemmas.Option.{slice_get-get_or}
 use Rattle.std.specs.List.Sorted.{IsStrictlyIncreasing}
-use Rattle.ist_core.specs.declared.states.InnerRow.{InnerRow}
-use Rattle.ist_core.specs.RowLayout.{place_limit, anchor, first_row, inner_degree_offset, key_place, slot_place}
+use Rattle.ist_core.specs.RowLayout.{place_limit, inner_degree_offset, key_place, slot_place}
 use Rattle.ist_core.specs.Arithmetic.{child_count}
-use Rattle.ist_core.specs.Pieces.{Piece, Inner, words_of, size_of, as_inner}
+use Rattle.ist_core.specs.Pieces.{Inner, size_of, as_inner}
 use Rattle.ist_core.specs.Growing.{AllGrow}
-use Rattle.ist_core.specs.Naming.{HasDegree}
 use Rattle.ist_core.specs.Slots.{SlotHolds, in_row, IsChildFor, of_row}
 use Rattle.ist_core.proofs.GrowingLemmas.{inner_there}
-use Rattle.ist_core.proofs.ImageLemmas.{get_below, get-words_of_slot}
+use Rattle.ist_core.proofs.ImageLemmas.{get-words_of_slot}
 use Rattle.ist_core.proofs.KeyLemmas.{keys_rising}
 use Rattle.ist_core.proofs.LeafOrderLemmas.{next_from_rising}
 use Rattle.ist_rule.specs.declared.view.View.{View}

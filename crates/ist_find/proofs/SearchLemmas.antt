@@ -1,5 +1,5 @@
 -- A search from its begin to its end, as its seat knows it. Serves `find_from_anchor`.
-use Rattle.std.proofs.Common.{◌≡◌, ℕ, suc, ◌+◌, ◌-◌, ◌<◌, ◌≤◌, List, ◌∷◌, drop, length, Option, refl, sym, ap, ap₂, ◌∙◌, subst, le_refl, arith}
+use Rattle.std.proofs.Common.{◌≡◌, ℕ, suc, ◌-◌, ◌≤◌, List, ◌∷◌, drop, length, Option, refl, sym, ap, ◌∙◌, subst, arith}
 use Rattle.std.proofs.Math.Nat.{le_trans}
 use Rattle.ist_core.specs.declared.pairs.Pair.{Pair}
 use Rattle.ist_core.specs.Arithmetic.{child_count}
@@ -20,14 +20,14 @@ use Rattle.ist_rule.specs.Rule.{IsSound}
 use Rattle.ist_rule.specs.Learning.{now, GoesOnTo, Turned, searching}
 use Rattle.ist_rule.proofs.LaterLemmas.{later_more, later-goes_on}
 use Rattle.ist_rule.specs.Authors.{Later}
-use Rattle.ist_histories.specs.Loads.{Load, log_at, IsLoad}
-use Rattle.ist_histories.specs.Searching.{ReadsTarget, no_rebuild, by_target, ReadsValue, LooksAt, ComesTo, begins, Searched, HasPosition}
+use Rattle.ist_histories.specs.Loads.{log_at, IsLoad}
+use Rattle.ist_histories.specs.Searching.{ReadsTarget, no_rebuild, by_target, LooksAt, ComesTo, begins, HasPosition}
 use Rattle.ist_histories.proofs.ChangeLemmas.{changes_rise}
 use Rattle.ist_histories.proofs.LoadOnLemmas.{at_on, at_prefix, load_on, come_on}
 use Rattle.ist_histories.proofs.PositionLemmas.{search_position, node_met}
 use Rattle.ist_find.specs.Searches.{HasSearched, HasFound}
 use Rattle.ist_find.specs.Reads.{HasCome, HasLooked, TellsValue}
-use Rattle.ist_find.proofs.LoadLemmas.{by_table, goes_log, goes_length, length_rises}
+use Rattle.ist_find.proofs.LoadLemmas.{by_table, goes_log, length_rises}
 use Rattle.ist_find.proofs.LookLemmas.{side_later}
 
 -- ---- the begin

@@ -1,7 +1,7 @@
-use Rattle.std.proofs.Common.{◌≡◌, ◌+◌, ◌<◌, ◌≤◌, ◌∙◌, length, sym, ap, arith}
+use Rattle.std.proofs.Common.{◌∙◌, length, sym, ap, arith}
 use Rattle.ist_core.specs.Arithmetic.{child_count}
 use Rattle.ist_rule.proofs.GoingOnLemmas.{goes_on_more, looked_goes_on}
-use Rattle.ist_find.specs.Searches.{keys_at, guess_in, distance}
+use Rattle.ist_find.specs.Searches.{guess_in, distance}
 use Rattle.ist_find.proofs.RowLemmas.{row_on, keys_on, knows_row, slot_told, child_is}
 use Rattle.ist_find.proofs.children.child_at.Goals as goal
 

@@ -1,4 +1,4 @@
-use Rattle.std.proofs.Common.{◌≡◌, refl, sym}
+use Rattle.std.proofs.Common.{refl, sym}
 use Rattle.ist_core.specs.Slots.{in_anchor}
 use Rattle.ist_rule.specs.Shown.{shown_slot}
 use Rattle.ist_rule.proofs.GoingOnLemmas.{looked_goes_on}

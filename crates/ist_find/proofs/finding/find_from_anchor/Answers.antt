@@ -1,4 +1,4 @@
-use Rattle.std.proofs.Common.{◌≡◌, ℕ, ◌+◌, ◌-◌, ◌<◌, ◌≤◌, ◌∙◌, refl, sym, ap, subst, arith}
+use Rattle.std.proofs.Common.{◌∙◌, refl, ap, subst, arith}
 use Rattle.ist_core.specs.Pieces.{Inner}
 use Rattle.ist_layout.specs.Meanings.{ref_meant}
 use Rattle.ist_rule.proofs.GoingOnLemmas.{goes_on_same, goes_on_more}

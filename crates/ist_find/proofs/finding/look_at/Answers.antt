@@ -1,4 +1,3 @@
-use Rattle.std.proofs.Common.{◌≡◌}
 use Rattle.ist_rule.proofs.GoingOnLemmas.{goes_on_more}
 use Rattle.ist_find.proofs.LookLemmas.{come_node, holds_named, look_told, look_reaches}
 use Rattle.ist_find.proofs.finding.look_at.Goals as goal

@@ -1,4 +1,4 @@
-use Rattle.std.proofs.Common.{◌≡◌, ◌+◌, ◌-◌, ◌<◌, ◌≤◌, ◌∙◌, length, get_or, refl, sym, ap, arith}
+use Rattle.std.proofs.Common.{◌-◌, ◌<◌, ◌≤◌, ◌∙◌, length, get_or, sym, ap, arith}
 use Rattle.ist_math.proofs.ChildLemmas.{child_count_is}
 use Rattle.ist_rule.proofs.GoingOnLemmas.{goes_on_same, goes_on_more}
 use Rattle.ist_find.specs.Searches.{keys_at}

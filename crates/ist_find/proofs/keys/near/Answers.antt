@@ -1,4 +1,4 @@
-use Rattle.std.proofs.Common.{◌≡◌, ℕ, ◌+◌, ◌-◌, ◌<◌, ◌≤◌, length, get_or, ◌∙◌, sym, ap, ap₂, subst, arith}
+use Rattle.std.proofs.Common.{◌≡◌, ◌-◌, length, get_or, ◌∙◌, sym, ap, ap₂, arith}
 use Rattle.ist_math.specs.Guess.{guess_of}
 use Rattle.ist_math.proofs.ChildLemmas.{first-lt-last}
 use Rattle.ist_rule.proofs.GoingOnLemmas.{goes_on_more}

@@ -1,5 +1,5 @@
 use Rattle.std.proofs.Common.{refl}
-use Rattle.ist_find.proofs.ReadLemmas.{rebuild_named, named_some, no_rebuild_told}
+use Rattle.ist_find.proofs.ReadLemmas.{no_rebuild_told}
 use Rattle.ist_find.proofs.reading.past_rebuild.Goals as goal
 
 -- a word that is no rebuild reads as what it names

@@ -1,4 +1,4 @@
-use Rattle.std.proofs.Common.{◌≡◌, ◌+◌, ◌<◌, ◌^◌, ◌∙◌, ap, arith}
+use Rattle.std.proofs.Common.{◌+◌, ◌<◌, ◌^◌, ap, arith}
 use Rattle.ist_core.specs.Pieces.{Inner, Rebuild}
 use Rattle.ist_dcss.proofs.FieldLemmas.{row_low}
 use Rattle.ist_find.proofs.ReadLemmas.{target_told}

@@ -1,15 +1,14 @@
-use Rattle.std.proofs.Common.{◌≡◌, ◌∷◌, [], zero, suc, map, length, Some, refl, subst, sym, ap, arith}
+use Rattle.std.proofs.Common.{◌∷◌, [], zero, suc, map, length, refl, subst, sym, arith}
 use Rattle.std.specs.Prelude.{IfOk, Result, Ok, Err}
 use Rattle.std.specs.List.Sorted.{IsStrictlyIncreasing}
 use Rattle.ist_core.specs.Arithmetic.{degree, square_root, root_up_to, part_len, part_lens}
 use Rattle.ist_core.specs.Shapes.{ideal_words, ideal_words_within}
-use Rattle.ist_core.specs.ExampleTables.{two_pairs, two_pairs_words}
+use Rattle.ist_core.specs.ExampleTables.{two_pairs}
 use Rattle.ist_core.specs.StartLayout.{start, rows_within}
 use Rattle.ist_core.specs.Images.{IsImage}
 use Rattle.ist_core.specs.Lawful.{CanOpen}
 use Rattle.ist_core.proofs.StartExampleLemmas.{two_pairs_open}
 use Rattle.ist_core.proofs.WordLemmas.{ideal_words_two}
-use Rattle.ist_rule.specs.Learning.{now}
 use Rattle.ist_rule.specs.Rule.{opened_view}
 use Rattle.ist_find.specs.Searches.{IsRow}
 use Rattle.ist_find.proofs.tests.two_pairs.Goals as goal
