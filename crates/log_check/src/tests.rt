@@ -44,7 +44,7 @@ fn broken(alloc: Global, text: &str, events: usize, other: &str) -> Result<Vec<u
 fn a_log_is_said_to_end_as_its_events_say(rt: HostRuntime) -> Result<(), Fail> {
     let alloc = rt.alloc();
     // the parts of the text, what is said of it
-    let cases: [(&[&str], &str); 13] = [
+    let cases: [(&[&str], &str); 15] = [
         (&["start 15\n", PUT], "ok next 15 callers 1 anchor 33"),
         (&["start 14\n", PUT], "unlawful 2"),
         (&[SMALL], "ok next 83 callers 2 anchor 322"),
@@ -75,6 +75,14 @@ fn a_log_is_said_to_end_as_its_events_say(rt: HostRuntime) -> Result<(), Fail> {
         (&["start 4"], "ok next 4 callers 0 anchor 0"),
         (&["start 16 5:7\n"], "ok next 6 callers 0 anchor 33"),
         (&["start 20 5:7 9:1\n"], "ok next 15 callers 0 anchor 34"),
+        (
+            &["start 33 1:1 2:2 3:3 4:4\n"],
+            "ok next 33 callers 0 anchor 34",
+        ),
+        (
+            &["start 82 1:1 2:2 3:3 4:4 5:5 6:6 7:7 8:8 9:9 10:10\n"],
+            "ok next 82 callers 0 anchor 34",
+        ),
     ];
     for (parts, want) in cases {
         let text = joined(alloc, parts)?;
