@@ -1,6 +1,8 @@
 -- What the checker knows behind the events so far.
 use Rattle.std.specs.Prelude.{ℕ, List, map}
 use Rattle.ist_core.specs.declared.pairs.Pair.{Pair}
+use Rattle.ist_core.specs.declared.events.Event.{Event}
+use Rattle.ist_core.specs.declared.events.Event.TheVariants.{Root, Place}
 use Rattle.ist_core.specs.StartLayout.{start}
 use Rattle.ist_core.specs.Logs.{Log}
 use Rattle.ist_core.specs.Lawful.{Lawful, state_of}
@@ -27,3 +29,9 @@ pub record Knows (replica : Replica) (past : Past) (pairs : List Pair) (words : 
   pub mirrors : Mirrors replica (state_of pairs words log)
   pub slots : KnowsSlots past.slots (start pairs words) log
   pub remembers : Remembers past pairs words log
+
+-- the event puts in what a caller has built
+abbrev pub IsBuild : Event → Type 0
+IsBuild (Root caller rebuild word rows) = Unit {0}
+IsBuild (Place caller rebuild i word rows) = Unit {0}
+IsBuild _ = ⊥

@@ -17,7 +17,7 @@ use std::alloc::Global;
 /// of `words` words that begins with these pairs; or which event is the first that may not come.
 ///
 /// An event may come where its enabling condition holds behind those before it. The answer for want
-/// of memory is free. An event costs about its own size and some look-ups, not the length of the log.
+/// of memory is free.
 pub fn check(alloc: Global, start: &[Pair], words: u32, log: &[Event]) -> Result<State, CheckFault>
     requires opens { CanOpen start.now words }
     ensures lawful { IfOk result (λ state. Lawful start.now words (reverse log.now)) }

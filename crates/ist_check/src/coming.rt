@@ -4,7 +4,7 @@ ghost use Rattle.ist_core.specs.declared.pairs.Pair.{Pair as APair};
 ghost use Rattle.ist_core.specs.StartLayout.{start};
 ghost use Rattle.ist_core.specs.Logs.{Log};
 ghost use Rattle.ist_core.specs.Enabled.{Enabled};
-ghost use Rattle.ist_check.specs.Knowing.{Knows};
+ghost use Rattle.ist_check.specs.Knowing.{Knows, IsBuild};
 
 use ist_core::Event;
 use ist_enabled::{
@@ -53,24 +53,58 @@ pub(crate) fn may_come(
         Event::Finish { caller, node, keys } => {
             Ok(can_finish(replica, past, *caller, *node, *keys))
         }
-        Event::Root {
-            caller: c,
-            rebuild: o,
-            word,
-            rows,
-        } => can_root(alloc, replica, past, *c, *o, *word, rows.as_slice()),
+        Event::Root { .. } => may_build(alloc, replica, past, event),
         Event::Draw {
             caller,
             rebuild,
             part,
         } => Ok(can_draw(replica, past, *caller, *rebuild, *part)),
+        Event::Place { .. } => may_build(alloc, replica, past, event),
+        Event::Lose { caller, bases } => can_lose(alloc, replica, past, *caller, bases.as_slice()),
+    }
+}
+
+/// May the root or the part come next?
+fn may_build(
+    alloc: Global,
+    replica: &Replica,
+    past: &Past,
+    event: &Event,
+) -> Result<bool, AllocError>
+    ensures exact { IfOk result (λ may. (pairs : List APair) → (words : ℕ) → (log : Log)
+        → Knows replica.now past.now pairs words log → IsBuild event.now
+        → (IsTrue may ↔ Enabled (start pairs words) log event.now)) }
+{
+    match event {
+        Event::Root {
+            caller,
+            rebuild,
+            word,
+            rows,
+        } => can_root(
+            alloc,
+            replica,
+            past,
+            *caller,
+            *rebuild,
+            *word,
+            rows.as_slice(),
+        ),
         Event::Place {
-            caller: c,
-            rebuild: o,
+            caller,
+            rebuild,
             part,
             word,
             rows,
-        } => can_place(alloc, replica, *c, *o, *part, *word, rows.as_slice()),
-        Event::Lose { caller, bases } => can_lose(alloc, replica, past, *caller, bases.as_slice()),
+        } => can_place(
+            alloc,
+            replica,
+            *caller,
+            *rebuild,
+            *part,
+            *word,
+            rows.as_slice(),
+        ),
+        _ => Ok(false),
     }
 }

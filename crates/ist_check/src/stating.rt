@@ -29,7 +29,8 @@ pub(crate) fn state_of(alloc: Global, replica: Replica) -> Result<State, AllocEr
 /// The entries of the map, rising by key.
 fn entries_of<X: Drop>(alloc: Global, map: BTreeMap<u64, X>) -> Result<Vec<(u64, X)>, AllocError>
     ensures value { IfOk result (λ entries. entries.items ≡ map.entries) }
-    ensures rising { IfOk result (λ entries. IsStrictlyIncreasing (each_of (λ e. e.0) entries.items)) }
+    ensures rising { IfOk result (λ entries.
+        IsStrictlyIncreasing (each_of (λ e. e.0) entries.items)) }
 {
     map.into_iter().collect(alloc)
 }

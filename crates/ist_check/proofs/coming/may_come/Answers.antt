@@ -1,10 +1,11 @@
 use Rattle.std.proofs.Common.{◌↔◌, ◌∙◌, IsTrue, sym, ap, subst}
-use Rattle.ist_core.specs.declared.events.Event.TheVariants.{Install, Root, Place, Lose}
+use Rattle.ist_core.specs.declared.events.Event.TheVariants.{Install, Lose}
 use Rattle.ist_core.specs.StartLayout.{start}
 use Rattle.ist_core.specs.Lawful.{state_of}
 use Rattle.ist_core.specs.Enabled.{Enabled}
 use Rattle.ist_enabled.proofs.AnswerLemmas.{if_ok}
-use Rattle.ist_check.proofs.StandingLemmas.{keys_stay, rows_rise, held_are_free}
+use Rattle.ist_check.specs.Knowing.{IsBuild}
+use Rattle.ist_check.proofs.StandingLemmas.{keys_stay}
 use Rattle.ist_check.proofs.coming.may_come.Goals as goal
 
 pub returns-in-Enter : goal.returns-in-Enter
@@ -28,24 +29,18 @@ pub returns-in-Root : goal.returns-in-Root
 returns-in-Root c =
     record {
       exact =
-          if_ok c.can_root.result _ _
-          (λ may exact pairs words log knows.
-          let i = c.in-Root in
-          subst (λ e. IsTrue may ↔ Enabled (start pairs words) log e) (ap (Root i.c i.o i.word) c.as_slice-in-Root.ensures.value ∙ sym i.is)
-          (exact (state_of pairs words log) knows.mirrors knows.remembers.started (rows_rise pairs words log knows.lawful) (held_are_free pairs words log knows.lawful)))
-          c.can_root.ensures.exact;
+          if_ok c.may_build.result _ _
+          (λ may exact pairs words log knows. exact pairs words log knows (subst IsBuild (sym c.in-Root.is) tt))
+          c.may_build.ensures.exact;
     }
 
 pub returns-in-Place : goal.returns-in-Place
 returns-in-Place c =
     record {
       exact =
-          if_ok c.can_place.result _ _
-          (λ may exact pairs words log knows.
-          let i = c.in-Place in
-          subst (λ e. IsTrue may ↔ Enabled (start pairs words) log e) (ap (Place i.c i.o i.part i.word) c.as_slice-in-Place.ensures.value ∙ sym i.is)
-          (exact (state_of pairs words log) knows.mirrors (rows_rise pairs words log knows.lawful) (held_are_free pairs words log knows.lawful)))
-          c.can_place.ensures.exact;
+          if_ok c.may_build-in-Place.result _ _
+          (λ may exact pairs words log knows. exact pairs words log knows (subst IsBuild (sym c.in-Place.is) tt))
+          c.may_build-in-Place.ensures.exact;
     }
 
 pub returns-in-Lose : goal.returns-in-Lose
