@@ -1,4 +1,5 @@
--- Events that publish rows: what stood there stays, and the rest is new. Serves each law that speaks of rows.
+-- Events that publish rows: what stood there stays, and the rest is new. Serves each law that
+-- speaks of rows.
 use Rattle.std.proofs.Common.{◌≡◌, ℕ, ◌⊎◌, List, ◌∷◌, length, Option, Some, None, ◌∙◌, subst, inl, inr, ⊎_elim}
 use Rattle.ist_core.specs.declared.lists.Row.{Row}
 use Rattle.ist_core.specs.declared.states.ChangeRow.{ChangeRow}
@@ -26,14 +27,16 @@ pub held_free : (t : Snapshot) (caller : ℕ) (rows : List Row) → HoldsRows t 
 held_free t caller rows holds sound base i =
     let it = row_among base rows i in
     subst (λ b. t.pieces b ≡ None) it.2
-    (sound.unpublished record { caller = caller; base = it.0.base; size = length it.0.words } (each-among (λ x. HoldsRow t caller x.base (length x.words)) it.0 rows holds it.1))
+    (sound.unpublished record { caller = caller; base = it.0.base; size = length it.0.words }
+    (each-among (λ x. HoldsRow t caller x.base (length x.words)) it.0 rows holds it.1))
 
 -- where held rows are published, what stood there stays
 pub held_keeps : (t : Snapshot) (caller : ℕ) (rows : List Row) (qs : Pieces)
     → HoldsRows t caller rows → IsSound t
     → ((base : ℕ) → ¬ (Among base (bases_of rows)) → qs base ≡ t.pieces base)
     → (base : ℕ) (p : Piece) → t.pieces base ≡ Some p → qs base ≡ Some p
-held_keeps t caller rows qs holds sound others base p e = others base (λ i. clash (t.pieces base) (held_free t caller rows holds sound base i) e) ∙ e
+held_keeps t caller rows qs holds sound others base p e = others base
+    (λ i. clash (t.pieces base) (held_free t caller rows holds sound base i) e) ∙ e
   where
     clash : (o : Option Piece) → o ≡ None → o ≡ Some p → ⊥
     clash o a b = cc
@@ -43,19 +46,23 @@ pub adds-with_inners : (t : Snapshot) (caller : ℕ) (rows : List Row) → Holds
     → IsSound t → Adds t.pieces (with_inners t.pieces rows) (λ base p. Among base (bases_of rows))
 adds-with_inners t caller rows holds sound =
     record {
-      keeps = held_keeps t caller rows (with_inners t.pieces rows) holds sound (with_inners-other t.pieces rows);
+      keeps = held_keeps t caller rows (with_inners t.pieces rows) holds sound
+          (with_inners-other t.pieces rows);
       from = λ base p e.
-          ⊎_elim (λ w. inr (subst (λ b. Among b (bases_of rows)) w.2 (base_among w.0 rows w.1))) (λ w. inl w) (with_inners-some t.pieces rows base p e);
+          ⊎_elim (λ w. inr (subst (λ b. Among b (bases_of rows)) w.2 (base_among w.0 rows w.1)))
+          (λ w. inl w) (with_inners-some t.pieces rows base p e);
     }
 
 -- the row is the change's, or one that it publishes beside its own
 abbrev pub IsInstalled : (first : Snapshot) (log : Log) (at : ℕ) (change : ChangeRow)
     (fresh : List Row)
     → FitsKind first log change fresh → ℕ → Piece → Type 0
-IsInstalled first log at change fresh fits base p = ((base ≡ at) × (p ≡ Change change)) ⊎ IsFresh first log change fresh fits base p
+IsInstalled first log at change fresh fits base p = ((base ≡ at) × (p ≡ Change change)) ⊎ IsFresh
+    first log change fresh fits base p
 
 -- the rows of an Install
-pub adds_install : (first : Snapshot) (log : Log) (caller at : ℕ) (change : ChangeRow) (fresh : List Row) (fits : FitsKind first log change fresh)
+pub adds_install : (first : Snapshot) (log : Log) (caller at : ℕ) (change : ChangeRow)
+    (fresh : List Row) (fits : FitsKind first log change fresh)
     → HoldsRows (state first log) caller (row_at at (Change change) ∷ fresh)
     → IsSound (state first log)
     → Adds (state first log).pieces (with_installed (state first log).pieces at change fresh)
@@ -63,11 +70,14 @@ pub adds_install : (first : Snapshot) (log : Log) (caller at : ℕ) (change : Ch
 adds_install first log caller at change fresh fits holds sound =
     let t = state first log in
     record {
-      keeps = held_keeps t caller (row_at at (Change change) ∷ fresh) (with_installed t.pieces at change fresh) holds sound (publishes_install t.pieces first log at change fresh fits).others;
+      keeps = held_keeps t caller (row_at at (Change change) ∷ fresh)
+          (with_installed t.pieces at change fresh) holds sound
+          (publishes_install t.pieces first log at change fresh fits).others;
       from = λ base p e.
           ⊎_elim
           (λ w. inr (inl (w.0, same p w.1)))
-          (λ w. ⊎_elim (λ v. inr (inr v)) (λ v. inl v) (fresh_from t.pieces first log change fresh fits base p w))
+          (λ w. ⊎_elim (λ v. inr (inr v)) (λ v. inl v)
+          (fresh_from t.pieces first log change fresh fits base p w))
           (with_row-some (with_fresh t.pieces change fresh) at base (Some (Change change)) p e);
     }
   where

@@ -1,4 +1,5 @@
--- Where each row behind an event comes from: it stood there and grew, or is born now. Serves the conjuncts that growing keeps.
+-- Where each row behind an event comes from: it stood there and grew, or is born now. Serves the
+-- conjuncts that growing keeps.
 use Rattle.std.proofs.Common.{◌≡◌, ℕ, ◌⊎◌, List, ◌∷◌, Option, Some, refl, sym, ap, subst, inl, inr, ⊎_elim}
 use Rattle.ist_core.specs.declared.lists.Row.{Row}
 use Rattle.ist_core.specs.declared.events.Event.{Event}
@@ -49,27 +50,32 @@ changed_comes : (first : Snapshot) (log : Log) (event : Event) (at : ℕ) (f : P
     → (base : ℕ) (q : Piece) → (state first (event ∷ log)).pieces base ≡ Some q
     → Comes first log event base q
 changed_comes first log event at f grows pieces base q e =
-    let it = changed_at-some (state first log).pieces at base f q (subst (λ ps. ps base ≡ Some q) pieces e) in
+    let it = changed_at-some (state first log).pieces at base f q
+    (subst (λ ps. ps base ≡ Some q) pieces e) in
     let on = grows base it.0 it.1 in
-    from_old it.0 it.1 (subst (λ x. Grows it.0 x) (same_piece ((state first (event ∷ log)).pieces base) on.0 q on.1 e) on.2)
+    from_old it.0 it.1 (subst (λ x. Grows it.0 x)
+    (same_piece ((state first (event ∷ log)).pieces base) on.0 q on.1 e) on.2)
 
 same_comes : (first : Snapshot) (log : Log) (event : Event)
     → (state first (event ∷ log)).pieces ≡ (state first log).pieces → (base : ℕ) (q : Piece)
     → (state first (event ∷ log)).pieces base ≡ Some q → Comes first log event base q
-same_comes first log event pieces base q e = from_old q (subst (λ ps. ps base ≡ Some q) pieces e) (grows_same q)
+same_comes first log event pieces base q e = from_old q (subst (λ ps. ps base ≡ Some q) pieces e)
+    (grows_same q)
 
 -- where rows are added and one is changed
 added_comes : (first : Snapshot) (log : Log) (event : Event) (qs : Pieces) (at : ℕ)
     (f : Piece → Piece)
     → AllGrow qs (state first (event ∷ log)).pieces
     → (state first (event ∷ log)).pieces ≡ changed_at qs at f
-    → ((base : ℕ) (p : Piece) → qs base ≡ Some p → ((state first log).pieces base ≡ Some p) ⊎ Born first log base p event)
+    → ((base : ℕ) (p : Piece) → qs base ≡ Some p → ((state first log).pieces base ≡ Some p) ⊎ Born
+    first log base p event)
     → (base : ℕ) (q : Piece) → (state first (event ∷ log)).pieces base ≡ Some q
     → Comes first log event base q
 added_comes first log event qs at f grows pieces from base q e =
     let it = changed_at-some qs at base f q (subst (λ ps. ps base ≡ Some q) pieces e) in
     let on = grows base it.0 it.1 in
-    let grew = subst (λ x. Grows it.0 x) (same_piece ((state first (event ∷ log)).pieces base) on.0 q on.1 e) on.2 in
+    let grew = subst (λ x. Grows it.0 x)
+    (same_piece ((state first (event ∷ log)).pieces base) on.0 q on.1 e) on.2 in
     ⊎_elim (λ old. from_old it.0 old grew) (λ born. from_born it.0 born grew) (from base it.0 it.1)
 
 install_comes : (first : Snapshot) (log : Log) (caller change : ℕ) (rows : List Row)
@@ -79,30 +85,40 @@ install_comes : (first : Snapshot) (log : Log) (caller change : ℕ) (rows : Lis
 install_comes first log caller change rows h s base q e =
     let t = state first log in
     let qs = with_installed t.pieces change h.change h.fresh in
-    let adds = adds_install first log caller change h.change h.fresh h.fits (holds_installed first log caller change rows h) s in
+    let adds = adds_install first log caller change h.change h.fresh h.fits
+    (holds_installed first log caller change rows h) s in
     let word = word_of (ChangeAt change) in
     let f = with_slot h.change.index word in
-    let there : changed_at qs h.change.node f base ≡ Some q = subst (λ xs. (after t (Install caller change xs)).pieces base ≡ Some q) h.rows_are e in
+    let there : changed_at qs h.change.node f base ≡ Some q = subst
+    (λ xs. (after t (Install caller change xs)).pieces base ≡ Some q) h.rows_are e in
     let it = changed_at-some qs h.change.node base f q there in
-    let on = all_grow-changed_at qs h.change.node f (λ p _. grows-with_slot h.change.index word p) base it.0 it.1 in
-    let grew = subst (λ x. Grows it.0 x) (same_piece (changed_at qs h.change.node f base) on.0 q on.1 there) on.2 in
-    ⊎_elim (λ old. from_old it.0 old grew) (λ born. from_born it.0 (by_install h born) grew) (adds.from base it.0 it.1)
+    let on = all_grow-changed_at qs h.change.node f (λ p _. grows-with_slot h.change.index word p)
+    base it.0 it.1 in
+    let grew = subst (λ x. Grows it.0 x)
+    (same_piece (changed_at qs h.change.node f base) on.0 q on.1 there) on.2 in
+    ⊎_elim (λ old. from_old it.0 old grew) (λ born. from_born it.0 (by_install h born) grew)
+    (adds.from base it.0 it.1)
 
 -- each row behind an enabled event comes from somewhere
 pub comes : (first : Snapshot) (log : Log) (event : Event) → Enabled first log event
     → IsSound (state first log) → (base : ℕ) (q : Piece)
     → (state first (event ∷ log)).pieces base ≡ Some q → Comes first log event base q
-comes first log (Install caller change rows) h s base q e = install_comes first log caller change rows h s base q e
+comes first log (Install caller change rows) h s base q e = install_comes first log caller change
+    rows h s base q e
 comes first log (Resolve caller change) h s base q e =
     let t = state first log in
-    changed_comes first log (Resolve caller change) h.change.node (with_slot h.change.index (side_of h.change)) (grow_step first log (Resolve caller change) h s)
+    changed_comes first log (Resolve caller change) h.change.node
+    (with_slot h.change.index (side_of h.change))
+    (grow_step first log (Resolve caller change) h s)
     (ap (λ u. u.pieces) (rows_resolved t caller change h)) base q e
 comes first log (Root caller rebuild word rows) h s base q e =
     let t = state first log in
     let qs = with_inners t.pieces rows in
     let adds = adds-with_inners t caller rows h.held s in
-    let grows : AllGrow qs (changed_at qs rebuild (with_root word)) = all_grow-changed_at qs rebuild (with_root word)
-    (λ p k. known (λ x. Grows x (with_root word x)) (qs rebuild) p (Rebuild h.row) k (adds.keeps rebuild (Rebuild h.row) h.published) (grows-with_root h.row word h.rootless)) in
+    let grows : AllGrow qs (changed_at qs rebuild (with_root word)) = all_grow-changed_at qs rebuild
+    (with_root word)
+    (λ p k. known (λ x. Grows x (with_root word x)) (qs rebuild) p (Rebuild h.row) k
+    (adds.keeps rebuild (Rebuild h.row) h.published) (grows-with_root h.row word h.rootless)) in
     added_comes first log (Root caller rebuild word rows) qs rebuild (with_root word) grows refl
     (λ b p k. ⊎_elim (λ old. inl old) (λ i. inr (by_root i k)) (adds.from b p k)) base q e
 comes first log (Place caller rebuild i word rows) h s base q e =
@@ -111,15 +127,28 @@ comes first log (Place caller rebuild i word rows) h s base q e =
     let adds = adds-with_inners t caller rows h.held s in
     let pieces = rows_placed t caller rebuild i word rows h in
     added_comes first log (Place caller rebuild i word rows) qs h.root (with_slot i word)
-    (subst (λ ps. AllGrow qs ps) (sym pieces) (all_grow-changed_at qs h.root (with_slot i word) (λ p _. grows-with_slot i word p))) pieces
+    (subst (λ ps. AllGrow qs ps) (sym pieces)
+    (all_grow-changed_at qs h.root (with_slot i word) (λ p _. grows-with_slot i word p))) pieces
     (λ b p k. ⊎_elim (λ old. inl old) (λ j. inr (by_place j k)) (adds.from b p k)) base q e
-comes first log (Decide caller change said) h s base q e = changed_comes first log (Decide caller change said) change (with_decision (decision_word said)) (grow_step first log (Decide caller change said) h s) refl base q e
-comes first log (Count caller node) h s base q e = changed_comes first log (Count caller node) node counted (grow_step first log (Count caller node) h s) refl base q e
-comes first log (Mark caller node) h s base q e = changed_comes first log (Mark caller node) node (with_status marked_word) (grow_step first log (Mark caller node) h s) refl base q e
-comes first log (Finish caller node keys) h s base q e = changed_comes first log (Finish caller node keys) node (with_status (finished_word keys)) (grow_step first log (Finish caller node keys) h s) refl base q e
-comes first log (Draw caller rebuild part) h s base q e = changed_comes first log (Draw caller rebuild part) rebuild drawn (grow_step first log (Draw caller rebuild part) h s) refl base q e
+comes first log (Decide caller change said) h s base q e = changed_comes first log
+    (Decide caller change said) change (with_decision (decision_word said))
+    (grow_step first log (Decide caller change said) h s) refl base q e
+comes first log (Count caller node) h s base q e = changed_comes first log (Count caller node) node
+    counted (grow_step first log (Count caller node) h s) refl base q e
+comes first log (Mark caller node) h s base q e = changed_comes first log (Mark caller node) node
+    (with_status marked_word) (grow_step first log (Mark caller node) h s) refl base q e
+comes first log (Finish caller node keys) h s base q e = changed_comes first log
+    (Finish caller node keys) node (with_status (finished_word keys))
+    (grow_step first log (Finish caller node keys) h s) refl base q e
+comes first log (Draw caller rebuild part) h s base q e = changed_comes first log
+    (Draw caller rebuild part) rebuild drawn (grow_step first log (Draw caller rebuild part) h s)
+    refl base q e
 comes first log (Enter caller) h s base q e = same_comes first log (Enter caller) refl base q e
-comes first log (Reserve caller b size) h s base q e = same_comes first log (Reserve caller b size) refl base q e
-comes first log (Okay caller change) h s base q e = same_comes first log (Okay caller change) refl base q e
-comes first log (Pass caller node i word) h s base q e = same_comes first log (Pass caller node i word) refl base q e
-comes first log (Lose caller bases) h s base q e = same_comes first log (Lose caller bases) refl base q e
+comes first log (Reserve caller b size) h s base q e = same_comes first log (Reserve caller b size)
+    refl base q e
+comes first log (Okay caller change) h s base q e = same_comes first log (Okay caller change) refl
+    base q e
+comes first log (Pass caller node i word) h s base q e = same_comes first log
+    (Pass caller node i word) refl base q e
+comes first log (Lose caller bases) h s base q e = same_comes first log (Lose caller bases) refl
+    base q e

@@ -23,21 +23,27 @@ chain_child t _ _ no_row row k = absurd k
 chain_child t _ _ (one_row {node = node} {child = child} {rows = rows} i chain is) row k =
     ⊎_elim
     (λ before. chain_child t node rows chain row before)
-    (λ last. ⊎_elim (λ e. (node, i, subst (λ b. IsChild t node i b) (sym e) is)) (λ none. absurd none) last)
+    (λ last. ⊎_elim (λ e. (node, i, subst (λ b. IsChild t node i b) (sym e) is))
+    (λ none. absurd none) last)
     (among-append row rows (child ∷ []) k)
 
 -- so that it is an inner row
 chain_inner : (t : Snapshot) (node row : ℕ) → WordsName t
     → (rows : List ℕ) × Chain t node rows × Among row rows → InnerHere t.pieces row
-chain_inner t node row names h = let it = chain_child t node h.0 h.1 row h.2 in mentioned_here t it.0 it.1 row names (child_mentioned t it.0 it.1 row names it.2)
+chain_inner t node row names h = let it = chain_child t node h.0 h.1 row h.2 in mentioned_here t
+    it.0 it.1 row names (child_mentioned t it.0 it.1 row names it.2)
 
 -- and is one still behind the log
 pub on_chain_inner : (pairs : List Pair) (words : ℕ) → CanOpen pairs words → (log : Log)
     → EachEnabled (start pairs words) log → (node row : ℕ)
     → WasOnChain (start pairs words) log node row
     → InnerHere (state_of pairs words log).pieces row
-on_chain_inner pairs words opens [] h node row was = chain_inner (start pairs words) node row (names pairs words opens [] h) was
-on_chain_inner pairs words opens (event ∷ log) h node row (inl now) = chain_inner (state_of pairs words (event ∷ log)) node row (names pairs words opens (event ∷ log) h) now
+on_chain_inner pairs words opens [] h node row was = chain_inner (start pairs words) node row
+    (names pairs words opens [] h) was
+on_chain_inner pairs words opens (event ∷ log) h node row (inl now) = chain_inner
+    (state_of pairs words (event ∷ log)) node row (names pairs words opens (event ∷ log) h) now
 on_chain_inner pairs words opens (event ∷ log) h node row (inr before) =
     inner_here_grows (state_of pairs words log).pieces (state_of pairs words (event ∷ log)).pieces
-    (grow_step (start pairs words) log event h.1 (sound (start pairs words) log (sound_start pairs words) h.0)) row (on_chain_inner pairs words opens log h.0 node row before)
+    (grow_step (start pairs words) log event h.1
+    (sound (start pairs words) log (sound_start pairs words) h.0)) row
+    (on_chain_inner pairs words opens log h.0 node row before)

@@ -1,4 +1,5 @@
--- A row counts no more than what was decided yes, so that no count reaches the end of a word. Serves `laws.counts_are_low`.
+-- A row counts no more than what was decided yes, so that no count reaches the end of a word.
+-- Serves `laws.counts_are_low`.
 use Rattle.std.proofs.Common.{◌≡◌, ◌≢◌, ℕ, ◌+◌, ◌≤◌, ◌⊎◌, ◌==◌, if◌then◌else◌, Bool, true, false, not, List, [], ◌∷◌, ◌++◌, length, filter, Option, Some, None, refl, sym, ap, ◌∙◌, subst, inl, inr, arith, length-append}
 use Rattle.std.proofs.lemmas.Bool.Decides.{nat_tests, eqb_tells}
 use Rattle.ist_core.specs.declared.pairs.Pair.{Pair}
@@ -35,11 +36,14 @@ counts node [] = 0
 counts node (Count caller at ∷ log) = if at == node then counts node log + 1 else counts node log
 counts node (_ ∷ log) = counts node log
 
--- the owners of changes that were decided yes and may be counted at the node still, one for each change
+-- the owners of changes that were decided yes and may be counted at the node still, one for each
+-- change
 unfoldable pub waiting : Snapshot → ℕ → Log → List ℕ
 waiting first node [] = []
-waiting first node (Decide caller base true ∷ log) = owner_of ((state first log).pieces base) ++ waiting first node log
-waiting first node (Count caller at ∷ log) = if at == node then drop_all caller (waiting first node log) else waiting first node log
+waiting first node (Decide caller base true ∷ log) = owner_of ((state first log).pieces base) ++
+    waiting first node log
+waiting first node (Count caller at ∷ log) = if at == node then drop_all caller
+    (waiting first node log) else waiting first node log
 waiting first node (_ ∷ log) = waiting first node log
 
 -- dropping shortens, and where the number stands in the list by one at least
@@ -61,11 +65,13 @@ drop_one x (y ∷ ys) i = at (λ j. drop_one x ys j) (y == x) (eqb_tells y x) i
         → length (drop_all x (y ∷ ys)) + 1 ≤ length (y ∷ ys)
     at again v (inl k) j =
         let rest = drop_shorter x ys in
-        subst (λ b. length (if not b then y ∷ drop_all x ys else drop_all x ys) + 1 ≤ length (y ∷ ys)) (sym k.0) (omega arith)
+        subst (λ b. length (if not b then y ∷ drop_all x ys else drop_all x ys) + 1 ≤ length
+        (y ∷ ys)) (sym k.0) (omega arith)
     at again v (inr k) (inl e) = absurd (k.1 (sym e))
     at again v (inr k) (inr j) =
         let rest = again j in
-        subst (λ b. length (if not b then y ∷ drop_all x ys else drop_all x ys) + 1 ≤ length (y ∷ ys)) (sym k.0) (omega arith)
+        subst (λ b. length (if not b then y ∷ drop_all x ys else drop_all x ys) + 1 ≤ length
+        (y ∷ ys)) (sym k.0) (omega arith)
 
 -- another number stays
 drop_keeps : (x c : ℕ) (xs : List ℕ) → c ≢ x → Among c xs → Among c (drop_all x xs)
@@ -92,19 +98,23 @@ module _ (pairs : List Pair) (words : ℕ) (node : ℕ) where
       → Among caller (waiting (start pairs words) node (event ∷ log))
   unfolding waiting
   waiting_on log (Decide c base true) caller none i =
-      among_right caller (owner_of ((state_of pairs words log).pieces base)) (waiting (start pairs words) node log) i
+      among_right caller (owner_of ((state_of pairs words log).pieces base))
+      (waiting (start pairs words) node log) i
   waiting_on log (Decide c base false) caller none i = i
   waiting_on log (Count c at) caller none i = here (at == node) (eqb_tells at node)
     where
       here : (v : Bool)
           → (((at == node) ≡ true) × (at ≡ node)) ⊎ (((at == node) ≡ false) × (at ≢ node))
           → Among caller
-          (if at == node then drop_all c (waiting (start pairs words) node log) else waiting (start pairs words) node log)
+          (if at == node then drop_all c (waiting (start pairs words) node log) else waiting
+          (start pairs words) node log)
       here v (inl k) =
-          subst (λ b. Among caller (if b then drop_all c (waiting (start pairs words) node log) else waiting (start pairs words) node log)) (sym k.0)
+          subst (λ b. Among caller (if b then drop_all c (waiting (start pairs words) node log) else
+          waiting (start pairs words) node log)) (sym k.0)
           (drop_keeps c caller (waiting (start pairs words) node log) (λ e. none (sym e, k.1)) i)
       here v (inr k) =
-          subst (λ b. Among caller (if b then drop_all c (waiting (start pairs words) node log) else waiting (start pairs words) node log)) (sym k.0) i
+          subst (λ b. Among caller (if b then drop_all c (waiting (start pairs words) node log) else
+          waiting (start pairs words) node log)) (sym k.0) i
   waiting_on log (Enter c) caller none i = i
   waiting_on log (Reserve c base size) caller none i = i
   waiting_on log (Install c change rows) caller none i = i
@@ -124,9 +134,12 @@ module _ (pairs : List Pair) (words : ℕ) (node : ℕ) where
       → Among caller (owner_of ((state_of pairs words earlier).pieces base))
       → Among caller (waiting (start pairs words) node (later ++ Decide by base true ∷ earlier))
   unfolding waiting
-  waits [] by base earlier caller none i = among_left caller (owner_of ((state_of pairs words earlier).pieces base)) (waiting (start pairs words) node earlier) i
+  waits [] by base earlier caller none i = among_left caller
+      (owner_of ((state_of pairs words earlier).pieces base))
+      (waiting (start pairs words) node earlier) i
   waits (event ∷ later) by base earlier caller none i =
-      waiting_on (later ++ Decide by base true ∷ earlier) event caller (λ k. none (inl k)) (waits later by base earlier caller (λ k. none (inr k)) i)
+      waiting_on (later ++ Decide by base true ∷ earlier) event caller (λ k. none (inl k))
+      (waits later by base earlier caller (λ k. none (inr k)) i)
 
   -- the log behind a prefix
   goes_on : (later earlier : Log) → GoesOn earlier (later ++ earlier)
@@ -140,12 +153,16 @@ module _ (pairs : List Pair) (words : ℕ) (node : ℕ) where
   counter_waits log caller h can =
       let earlier = can.earlier in
       let whole = Decide can.by can.base true ∷ earlier in
-      let on : GoesOn whole log = subst (λ l. GoesOn whole l) (sym can.log_is) (goes_on can.later whole) in
+      let on : GoesOn whole log = subst (λ l. GoesOn whole l) (sym can.log_is)
+      (goes_on can.later whole) in
       let before = enabled_before (start pairs words) whole log on h in
       let stood = before.1.pending.published in
       let now = change_there (state_of pairs words earlier).pieces (state_of pairs words log).pieces
-      (grow_between pairs words earlier log h (further earlier whole log (one_event (Decide can.by can.base true) same_log) on)) can.base before.1.change stood in
-      let owner = same_owner ((state_of pairs words log).pieces can.base) before.1.change now.0 can.update.change caller now.2 now.1 can.update.published can.update.owned in
+      (grow_between pairs words earlier log h
+      (further earlier whole log (one_event (Decide can.by can.base true) same_log) on))
+      can.base before.1.change stood in
+      let owner = same_owner ((state_of pairs words log).pieces can.base) before.1.change now.0
+      can.update.change caller now.2 now.1 can.update.published can.update.owned in
       subst (λ l. Among caller (waiting (start pairs words) node l)) (sym can.log_is)
       (waits can.later can.by can.base earlier caller can.uncounted
       (subst (λ o. Among caller (owner_of o)) (sym stood) (inl (sym owner))))
@@ -170,26 +187,35 @@ module _ (pairs : List Pair) (words : ℕ) (node : ℕ) where
   counts_few (Decide c base true ∷ log) h =
       let before = counts_few log h.0 in
       let few = owner_few ((state_of pairs words log).pieces base) in
-      let both = length-append (owner_of ((state_of pairs words log).pieces base)) (waiting (start pairs words) node log) in
+      let both = length-append (owner_of ((state_of pairs words log).pieces base))
+      (waiting (start pairs words) node log) in
       omega arith
   counts_few (Decide c base false ∷ log) h = counts_few log h.0
-  counts_few (Count c at ∷ log) h = here (counts_few log h.0) (λ e. drop_one c (waiting (start pairs words) node log) (counter_waits log c h.0 (subst (λ n. CanCount (start pairs words) log c n) e h.1))) (at == node) (eqb_tells at node)
+  counts_few (Count c at ∷ log) h = here (counts_few log h.0)
+      (λ e. drop_one c (waiting (start pairs words) node log)
+      (counter_waits log c h.0 (subst (λ n. CanCount (start pairs words) log c n) e h.1)))
+      (at == node) (eqb_tells at node)
     where
-      here : counts node log + length (waiting (start pairs words) node log) ≤ length (decided_yes_in log)
-          → (at ≡ node → length (drop_all c (waiting (start pairs words) node log)) + 1 ≤ length (waiting (start pairs words) node log))
+      here : counts node log + length (waiting (start pairs words) node log) ≤ length
+          (decided_yes_in log)
+          → (at ≡ node → length (drop_all c (waiting (start pairs words) node log)) + 1 ≤ length
+          (waiting (start pairs words) node log))
           → (v : Bool)
           → (((at == node) ≡ true) × (at ≡ node)) ⊎ (((at == node) ≡ false) × (at ≢ node))
           → (if at == node then counts node log + 1 else counts node log)
-          + length (if at == node then drop_all c (waiting (start pairs words) node log) else waiting (start pairs words) node log)
+          + length (if at == node then drop_all c (waiting (start pairs words) node log) else
+          waiting (start pairs words) node log)
           ≤ length (decided_yes_in log)
       here before less v (inl k) =
           let one = less k.1 in
           subst (λ b. (if b then counts node log + 1 else counts node log)
-          + length (if b then drop_all c (waiting (start pairs words) node log) else waiting (start pairs words) node log)
+          + length (if b then drop_all c (waiting (start pairs words) node log) else waiting
+          (start pairs words) node log)
           ≤ length (decided_yes_in log)) (sym k.0) (omega arith)
       here before less v (inr k) =
           subst (λ b. (if b then counts node log + 1 else counts node log)
-          + length (if b then drop_all c (waiting (start pairs words) node log) else waiting (start pairs words) node log)
+          + length (if b then drop_all c (waiting (start pairs words) node log) else waiting
+          (start pairs words) node log)
           ≤ length (decided_yes_in log)) (sym k.0) before
   counts_few (Enter c ∷ log) h = counts_few log h.0
   counts_few (Reserve c base size ∷ log) h = counts_few log h.0

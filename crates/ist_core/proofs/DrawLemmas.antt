@@ -1,25 +1,23 @@
 -- Each caller draws past the last part once. Serves `laws.draws_are_low`.
-use Rattle.std.proofs.Common.{◌≡◌, ◌≢◌, ℕ, ◌+◌, ◌<◌, ◌≤◌, ◌⊎◌, ◌==◌, nat_le, if◌then◌else◌, true, false, List, [], ◌∷◌, Option, Some, None, refl, sym, ap, ◌∙◌, subst, inl, inr, ⊎_elim, arith}
+use Rattle.std.proofs.Common.{◌≡◌, ◌≢◌, ℕ, ◌+◌, ◌<◌, ◌≤◌, ◌⊎◌, ◌==◌, nat_le, if◌then◌else◌, true, false, List, [], ◌∷◌, Option, Some, refl, sym, ap, ◌∙◌, subst, inl, inr, ⊎_elim, arith}
 use Rattle.std.proofs.lemmas.Bool.Decides.{eqb_tells, leb_tells}
 use Rattle.ist_core.specs.declared.pairs.Pair.{Pair}
-use Rattle.ist_core.specs.declared.lists.Row.{Row}
-use Rattle.ist_core.specs.declared.states.ChangeRow.{ChangeRow}
 use Rattle.ist_core.specs.declared.states.RebuildRow.{RebuildRow}
 use Rattle.ist_core.specs.declared.events.Event.{Event}
 use Rattle.ist_core.specs.declared.events.Event.TheVariants.{Enter, Reserve, Install, Okay, Decide, Resolve, Count, Mark, Pass, Finish, Root, Draw, Place, Lose}
 use Rattle.ist_core.specs.Arithmetic.{degree}
 use Rattle.ist_core.specs.Statuses.{finished_word}
 use Rattle.ist_core.specs.Elements.{Among, Each, Distinct}
-use Rattle.ist_core.specs.Pieces.{Piece, Rebuild, as_change, change_of}
+use Rattle.ist_core.specs.Pieces.{Piece, Rebuild, as_change}
 use Rattle.ist_core.specs.Snapshots.{Snapshot}
 use Rattle.ist_core.specs.StartLayout.{start}
-use Rattle.ist_core.specs.After.{with_change, installed, resolved}
 use Rattle.ist_core.specs.Logs.{Log, state, Happened, Draws}
 use Rattle.ist_core.specs.Rebuilding.{IsFinishedWith}
 use Rattle.ist_core.specs.Building.{CanDraw}
 use Rattle.ist_core.specs.Enabled.{Enabled, caller_limit}
 use Rattle.ist_core.specs.Growing.{StatusGoesOn, status_stays, is_marked, is_finished, is_closed, AllGrow}
 use Rattle.ist_core.specs.Lawful.{EachEnabled, state_of}
+use Rattle.ist_core.proofs.CallerLemmas.{callers-installed, callers-resolved}
 use Rattle.ist_core.proofs.SoundLemmas.{sound}
 use Rattle.ist_core.proofs.StartLemmas.{sound_start}
 use Rattle.ist_core.proofs.GrowingLemmas.{inner_there, rebuild_there}
@@ -30,21 +28,6 @@ use Rattle.ist_core.proofs.DrawnLemmas.{past, drawn_at_most}
 
 -- ---- callers
 
-callers-with_change : (t : Snapshot) (base : ℕ) (fresh : List Row) (change : Option ChangeRow)
-    → (with_change t base fresh change).callers ≡ t.callers
-callers-with_change t base fresh None = refl
-callers-with_change t base fresh (Some change) = refl
-
-callers-installed : (t : Snapshot) (base : ℕ) (rows : List Row)
-    → (installed t base rows).callers ≡ t.callers
-callers-installed t base [] = refl
-callers-installed t base (row ∷ fresh) = callers-with_change t base fresh (change_of row.words)
-
-callers-resolved : (t : Snapshot) (change : Option ChangeRow)
-    → (resolved t change).callers ≡ t.callers
-callers-resolved t None = refl
-callers-resolved t (Some change) = refl
-
 -- callers only come, and no more than there may be
 record CallersGoOn (t u : Snapshot) : Type 0 where
   more : t.callers ≤ u.callers
@@ -53,28 +36,31 @@ record CallersGoOn (t u : Snapshot) : Type 0 where
 callers_same : (t u : Snapshot) → u.callers ≡ t.callers → CallersGoOn t u
 callers_same t u e = record { more = omega arith; few = λ h. subst (λ n. n ≤ caller_limit) (sym e) h }
 
-callers_step : (first : Snapshot) (log : Log) (event : Event) → Enabled first log event
+callers_go_on : (first : Snapshot) (log : Log) (event : Event) → Enabled first log event
     → CallersGoOn (state first log) (state first (event ∷ log))
-callers_step first log (Enter caller) h = let is = h.number in let low = h.below_limit in record { more = omega arith; few = λ k. below (state first log).callers caller is low }
+callers_go_on first log (Enter caller) h = let is = h.number in let low = h.below_limit in record
+    { more = omega arith; few = λ k. below (state first log).callers caller is low }
   where
     below : (n caller : ℕ) → caller ≡ n → caller < caller_limit → n + 1 ≤ caller_limit
     below n caller e l = subst (λ m. m + 1 ≤ caller_limit) e (next_le caller caller_limit l)
       where
         next_le : (a b : ℕ) → a < b → a + 1 ≤ b
         next_le a b l = omega arith
-callers_step first log (Install caller base rows) h = callers_same _ _ (callers-installed (state first log) base rows)
-callers_step first log (Resolve caller base) h = callers_same _ _ (callers-resolved (state first log) (as_change ((state first log).pieces base)))
-callers_step first log (Reserve caller base size) h = callers_same _ _ refl
-callers_step first log (Okay caller base) h = callers_same _ _ refl
-callers_step first log (Decide caller base said) h = callers_same _ _ refl
-callers_step first log (Count caller node) h = callers_same _ _ refl
-callers_step first log (Mark caller node) h = callers_same _ _ refl
-callers_step first log (Pass caller node i word) h = callers_same _ _ refl
-callers_step first log (Finish caller node keys) h = callers_same _ _ refl
-callers_step first log (Root caller rebuild word rows) h = callers_same _ _ refl
-callers_step first log (Draw caller rebuild part) h = callers_same _ _ refl
-callers_step first log (Place caller rebuild i word rows) h = callers_same _ _ refl
-callers_step first log (Lose caller bases) h = callers_same _ _ refl
+callers_go_on first log (Install caller base rows) h = callers_same _ _
+    (callers-installed (state first log) base rows)
+callers_go_on first log (Resolve caller base) h = callers_same _ _
+    (callers-resolved (state first log) (as_change ((state first log).pieces base)))
+callers_go_on first log (Reserve caller base size) h = callers_same _ _ refl
+callers_go_on first log (Okay caller base) h = callers_same _ _ refl
+callers_go_on first log (Decide caller base said) h = callers_same _ _ refl
+callers_go_on first log (Count caller node) h = callers_same _ _ refl
+callers_go_on first log (Mark caller node) h = callers_same _ _ refl
+callers_go_on first log (Pass caller node i word) h = callers_same _ _ refl
+callers_go_on first log (Finish caller node keys) h = callers_same _ _ refl
+callers_go_on first log (Root caller rebuild word rows) h = callers_same _ _ refl
+callers_go_on first log (Draw caller rebuild part) h = callers_same _ _ refl
+callers_go_on first log (Place caller rebuild i word rows) h = callers_same _ _ refl
+callers_go_on first log (Lose caller bases) h = callers_same _ _ refl
 
 -- there are fewer callers than the limit, or as many
 pub callers_low : (pairs : List Pair) (words : ℕ) (log : Log) → EachEnabled (start pairs words) log
@@ -83,7 +69,8 @@ callers_low pairs words [] h = none caller_limit
   where
     none : (n : ℕ) → 0 ≤ n
     none n = omega arith
-callers_low pairs words (event ∷ log) h = (callers_step (start pairs words) log event h.1).few (callers_low pairs words log h.0)
+callers_low pairs words (event ∷ log) h = (callers_go_on (start pairs words) log event h.1).few
+    (callers_low pairs words log h.0)
 
 -- ---- a finished node stays finished
 
@@ -93,11 +80,17 @@ finished_on k status (is_marked e f) = absurd (omega arith)
 finished_on k status (is_finished n e f) = absurd (omega arith)
 finished_on k status (is_closed n e f) = absurd (omega arith)
 
-pub finished_grows : (t u : Snapshot) (node k : ℕ) → AllGrow t.pieces u.pieces → IsFinishedWith t node k
+pub finished_grows : (t u : Snapshot) (node k : ℕ) → AllGrow t.pieces u.pieces → IsFinishedWith t
+    node k
     → IsFinishedWith u node k
 finished_grows t u node k g h =
     let it = inner_there t.pieces u.pieces g node h.row h.published in
-    record { row = it.0; published = it.1; status = finished_on k it.0.status (subst (λ s. StatusGoesOn s it.0.status) h.status it.2.status) }
+    record {
+      row = it.0;
+      published = it.1;
+      status = finished_on k it.0.status
+          (subst (λ s. StatusGoesOn s it.0.status) h.status it.2.status);
+    }
 
 -- with one number
 finished_once : (t : Snapshot) (node j k : ℕ) → IsFinishedWith t node j → IsFinishedWith t node k
@@ -114,7 +107,8 @@ same_rebuild o r s e f = cc
 module _ (pairs : List Pair) (words rebuild last : ℕ) where
   -- whenever the rebuild's target is finished, the last part is that of its number of keys
   LastIs : Log → Type 0
-  LastIs log = (row : RebuildRow) (k : ℕ) → (state_of pairs words log).pieces rebuild ≡ Some (Rebuild row)
+  LastIs log = (row : RebuildRow) (k : ℕ) → (state_of pairs words log).pieces rebuild ≡ Some
+      (Rebuild row)
       → IsFinishedWith (state_of pairs words log) row.target k → degree k ≡ last
 
   last_before : (log : Log) (event : Event) → EachEnabled (start pairs words) (event ∷ log)
@@ -123,41 +117,55 @@ module _ (pairs : List Pair) (words rebuild last : ℕ) where
   last_before log event h is row k e f =
       let t = state_of pairs words log in
       let u = state_of pairs words (event ∷ log) in
-      let grows = grow_step (start pairs words) log event h.1 (sound (start pairs words) log (sound_start pairs words) h.0) in
+      let grows = grow_step (start pairs words) log event h.1
+      (sound (start pairs words) log (sound_start pairs words) h.0) in
       let it = rebuild_there t.pieces u.pieces grows rebuild row e in
-      is it.0 k it.1 (subst (λ n. IsFinishedWith u n k) (sym it.2.target) (finished_grows t u row.target k grows f))
+      is it.0 k it.1 (subst (λ n. IsFinishedWith u n k) (sym it.2.target)
+      (finished_grows t u row.target k grows f))
 
   -- a caller that drew past has a Draw of such a part
   past_drew : (log : Log) (caller : ℕ) → Among caller (past rebuild last log)
       → (part : ℕ) × Happened (Draws caller rebuild part) log × (last ≤ part)
   unfolding past
   past_drew [] caller i = absurd i
-  past_drew (Draw c at part ∷ log) caller i = here (λ j. past_drew log caller j) (eqb_tells at rebuild) (leb_tells last part) i
+  past_drew (Draw c at part ∷ log) caller i = here (λ j. past_drew log caller j)
+      (eqb_tells at rebuild) (leb_tells last part) i
     where
-      here : (Among caller (past rebuild last log) → (p : ℕ) × Happened (Draws caller rebuild p) log × (last ≤ p))
+      here : (Among caller (past rebuild last log) → (p : ℕ) × Happened (Draws caller rebuild p) log
+          × (last ≤ p))
           → (((at == rebuild) ≡ true) × (at ≡ rebuild)) ⊎
           (((at == rebuild) ≡ false) × (at ≢ rebuild))
           → ((nat_le last part ≡ true) × (last ≤ part)) ⊎
           ((nat_le last part ≡ false) × (part < last))
           → Among caller
-          (if at == rebuild then (if nat_le last part then c ∷ past rebuild last log else past rebuild last log) else past rebuild last log)
+          (if at == rebuild then (if nat_le last part then c ∷ past rebuild last log else past
+          rebuild last log) else past rebuild last log)
           → (p : ℕ) × Happened (Draws caller rebuild p) (Draw c at part ∷ log) × (last ≤ p)
       here again (inr k) l j =
-          let it = again (subst (λ b. Among caller (if b then (if nat_le last part then c ∷ past rebuild last log else past rebuild last log) else past rebuild last log)) k.0 j) in
+          let it = again (subst (λ b. Among caller
+          (if b then (if nat_le last part then c ∷ past rebuild last log else past rebuild last
+          log) else past rebuild last log)) k.0 j) in
           (it.0, inr it.1, it.2)
       here again (inl k) (inr l) j =
-          let it = again (subst (λ b. Among caller (if b then c ∷ past rebuild last log else past rebuild last log)) l.0
-          (subst (λ b. Among caller (if b then (if nat_le last part then c ∷ past rebuild last log else past rebuild last log) else past rebuild last log)) k.0 j)) in
+          let it = again (subst (λ b. Among caller
+          (if b then c ∷ past rebuild last log else past rebuild last log)) l.0
+          (subst (λ b. Among caller (if b then
+          (if nat_le last part then c ∷ past rebuild last log else past rebuild last log) else
+          past rebuild last log)) k.0 j)) in
           (it.0, inr it.1, it.2)
       here again (inl k) (inl l) j =
           ⊎_elim
           (λ e. (part, inl (sym e, k.1, refl), l.1))
           (λ m. let it = again m in (it.0, inr it.1, it.2))
-          (subst (λ b. Among caller (if b then c ∷ past rebuild last log else past rebuild last log)) l.0
-          (subst (λ b. Among caller (if b then (if nat_le last part then c ∷ past rebuild last log else past rebuild last log) else past rebuild last log)) k.0 j))
+          (subst (λ b. Among caller (if b then c ∷ past rebuild last log else past rebuild last
+          log)) l.0
+          (subst (λ b. Among caller (if b then
+          (if nat_le last part then c ∷ past rebuild last log else past rebuild last log) else
+          past rebuild last log)) k.0 j))
   past_drew (Enter c ∷ log) caller i = let it = past_drew log caller i in (it.0, inr it.1, it.2)
   past_drew (Reserve c b z ∷ log) caller i = let it = past_drew log caller i in (it.0, inr it.1, it.2)
-  past_drew (Install c d rows ∷ log) caller i = let it = past_drew log caller i in (it.0, inr it.1, it.2)
+  past_drew (Install c d rows ∷ log) caller i = let it = past_drew log caller i in
+      (it.0, inr it.1, it.2)
   past_drew (Okay c d ∷ log) caller i = let it = past_drew log caller i in (it.0, inr it.1, it.2)
   past_drew (Decide c d said ∷ log) caller i = let it = past_drew log caller i in (it.0, inr it.1, it.2)
   past_drew (Resolve c d ∷ log) caller i = let it = past_drew log caller i in (it.0, inr it.1, it.2)
@@ -166,7 +174,8 @@ module _ (pairs : List Pair) (words rebuild last : ℕ) where
   past_drew (Pass c n j w ∷ log) caller i = let it = past_drew log caller i in (it.0, inr it.1, it.2)
   past_drew (Finish c n k ∷ log) caller i = let it = past_drew log caller i in (it.0, inr it.1, it.2)
   past_drew (Root c o w rows ∷ log) caller i = let it = past_drew log caller i in (it.0, inr it.1, it.2)
-  past_drew (Place c o j w rows ∷ log) caller i = let it = past_drew log caller i in (it.0, inr it.1, it.2)
+  past_drew (Place c o j w rows ∷ log) caller i = let it = past_drew log caller i in
+      (it.0, inr it.1, it.2)
   past_drew (Lose c bases ∷ log) caller i = let it = past_drew log caller i in (it.0, inr it.1, it.2)
 
   each_wider : (m n : ℕ) (xs : List ℕ) → m ≤ n → Each (λ x. x < m) xs → Each (λ x. x < n) xs
@@ -175,7 +184,8 @@ module _ (pairs : List Pair) (words rebuild last : ℕ) where
 
   -- the callers that drew past are callers, each once
   PastOnce : Log → Type 0
-  PastOnce log = Each (λ c. c < (state_of pairs words log).callers) (past rebuild last log) × Distinct (past rebuild last log)
+  PastOnce log = Each (λ c. c < (state_of pairs words log).callers) (past rebuild last log) ×
+      Distinct (past rebuild last log)
 
   past_draw : (log : Log) (c at part : ℕ) → CanDraw (state_of pairs words log) log c at part
       → LastIs log → PastOnce log → PastOnce (Draw c at part ∷ log)
@@ -186,7 +196,9 @@ module _ (pairs : List Pair) (words rebuild last : ℕ) where
       fresh e i =
           let it = past_drew log c i in
           let below = can.not_past it.0 (subst (λ o. Happened (Draws c o it.0) log) (sym e) it.1) in
-          let same = is can.row can.k (subst (λ b. (state_of pairs words log).pieces b ≡ Some (Rebuild can.row)) e can.published) can.finished in
+          let same = is can.row can.k (subst
+          (λ b. (state_of pairs words log).pieces b ≡ Some (Rebuild can.row)) e can.published)
+          can.finished in
           let past_it = it.2 in
           omega arith
 
@@ -197,13 +209,19 @@ module _ (pairs : List Pair) (words rebuild last : ℕ) where
           (((at == rebuild) ≡ false) × (at ≢ rebuild))
           → ((nat_le last part ≡ true) × (last ≤ part)) ⊎
           ((nat_le last part ≡ false) × (part < last))
-          → Both (if at == rebuild then (if nat_le last part then c ∷ past rebuild last log else past rebuild last log) else past rebuild last log)
-      here (inr k) l = subst (λ b. Both (if b then (if nat_le last part then c ∷ past rebuild last log else past rebuild last log) else past rebuild last log)) (sym k.0) once
+          → Both (if at == rebuild then (if nat_le last part then c ∷ past rebuild last log else
+          past rebuild last log) else past rebuild last log)
+      here (inr k) l = subst (λ b. Both
+          (if b then (if nat_le last part then c ∷ past rebuild last log else past rebuild last log)
+          else past rebuild last log)) (sym k.0) once
       here (inl k) (inr l) =
-          subst (λ b. Both (if b then (if nat_le last part then c ∷ past rebuild last log else past rebuild last log) else past rebuild last log)) (sym k.0)
-          (subst (λ b. Both (if b then c ∷ past rebuild last log else past rebuild last log)) (sym l.0) once)
+          subst (λ b. Both (if b then (if nat_le last part then c ∷ past rebuild last log else past
+          rebuild last log) else past rebuild last log)) (sym k.0)
+          (subst (λ b. Both (if b then c ∷ past rebuild last log else past rebuild last log))
+          (sym l.0) once)
       here (inl k) (inl l) =
-          subst (λ b. Both (if b then (if nat_le last part then c ∷ past rebuild last log else past rebuild last log) else past rebuild last log)) (sym k.0)
+          subst (λ b. Both (if b then (if nat_le last part then c ∷ past rebuild last log else past
+          rebuild last log) else past rebuild last log)) (sym k.0)
           (subst (λ b. Both (if b then c ∷ past rebuild last log else past rebuild last log)) (sym l.0)
           ((can.known, once.0), (fresh k.1, once.1)))
 
@@ -212,27 +230,45 @@ module _ (pairs : List Pair) (words rebuild last : ℕ) where
       → PastOnce (event ∷ log)
   unfolding PastOnce
   past_on log event h same once =
-      let go = callers_step (start pairs words) log event h in
-      subst (λ xs. Each (λ c. c < (state_of pairs words (event ∷ log)).callers) xs × Distinct xs) (sym same)
-      (each_wider (state_of pairs words log).callers (state_of pairs words (event ∷ log)).callers (past rebuild last log) go.more once.0, once.1)
+      let go = callers_go_on (start pairs words) log event h in
+      subst (λ xs. Each (λ c. c < (state_of pairs words (event ∷ log)).callers) xs × Distinct xs)
+      (sym same) (
+        each_wider (state_of pairs words log).callers (state_of pairs words (event ∷ log)).callers
+            (past rebuild last log) go.more once.0,
+        once.1,
+      )
 
   past_once : (log : Log) → EachEnabled (start pairs words) log → LastIs log → PastOnce log
   unfolding past PastOnce
   past_once [] h is = (tt, tt)
-  past_once (Draw c at part ∷ log) h is = let before = last_before log (Draw c at part) h is in past_draw log c at part h.1 before (past_once log h.0 before)
-  past_once (Enter c ∷ log) h is = past_on log (Enter c) h.1 refl (past_once log h.0 (last_before log (Enter c) h is))
-  past_once (Reserve c b z ∷ log) h is = past_on log (Reserve c b z) h.1 refl (past_once log h.0 (last_before log (Reserve c b z) h is))
-  past_once (Install c d rows ∷ log) h is = past_on log (Install c d rows) h.1 refl (past_once log h.0 (last_before log (Install c d rows) h is))
-  past_once (Okay c d ∷ log) h is = past_on log (Okay c d) h.1 refl (past_once log h.0 (last_before log (Okay c d) h is))
-  past_once (Decide c d said ∷ log) h is = past_on log (Decide c d said) h.1 refl (past_once log h.0 (last_before log (Decide c d said) h is))
-  past_once (Resolve c d ∷ log) h is = past_on log (Resolve c d) h.1 refl (past_once log h.0 (last_before log (Resolve c d) h is))
-  past_once (Count c n ∷ log) h is = past_on log (Count c n) h.1 refl (past_once log h.0 (last_before log (Count c n) h is))
-  past_once (Mark c n ∷ log) h is = past_on log (Mark c n) h.1 refl (past_once log h.0 (last_before log (Mark c n) h is))
-  past_once (Pass c n j w ∷ log) h is = past_on log (Pass c n j w) h.1 refl (past_once log h.0 (last_before log (Pass c n j w) h is))
-  past_once (Finish c n k ∷ log) h is = past_on log (Finish c n k) h.1 refl (past_once log h.0 (last_before log (Finish c n k) h is))
-  past_once (Root c o w rows ∷ log) h is = past_on log (Root c o w rows) h.1 refl (past_once log h.0 (last_before log (Root c o w rows) h is))
-  past_once (Place c o j w rows ∷ log) h is = past_on log (Place c o j w rows) h.1 refl (past_once log h.0 (last_before log (Place c o j w rows) h is))
-  past_once (Lose c bases ∷ log) h is = past_on log (Lose c bases) h.1 refl (past_once log h.0 (last_before log (Lose c bases) h is))
+  past_once (Draw c at part ∷ log) h is = let before = last_before log (Draw c at part) h is in
+      past_draw log c at part h.1 before (past_once log h.0 before)
+  past_once (Enter c ∷ log) h is = past_on log (Enter c) h.1 refl
+      (past_once log h.0 (last_before log (Enter c) h is))
+  past_once (Reserve c b z ∷ log) h is = past_on log (Reserve c b z) h.1 refl
+      (past_once log h.0 (last_before log (Reserve c b z) h is))
+  past_once (Install c d rows ∷ log) h is = past_on log (Install c d rows) h.1 refl
+      (past_once log h.0 (last_before log (Install c d rows) h is))
+  past_once (Okay c d ∷ log) h is = past_on log (Okay c d) h.1 refl
+      (past_once log h.0 (last_before log (Okay c d) h is))
+  past_once (Decide c d said ∷ log) h is = past_on log (Decide c d said) h.1 refl
+      (past_once log h.0 (last_before log (Decide c d said) h is))
+  past_once (Resolve c d ∷ log) h is = past_on log (Resolve c d) h.1 refl
+      (past_once log h.0 (last_before log (Resolve c d) h is))
+  past_once (Count c n ∷ log) h is = past_on log (Count c n) h.1 refl
+      (past_once log h.0 (last_before log (Count c n) h is))
+  past_once (Mark c n ∷ log) h is = past_on log (Mark c n) h.1 refl
+      (past_once log h.0 (last_before log (Mark c n) h is))
+  past_once (Pass c n j w ∷ log) h is = past_on log (Pass c n j w) h.1 refl
+      (past_once log h.0 (last_before log (Pass c n j w) h is))
+  past_once (Finish c n k ∷ log) h is = past_on log (Finish c n k) h.1 refl
+      (past_once log h.0 (last_before log (Finish c n k) h is))
+  past_once (Root c o w rows ∷ log) h is = past_on log (Root c o w rows) h.1 refl
+      (past_once log h.0 (last_before log (Root c o w rows) h is))
+  past_once (Place c o j w rows ∷ log) h is = past_on log (Place c o j w rows) h.1 refl
+      (past_once log h.0 (last_before log (Place c o j w rows) h is))
+  past_once (Lose c bases ∷ log) h is = past_on log (Lose c bases) h.1 refl
+      (past_once log h.0 (last_before log (Lose c bases) h is))
 
   -- the draw word is at most the last part and one more for each caller
   pub few_draws : (log : Log) → EachEnabled (start pairs words) log → (row : RebuildRow) (k : ℕ)
@@ -244,8 +280,10 @@ module _ (pairs : List Pair) (words rebuild last : ℕ) where
       let ps = (state_of pairs words log).pieces in
       let last_is : LastIs log = λ other j g l.
       let same = same_rebuild (ps rebuild) other row g e in
-      ap degree (finished_once (state_of pairs words log) row.target j k (subst (λ r. IsFinishedWith (state_of pairs words log) r.target j) same l) f) ∙ is in
+      ap degree (finished_once (state_of pairs words log) row.target j k
+      (subst (λ r. IsFinishedWith (state_of pairs words log) r.target j) same l) f) ∙ is in
       let once = past_once log h last_is in
-      let few = distinct_below (state_of pairs words log).callers (past rebuild last log) once.1 once.0 in
+      let few = distinct_below (state_of pairs words log).callers (past rebuild last log) once.1
+      once.0 in
       let most = drawn_at_most rebuild last pairs words log h (Rebuild row) e in
       omega arith

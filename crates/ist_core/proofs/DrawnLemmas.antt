@@ -1,4 +1,5 @@
--- The draw word of a rebuild is low: its degree, and one draw more a caller. Serves `laws.draws_are_low`.
+-- The draw word of a rebuild is low: its degree, and one draw more a caller. Serves
+-- `laws.draws_are_low`.
 use Rattle.std.proofs.Common.{◌≡◌, ◌≢◌, ℕ, zero, suc, ◌+◌, ◌<◌, ◌≤◌, ◌⊎◌, ◌==◌, nat_le, nat_lt, if◌then◌else◌, true, false, List, [], ◌∷◌, length, Some, option_map, refl, sym, ap, ◌∙◌, subst, inl, inr, ⊎_elim, arith}
 use Rattle.std.proofs.lemmas.Bool.Decides.{eqb_tells, leb_tells}
 use Rattle.ist_core.specs.declared.pairs.Pair.{Pair}
@@ -41,14 +42,17 @@ draw_in _ = 0
 
 pair_undrawn : (key base other_key other : ℕ) → draw_in (pair_row key base other_key other) ≡ 0
 pair_undrawn key base other_key other =
-    elim (nat_lt other_key key) as (λ v. draw_in (if v then pair_over key other base else pair_over other_key base other) ≡ 0) [ true ↦ refl | false ↦ refl ]
+    elim (nat_lt other_key key) as
+    (λ v. draw_in (if v then pair_over key other base else pair_over other_key base other) ≡ 0)
+    [ true ↦ refl | false ↦ refl ]
 
 installed_undrawn : (first : Snapshot) (log : Log) (at : ℕ) (change : ChangeRow) (fresh : List Row)
     (fits : FitsKind first log change fresh) (base : ℕ) (p : Piece)
     → IsInstalled first log at change fresh fits base p → draw_in p ≡ 0
 installed_undrawn first log at change fresh fits base p (inl h) = ap draw_in h.1
 installed_undrawn first log at change fresh (a_put f) base p (inr h) = ap draw_in h.1
-installed_undrawn first log at change fresh (a_pair f) base p (inr (inl h)) = ap draw_in h.1 ∙ pair_undrawn change.key f.leaf f.other_key f.other
+installed_undrawn first log at change fresh (a_pair f) base p (inr (inl h)) = ap draw_in h.1 ∙
+    pair_undrawn change.key f.leaf f.other_key f.other
 installed_undrawn first log at change fresh (a_pair f) base p (inr (inr h)) = ap draw_in h.1
 installed_undrawn first log at change fresh (a_remove f) base p (inr h) = absurd h
 installed_undrawn first log at change fresh (a_start f) base p (inr h) = ap draw_in h.1
@@ -56,7 +60,8 @@ installed_undrawn first log at change fresh (a_finish f) base p (inr h) = absurd
 
 tree_undrawn : (ps : Pieces) (rows : List ℕ) (base : ℕ) (p : Piece) → Each (IsTreeRow ps) rows
     → Among base rows → ps base ≡ Some p → draw_in p ≡ 0
-tree_undrawn ps rows base p all i e = let it = each-among (IsTreeRow ps) base rows all i in known (λ x. draw_in x ≡ 0) (ps base) p (Inner it.row) e it.published refl
+tree_undrawn ps rows base p all i e = let it = each-among (IsTreeRow ps) base rows all i in known
+    (λ x. draw_in x ≡ 0) (ps base) p (Inner it.row) e it.published refl
 
 start_undrawn : (fuel base : ℕ) (pairs : List Pair)
     → Each (λ row. draw_in row.1 ≡ 0) (rows_within fuel base pairs)
@@ -64,8 +69,11 @@ unfolding rows_within
 start_undrawn fuel base [] = tt
 start_undrawn fuel base (pair ∷ []) = (refl, tt)
 start_undrawn zero base (pair ∷ more ∷ pairs) = tt
-start_undrawn (suc fuel) base (pair ∷ more ∷ pairs) =
-    (refl, each-flat_map (λ row. draw_in row.1 ≡ 0) (λ part. rows_within fuel part.0 part.1) (placed_parts base (pair ∷ more ∷ pairs)) (λ part. start_undrawn fuel part.0 part.1))
+start_undrawn (suc fuel) base (pair ∷ more ∷ pairs) = (
+  refl,
+  each-flat_map (λ row. draw_in row.1 ≡ 0) (λ part. rows_within fuel part.0 part.1)
+      (placed_parts base (pair ∷ more ∷ pairs)) (λ part. start_undrawn fuel part.0 part.1),
+)
 
 -- ---- what each write does to a draw word
 
@@ -105,7 +113,8 @@ module _ (rebuild last : ℕ) where
   -- the callers of the Draws that gave a part not below the last one, the newest first
   unfoldable pub past : Log → List ℕ
   past [] = []
-  past (Draw caller at part ∷ log) = if at == rebuild then (if nat_le last part then caller ∷ past log else past log) else past log
+  past (Draw caller at part ∷ log) = if at == rebuild then
+      (if nat_le last part then caller ∷ past log else past log) else past log
   past (_ ∷ log) = past log
 
   -- each row at the rebuild has drawn at most so much
@@ -131,8 +140,10 @@ module _ (rebuild last : ℕ) where
   most_drawn : (ps : Pieces) (at part caller : ℕ) (others : List ℕ) (r : RebuildRow)
       → ps at ≡ Some (Rebuild r) → part ≡ r.draw → DrawnAtMost ps (last + length others)
       → DrawnAtMost (changed_at ps at drawn)
-      (last + length (if at == rebuild then (if nat_le last part then caller ∷ others else others) else others))
-  most_drawn ps at part caller others r there is old q e = here (eqb_tells at rebuild) (leb_tells last part)
+      (last + length (if at == rebuild then (if nat_le last part then caller ∷ others else others)
+      else others))
+  most_drawn ps at part caller others r there is old q e = here (eqb_tells at rebuild)
+      (leb_tells last part)
     where
       here : (((at == rebuild) ≡ true) × (at ≡ rebuild)) ⊎
           (((at == rebuild) ≡ false) × (at ≢ rebuild))
@@ -143,17 +154,24 @@ module _ (rebuild last : ℕ) where
       here (inr k) l =
           let it = changed_at-some ps at rebuild drawn q e in
           let before = old it.0 it.1 in
-          subst (λ b. draw_in q ≤ last + length (if b then (if nat_le last part then caller ∷ others else others) else others)) (sym k.0)
+          subst (λ b. draw_in q ≤ last + length
+          (if b then (if nat_le last part then caller ∷ others else others) else others))
+          (sym k.0)
           (⊎_elim (λ m. let same = ap draw_in m in omega arith) (λ m. absurd (k.1 (sym m.0))) it.2)
       here (inl k) l =
           let at_rebuild = subst (λ b. ps b ≡ Some (Rebuild r)) k.1 there in
           let before = old (Rebuild r) at_rebuild in
           let now = changed_at-same ps at drawn ∙ ap (option_map drawn) there in
-          let same = ap draw_in (one_piece (changed_at ps at drawn at) q (drawn (Rebuild r)) (subst (λ b. changed_at ps at drawn b ≡ Some q) (sym k.1) e) now) in
-          subst (λ b. draw_in q ≤ last + length (if b then (if nat_le last part then caller ∷ others else others) else others)) (sym k.0)
+          let same = ap draw_in (one_piece (changed_at ps at drawn at) q (drawn (Rebuild r))
+          (subst (λ b. changed_at ps at drawn b ≡ Some q) (sym k.1) e) now) in
+          subst (λ b. draw_in q ≤ last + length
+          (if b then (if nat_le last part then caller ∷ others else others) else others))
+          (sym k.0)
           (⊎_elim
-          (λ m. subst (λ b. draw_in q ≤ last + length (if b then caller ∷ others else others)) (sym m.0) (let low = m.1 in omega arith))
-          (λ m. subst (λ b. draw_in q ≤ last + length (if b then caller ∷ others else others)) (sym m.0) (let low = m.1 in omega arith))
+          (λ m. subst (λ b. draw_in q ≤ last + length (if b then caller ∷ others else others))
+          (sym m.0) (let low = m.1 in omega arith))
+          (λ m. subst (λ b. draw_in q ≤ last + length (if b then caller ∷ others else others))
+          (sym m.0) (let low = m.1 in omega arith))
           l)
 
   most_step : (first : Snapshot) (log : Log) (event : Event) → Enabled first log event
@@ -163,35 +181,56 @@ module _ (rebuild last : ℕ) where
   most_step first log (Install caller base rows) h s old =
       let t = state first log in
       let qs = with_installed t.pieces base h.change h.fresh in
-      let adds = adds_install first log caller base h.change h.fresh h.fits (holds_installed first log caller base rows h) s in
-      most_changed qs (after t (Install caller base rows)).pieces h.change.node (with_slot h.change.index (word_of (ChangeAt base))) (last + length (past log))
-      (ap (λ xs. (after t (Install caller base xs)).pieces) h.rows_are) (slot_same h.change.index (word_of (ChangeAt base)))
+      let adds = adds_install first log caller base h.change h.fresh h.fits
+      (holds_installed first log caller base rows h) s in
+      most_changed qs (after t (Install caller base rows)).pieces h.change.node
+      (with_slot h.change.index (word_of (ChangeAt base))) (last + length (past log))
+      (ap (λ xs. (after t (Install caller base xs)).pieces) h.rows_are)
+      (slot_same h.change.index (word_of (ChangeAt base)))
       (most_added t.pieces qs (last + length (past log))
-      (λ q e. ⊎_elim (λ k. inl k) (λ k. inr (installed_undrawn first log base h.change h.fresh h.fits rebuild q k)) (adds.from rebuild q e)) old)
+      (λ q e. ⊎_elim (λ k. inl k) (λ k. inr
+      (installed_undrawn first log base h.change h.fresh h.fits rebuild q k))
+      (adds.from rebuild q e)) old)
   most_step first log (Resolve caller base) h s old =
-      most_changed (state first log).pieces (after (state first log) (Resolve caller base)).pieces h.change.node (with_slot h.change.index (side_of h.change)) (last + length (past log))
-      (ap (λ u. u.pieces) (rows_resolved (state first log) caller base h)) (slot_same h.change.index (side_of h.change)) old
+      most_changed (state first log).pieces (after (state first log) (Resolve caller base)).pieces
+      h.change.node (with_slot h.change.index (side_of h.change)) (last + length (past log))
+      (ap (λ u. u.pieces) (rows_resolved (state first log) caller base h))
+      (slot_same h.change.index (side_of h.change)) old
   most_step first log (Root caller at word rows) h s old =
       let t = state first log in
       let qs = with_inners t.pieces rows in
       let adds = adds-with_inners t caller rows h.held s in
       let tree = root_tree qs word h.k h.leaves h.row.target (bases_of rows) h.root in
-      most_changed qs (changed_at qs at (with_root word)) at (with_root word) (last + length (past log)) refl (root_same word)
+      most_changed qs (changed_at qs at (with_root word)) at (with_root word)
+      (last + length (past log)) refl (root_same word)
       (most_added t.pieces qs (last + length (past log))
-      (λ q e. ⊎_elim (λ k. inl k) (λ k. inr (tree_undrawn qs (bases_of rows) rebuild q (tree_rows qs tree.0 h.row.target (bases_of rows) tree.2) k e)) (adds.from rebuild q e)) old)
+      (λ q e. ⊎_elim (λ k. inl k) (λ k. inr
+      (tree_undrawn qs (bases_of rows) rebuild q
+      (tree_rows qs tree.0 h.row.target (bases_of rows) tree.2) k e)) (adds.from rebuild q e))
+      old)
   most_step first log (Place caller at i word rows) h s old =
       let t = state first log in
       let qs = with_inners t.pieces rows in
       let adds = adds-with_inners t caller rows h.held s in
       let tree = tree_of_ideal qs h.ref h.part h.root (bases_of rows) h.ideal in
-      most_changed qs (after t (Place caller at i word rows)).pieces h.root (with_slot i word) (last + length (past log)) (rows_placed t caller at i word rows h) (slot_same i word)
+      most_changed qs (after t (Place caller at i word rows)).pieces h.root (with_slot i word)
+      (last + length (past log)) (rows_placed t caller at i word rows h) (slot_same i word)
       (most_added t.pieces qs (last + length (past log))
-      (λ q e. ⊎_elim (λ k. inl k) (λ k. inr (tree_undrawn qs (bases_of rows) rebuild q (tree_rows qs h.ref h.root (bases_of rows) tree) k e)) (adds.from rebuild q e)) old)
-  most_step first log (Draw caller at part) h s old = most_drawn (state first log).pieces at part caller (past log) h.row h.published h.part_is old
-  most_step first log (Count caller at) h s old = most_changed (state first log).pieces _ at counted (last + length (past log)) refl counted_same old
-  most_step first log (Decide caller base said) h s old = most_changed (state first log).pieces _ base (with_decision (decision_word said)) (last + length (past log)) refl (decision_same (decision_word said)) old
-  most_step first log (Mark caller at) h s old = most_changed (state first log).pieces _ at (with_status marked_word) (last + length (past log)) refl (status_same marked_word) old
-  most_step first log (Finish caller at keys) h s old = most_changed (state first log).pieces _ at (with_status (finished_word keys)) (last + length (past log)) refl (status_same (finished_word keys)) old
+      (λ q e. ⊎_elim (λ k. inl k) (λ k. inr
+      (tree_undrawn qs (bases_of rows) rebuild q
+      (tree_rows qs h.ref h.root (bases_of rows) tree) k e)) (adds.from rebuild q e)) old)
+  most_step first log (Draw caller at part) h s old = most_drawn (state first log).pieces at part
+      caller (past log) h.row h.published h.part_is old
+  most_step first log (Count caller at) h s old = most_changed (state first log).pieces _ at counted
+      (last + length (past log)) refl counted_same old
+  most_step first log (Decide caller base said) h s old = most_changed (state first log).pieces _
+      base (with_decision (decision_word said)) (last + length (past log)) refl
+      (decision_same (decision_word said)) old
+  most_step first log (Mark caller at) h s old = most_changed (state first log).pieces _ at
+      (with_status marked_word) (last + length (past log)) refl (status_same marked_word) old
+  most_step first log (Finish caller at keys) h s old = most_changed (state first log).pieces _ at
+      (with_status (finished_word keys)) (last + length (past log)) refl
+      (status_same (finished_word keys)) old
   most_step first log (Enter caller) h s old = old
   most_step first log (Reserve caller base size) h s old = old
   most_step first log (Okay caller base) h s old = old
@@ -203,7 +242,11 @@ module _ (rebuild last : ℕ) where
       → EachEnabled (start pairs words) log
       → DrawnAtMost (state_of pairs words log).pieces (last + length (past log))
   drawn_at_most pairs words [] h q e =
-      let none = each-among (λ row. draw_in row.1 ≡ 0) (rebuild, q) (rows_from first_row pairs) (start_undrawn (length pairs) first_row pairs) (among-pieces_of (rows_from first_row pairs) rebuild q e) in
+      let none = each-among (λ row. draw_in row.1 ≡ 0) (rebuild, q) (rows_from first_row pairs)
+      (start_undrawn (length pairs) first_row pairs)
+      (among-pieces_of (rows_from first_row pairs) rebuild q e) in
       omega arith
   drawn_at_most pairs words (event ∷ log) h q e =
-      most_step (start pairs words) log event h.1 (sound (start pairs words) log (sound_start pairs words) h.0) (λ r k. drawn_at_most pairs words log h.0 r k) q e
+      most_step (start pairs words) log event h.1
+      (sound (start pairs words) log (sound_start pairs words) h.0)
+      (λ r k. drawn_at_most pairs words log h.0 r k) q e

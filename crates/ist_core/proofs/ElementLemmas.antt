@@ -7,7 +7,8 @@ module _ {A : Type 0} where
   pub among-append : (x : A) (xs ys : List A) → Among x (xs ++ ys) → Among x xs ⊎ Among x ys
   among-append x [] ys h = inr h
   among-append x (y ∷ xs) ys (inl h) = inl (inl h)
-  among-append x (y ∷ xs) ys (inr h) = ⊎_elim (λ a. inl (inr a)) (λ b. inr b) (among-append x xs ys h)
+  among-append x (y ∷ xs) ys (inr h) = ⊎_elim (λ a. inl (inr a)) (λ b. inr b)
+      (among-append x xs ys h)
 
   -- an element of the first list is one of both
   pub among_left : (x : A) (xs ys : List A) → Among x xs → Among x (xs ++ ys)

@@ -19,7 +19,8 @@ skip x y xs h zero e =
     omega arith
 skip x y xs h (suc k) e =
     let place : suc k + 1 ≡ suc (k + 1) = omega arith in
-    subst (λ n. slice_index xs k < slice_index (x ∷ xs) n) (sym place) (behind y xs (behind x (y ∷ xs) h) k (omega arith))
+    subst (λ n. slice_index xs k < slice_index (x ∷ xs) n) (sym place)
+    (behind y xs (behind x (y ∷ xs) h) k (omega arith))
 
 module _ {X : Type 0} where
   above : (x : ℕ) (v : X) (es : List (ℕ × X)) → IsStrictlyIncreasing (x ∷ map (λ e. e.0) es)

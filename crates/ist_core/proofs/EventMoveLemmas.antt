@@ -1,4 +1,5 @@
--- What each event does to rows, and that they lie soundly behind a lawful log. Serves `laws.rows_are_known`.
+-- What each event does to rows, and that they lie soundly behind a lawful log. Serves
+-- `laws.rows_are_known`.
 use Rattle.std.proofs.Common.{◌≡◌, ℕ, ◌<◌, List, [], ◌∷◌, ◌++◌, length, Option, Some, None, refl, sym, ap, ◌∙◌, subst, arith}
 use Rattle.ist_core.specs.declared.lists.Row.{Row}
 use Rattle.ist_core.specs.declared.states.ChangeRow.{ChangeRow}
@@ -27,62 +28,91 @@ use Rattle.ist_core.proofs.PublishMoveLemmas.{moves_published}
 pub reserve_positive : (t : Snapshot) (caller base size : ℕ) → CanReserve t caller base size
     → 0 < size
 reserve_positive t caller base size h =
-    (each-append (λ n. 0 < n) (sizes_held t caller) (size ∷ []) (fair_positive t (sizes_held t caller ++ size ∷ []) h.fair)).1.0
+    (each-append (λ n. 0 < n) (sizes_held t caller) (size ∷ [])
+    (fair_positive t (sizes_held t caller ++ size ∷ []) h.fair)).1.0
 
 moves_install : (first : Snapshot) (log : Log) (caller base : ℕ) (rows : List Row)
     → CanInstall first log caller base rows → IsSound (state first log)
-    → Moves (state first log) (after (state first log) (Install caller base rows)) (Install caller base rows)
+    → Moves (state first log) (after (state first log) (Install caller base rows))
+    (Install caller base rows)
 moves_install first log caller base rows h sound =
-    subst (λ rs. Moves (state first log) (after (state first log) (Install caller base rs)) (Install caller base rs)) (sym h.rows_are)
-    (moves_published (state first log) caller (row_at base (Change h.change) ∷ h.fresh) (subst (λ rs. Each (λ row. Among record { caller = caller; base = row.base; size = length row.words } (state first log).held) rs) h.rows_are h.held) sound
-    (after (state first log) (Install caller base (row_at base (Change h.change) ∷ h.fresh))) (Install caller base (row_at base (Change h.change) ∷ h.fresh))
-    (with_installed (state first log).pieces base h.change h.fresh) h.change.node (with_slot h.change.index (word_of (ChangeAt base)))
+    subst (λ rs. Moves (state first log) (after (state first log) (Install caller base rs))
+    (Install caller base rs)) (sym h.rows_are)
+    (moves_published (state first log) caller (row_at base (Change h.change) ∷ h.fresh)
+    (subst (λ rs. Each (λ row. Among record
+    { caller = caller; base = row.base; size = length row.words } (state first log).held) rs)
+    h.rows_are h.held) sound
+    (after (state first log) (Install caller base (row_at base (Change h.change) ∷ h.fresh)))
+    (Install caller base (row_at base (Change h.change) ∷ h.fresh))
+    (with_installed (state first log).pieces base h.change h.fresh) h.change.node
+    (with_slot h.change.index (word_of (ChangeAt base)))
     (size_of-with_slot h.change.index (word_of (ChangeAt base)))
-    (publishes_install (state first log).pieces first log base h.change h.fresh h.fits) refl refl refl)
+    (publishes_install (state first log).pieces first log base h.change h.fresh h.fits) refl refl
+    refl)
 
 moves_resolved : (t : Snapshot) (event : Event) (change : Option ChangeRow)
     → Moves t (resolved t change) event
 moves_resolved t event None = moves_same t t event refl refl refl
 moves_resolved t event (Some change) =
-    moves_changed t (resolved t (Some change)) event change.node (with_slot change.index (side_of change)) (size_of-with_slot change.index (side_of change)) refl refl refl
+    moves_changed t (resolved t (Some change)) event change.node
+    (with_slot change.index (side_of change)) (size_of-with_slot change.index (side_of change))
+    refl refl refl
 
 -- the rows of a root stand
 root_stands : (ps : Pieces) (word k : ℕ) (leaves : List PlacedLeaf) (target : ℕ) (rows : List ℕ)
     → IsRoot ps word k leaves target rows → Each (λ base. Stands ps base) rows
-root_stands ps word k leaves target rows (root_whole ref few is ideal) = ideal_stands ps ref leaves target rows ideal
-root_stands ps word k leaves target rows (root_top base row many is top unset one) = subst (λ bases. Each (λ b. Stands ps b) bases) (sym one) ((Inner row, top.published), tt)
+root_stands ps word k leaves target rows (root_whole ref few is ideal) = ideal_stands ps ref leaves
+    target rows ideal
+root_stands ps word k leaves target rows (root_top base row many is top unset one) = subst
+    (λ bases. Each (λ b. Stands ps b) bases) (sym one) ((Inner row, top.published), tt)
 
 moves_root : (t : Snapshot) (caller rebuild word : ℕ) (rows : List Row)
     → CanRoot t caller rebuild word rows → IsSound t
     → Moves t (after t (Root caller rebuild word rows)) (Root caller rebuild word rows)
 moves_root t caller rebuild word rows h sound =
-    moves_published t caller rows h.held sound (after t (Root caller rebuild word rows)) (Root caller rebuild word rows) (with_inners t.pieces rows) rebuild (with_root word) (size_of-with_root word)
-    (publishes-with_inners t.pieces rows (root_stands (with_inners t.pieces rows) word h.k h.leaves h.row.target (bases_of rows) h.root)) refl refl refl
+    moves_published t caller rows h.held sound (after t (Root caller rebuild word rows))
+    (Root caller rebuild word rows) (with_inners t.pieces rows) rebuild (with_root word)
+    (size_of-with_root word)
+    (publishes-with_inners t.pieces rows
+    (root_stands (with_inners t.pieces rows) word h.k h.leaves h.row.target (bases_of rows)
+    h.root)) refl refl refl
 
 moves_place : (t : Snapshot) (caller rebuild i word : ℕ) (rows : List Row)
     → CanPlace t caller rebuild i word rows → IsSound t
     → Moves t (after t (Place caller rebuild i word rows)) (Place caller rebuild i word rows)
 moves_place t caller rebuild i word rows h sound =
     let qs = with_inners t.pieces rows in
-    moves_published t caller rows h.held sound (after t (Place caller rebuild i word rows)) (Place caller rebuild i word rows) qs h.root (with_slot i word) (size_of-with_slot i word)
-    (publishes-with_inners t.pieces rows (ideal_stands qs h.ref h.part h.root (bases_of rows) h.ideal)) refl refl
-    (ap (λ o. placed qs o i word) (ap as_rebuild h.published) ∙ ap (λ o. with_part qs o i word) h.root_is)
+    moves_published t caller rows h.held sound (after t (Place caller rebuild i word rows))
+    (Place caller rebuild i word rows) qs h.root (with_slot i word) (size_of-with_slot i word)
+    (publishes-with_inners t.pieces rows
+    (ideal_stands qs h.ref h.part h.root (bases_of rows) h.ideal)) refl refl
+    (ap (λ o. placed qs o i word) (ap as_rebuild h.published) ∙ ap (λ o. with_part qs o i word)
+    h.root_is)
 
 -- each event that reserves nothing moves rows
 pub moves : (first : Snapshot) (log : Log) (event : Event) → reserved_by event ≡ 0
     → Enabled first log event → IsSound (state first log)
     → Moves (state first log) (state first (event ∷ log)) event
 moves first log (Enter caller) z h s = moves_same _ _ _ refl refl refl
-moves first log (Reserve caller base size) z h s = let some = reserve_positive (state first log) caller base size h in absurd (omega arith)
+moves first log (Reserve caller base size) z h s = let some = reserve_positive (state first log)
+    caller base size h in absurd (omega arith)
 moves first log (Install caller change rows) z h s = moves_install first log caller change rows h s
 moves first log (Okay caller change) z h s = moves_same _ _ _ refl refl refl
-moves first log (Decide caller change said) z h s = moves_changed _ _ _ change (with_decision (decision_word said)) (size_of-with_decision (decision_word said)) refl refl refl
-moves first log (Resolve caller change) z h s = moves_resolved (state first log) (Resolve caller change) (as_change ((state first log).pieces change))
-moves first log (Count caller node) z h s = moves_changed _ _ _ node counted size_of-counted refl refl refl
-moves first log (Mark caller node) z h s = moves_changed _ _ _ node (with_status marked_word) (size_of-with_status marked_word) refl refl refl
+moves first log (Decide caller change said) z h s = moves_changed _ _ _ change
+    (with_decision (decision_word said)) (size_of-with_decision (decision_word said)) refl refl refl
+moves first log (Resolve caller change) z h s = moves_resolved (state first log)
+    (Resolve caller change) (as_change ((state first log).pieces change))
+moves first log (Count caller node) z h s = moves_changed _ _ _ node counted size_of-counted refl
+    refl refl
+moves first log (Mark caller node) z h s = moves_changed _ _ _ node (with_status marked_word)
+    (size_of-with_status marked_word) refl refl refl
 moves first log (Pass caller node i word) z h s = moves_same _ _ _ refl refl refl
-moves first log (Finish caller node keys) z h s = moves_changed _ _ _ node (with_status (finished_word keys)) (size_of-with_status (finished_word keys)) refl refl refl
-moves first log (Root caller rebuild word rows) z h s = moves_root (state first log) caller rebuild word rows h s
-moves first log (Draw caller rebuild part) z h s = moves_changed _ _ _ rebuild drawn size_of-drawn refl refl refl
-moves first log (Place caller rebuild i word rows) z h s = moves_place (state first log) caller rebuild i word rows h s
+moves first log (Finish caller node keys) z h s = moves_changed _ _ _ node
+    (with_status (finished_word keys)) (size_of-with_status (finished_word keys)) refl refl refl
+moves first log (Root caller rebuild word rows) z h s = moves_root (state first log) caller rebuild
+    word rows h s
+moves first log (Draw caller rebuild part) z h s = moves_changed _ _ _ rebuild drawn size_of-drawn
+    refl refl refl
+moves first log (Place caller rebuild i word rows) z h s = moves_place (state first log) caller
+    rebuild i word rows h s
 moves first log (Lose caller bases) z h s = moves_lost _ _ _ bases (λ base i. i) refl refl refl

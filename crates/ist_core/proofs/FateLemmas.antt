@@ -1,4 +1,5 @@
--- A row that was lost is gone for good, and published rows grow. Serves `laws.fates_are_one` and `laws.rows_grow`.
+-- A row that was lost is gone for good, and published rows grow. Serves `laws.fates_are_one` and
+-- `laws.rows_grow`.
 use Rattle.std.proofs.Common.{◌≡◌, ◌≢◌, ℕ, ◌<◌, List, [], ◌∷◌, None, refl, sym, ap, subst, inl, inr, ⊎_elim, arith}
 use Rattle.ist_core.specs.declared.pairs.Pair.{Pair}
 use Rattle.ist_core.specs.declared.lists.HeldRow.{HeldRow}
@@ -32,7 +33,8 @@ held_at : (t : Snapshot) (caller base : ℕ) (bases sizes : List ℕ) → HoldsS
     → Among base bases → (size : ℕ) × HoldsRow t caller base size
 held_at t caller base [] sizes h i = absurd i
 held_at t caller base (b ∷ bases) [] h i = absurd h
-held_at t caller base (b ∷ bases) (z ∷ sizes) h (inl e) = (z, subst (λ x. HoldsRow t caller x z) (sym e) h.0)
+held_at t caller base (b ∷ bases) (z ∷ sizes) h (inl e) =
+    (z, subst (λ x. HoldsRow t caller x z) (sym e) h.0)
 held_at t caller base (b ∷ bases) (z ∷ sizes) h (inr i) = held_at t caller base bases sizes h.1 i
 
 lost_held : (t : Snapshot) (log : Log) (caller base : ℕ) (bases : List ℕ)
@@ -40,7 +42,8 @@ lost_held : (t : Snapshot) (log : Log) (caller base : ℕ) (bases : List ℕ)
 lost_held t log caller base bases h i = ⊎_elim pair build h.cause
   where
     pair : LosesPair t caller bases → (size : ℕ) × HoldsRow t caller base size
-    pair c = ⊎_elim (λ e. (7, subst (λ x. HoldsRow t caller x 7) (sym e) c.held)) (λ n. absurd n) (subst (λ xs. Among base xs) c.bases_are i)
+    pair c = ⊎_elim (λ e. (7, subst (λ x. HoldsRow t caller x 7) (sym e) c.held)) (λ n. absurd n)
+        (subst (λ xs. Among base xs) c.bases_are i)
 
     build : LosesBuild t log caller bases → (size : ℕ) × HoldsRow t caller base size
     build c = held_at t caller base bases c.sizes c.held i
@@ -53,7 +56,8 @@ gone_now first log (Lose caller bases) base h s l =
     let row : HeldRow = record { caller = caller; base = base; size = it.0 } in
     record {
       unpublished = s.unpublished row it.1;
-      unheld = λ g i e. (without-kept bases (state first log).held g i).1 (subst (λ b. Among b bases) (sym e) l);
+      unheld = λ g i e. (without-kept bases (state first log).held g i).1
+          (subst (λ b. Among b bases) (sym e) l);
       used = s.held_below row it.1;
     }
 gone_now first log (Enter c) base h s l = absurd l
@@ -76,7 +80,8 @@ gone_moves : (t u : Snapshot) (event : Event) (base : ℕ) → Moves t u event �
 gone_moves t u event base m g =
     record {
       unpublished = absent (u.pieces base) (λ p e.
-          ⊎_elim (λ q. no_piece (t.pieces base) q.0 g.unpublished q.1) (λ h. g.unheld h.0 h.1 h.2) (m.from base p e));
+          ⊎_elim (λ q. no_piece (t.pieces base) q.0 g.unpublished q.1) (λ h. g.unheld h.0 h.1 h.2)
+          (m.from base p e));
       unheld = λ h i. g.unheld h (m.kept h i);
       used = subst (λ n. base < n) (sym m.next) g.used;
     }
@@ -93,29 +98,35 @@ gone_reserve first log event r base g =
       unheld = λ h i e.
           ⊎_elim
           (λ a. g.unheld h a e)
-          (λ a. ⊎_elim (λ f. let here : h.base ≡ r.base = ap (λ x. x.base) f in absurd (omega arith)) (λ n. absurd n) a)
-          (among-append h (state first log).held (record { caller = r.caller; base = r.base; size = r.size } ∷ []) i);
+          (λ a. ⊎_elim (λ f. let here : h.base ≡ r.base = ap (λ x. x.base) f in absurd
+          (omega arith)) (λ n. absurd n) a)
+          (among-append h (state first log).held
+          (record { caller = r.caller; base = r.base; size = r.size } ∷ []) i);
       used = omega arith;
     }
 
 gone : (first : Snapshot) (log : Log) (base : ℕ) → IsSound first → EachEnabled first log
     → Happened (Loses base) log → IsGone (state first log) base
 gone first [] base s h l = absurd l
-gone first (event ∷ log) base s h (inl now) = gone_now first log event base h.1 (sound first log s h.0) now
+gone first (event ∷ log) base s h (inl now) = gone_now first log event base h.1
+    (sound first log s h.0) now
 gone first (event ∷ log) base s h (inr before) =
     let g = gone first log base s h.0 before in
     ⊎_elim
     (λ m. gone_moves (state first log) (state first (event ∷ log)) event base m g)
-    (λ r. subst (λ e. IsGone (after (state first log) e) base) (sym r.is) (gone_reserve first log event r base g))
+    (λ r. subst (λ e. IsGone (after (state first log) e) base) (sym r.is)
+    (gone_reserve first log event r base g))
     (moves_or_reserves first log event h.1 (sound first log s h.0))
 
 pub lost_unpublished : (pairs : List Pair) (words : ℕ) (log : Log) → Lawful pairs words log
     → (base : ℕ) → Happened (Loses base) log → (state_of pairs words log).pieces base ≡ None
-lost_unpublished pairs words log h base l = (gone (start pairs words) log base (sound_start pairs words) h.enabled l).unpublished
+lost_unpublished pairs words log h base l =
+    (gone (start pairs words) log base (sound_start pairs words) h.enabled l).unpublished
 
 pub lost_unheld : (pairs : List Pair) (words : ℕ) (log : Log) → Lawful pairs words log
     → (h : HeldRow) → Happened (Loses h.base) log → ¬ (Among h (state_of pairs words log).held)
-lost_unheld pairs words log lawful h l i = (gone (start pairs words) log h.base (sound_start pairs words) lawful.enabled l).unheld h i refl
+lost_unheld pairs words log lawful h l i =
+    (gone (start pairs words) log h.base (sound_start pairs words) lawful.enabled l).unheld h i refl
 
 -- ---- rows grow
 
@@ -123,7 +134,8 @@ lost_unheld pairs words log lawful h l i = (gone (start pairs words) log h.base 
 pub enabled_before : (first : Snapshot) (earlier log : Log) → GoesOn earlier log
     → EachEnabled first log → EachEnabled first earlier
 enabled_before first earlier _ same_log h = h
-enabled_before first earlier _ (one_event {log = log} event g) h = enabled_before first earlier log g h.0
+enabled_before first earlier _ (one_event {log = log} event g) h = enabled_before first earlier log
+    g h.0
 
 -- rows grow from a prefix on
 pub grow_between : (pairs : List Pair) (words : ℕ) (earlier log : Log)
@@ -132,4 +144,5 @@ pub grow_between : (pairs : List Pair) (words : ℕ) (earlier log : Log)
 grow_between pairs words earlier _ h same_log = all_grow_same _
 grow_between pairs words earlier _ h (one_event {log = log} event g) =
     all_grow_on _ (state_of pairs words log).pieces _ (grow_between pairs words earlier log h.0 g)
-    (grow_step (start pairs words) log event h.1 (sound (start pairs words) log (sound_start pairs words) h.0))
+    (grow_step (start pairs words) log event h.1
+    (sound (start pairs words) log (sound_start pairs words) h.0))

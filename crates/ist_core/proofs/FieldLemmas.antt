@@ -1,4 +1,5 @@
--- A field of rows that few events write: what it says behind another event, it said before. Serves the order law.
+-- A field of rows that few events write: what it says behind another event, it said before. Serves
+-- the order law.
 use Rattle.std.proofs.Common.{◌≡◌, ◌≢◌, ℕ, ◌⊎◌, List, ◌∷◌, Some, sym, ap, ◌∙◌, subst, inl, inr, ⊎_elim}
 use Rattle.ist_core.specs.declared.lists.Row.{Row}
 use Rattle.ist_core.specs.declared.states.InnerRow.{InnerRow}
@@ -30,14 +31,16 @@ IsPlainEvent (Finish caller node keys) = ⊥
 IsPlainEvent (Root caller rebuild word rows) = ⊥
 IsPlainEvent _ = Unit {0}
 
--- the field has one value in all rows that an event publishes, and only marks, finishes and roots change it
+-- the field has one value in all rows that an event publishes, and only marks, finishes and roots
+-- change it
 pub record IsRare (field : Piece → ℕ) (none : ℕ) : Type 0 where
   pub slot : (i word : ℕ) (p : Piece) → field (with_slot i word p) ≡ field p
   pub decision : (word : ℕ) (p : Piece) → field (with_decision word p) ≡ field p
   pub count : (p : Piece) → field (counted p) ≡ field p
   pub draw : (p : Piece) → field (drawn p) ≡ field p
   pub inner : (r : InnerRow) → r.status ≡ open_word → field (Inner r) ≡ none
-  pub install : (first : Snapshot) (log : Log) (at : ℕ) (change : ChangeRow) (fresh : List Row) (fits : FitsKind first log change fresh) (base : ℕ) (p : Piece)
+  pub install : (first : Snapshot) (log : Log) (at : ℕ) (change : ChangeRow) (fresh : List Row)
+      (fits : FitsKind first log change fresh) (base : ℕ) (p : Piece)
       → IsInstalled first log at change fresh fits base p → field p ≡ none
 
 module _ (field : Piece → ℕ) (none : ℕ) (rare : IsRare field none) where
@@ -50,18 +53,21 @@ module _ (field : Piece → ℕ) (none : ℕ) (rare : IsRare field none) where
       → Has (changed_at ps at f) base value → Has ps base value
   has_changed ps at f same base value h =
       let it = changed_at-some ps at base f h.0 h.1 in
-      ⊎_elim (λ k. (it.0, it.1, sym (ap field k) ∙ h.2)) (λ k. (it.0, it.1, sym (same it.0) ∙ sym (ap field k.1) ∙ h.2)) it.2
+      ⊎_elim (λ k. (it.0, it.1, sym (ap field k) ∙ h.2))
+      (λ k. (it.0, it.1, sym (same it.0) ∙ sym (ap field k.1) ∙ h.2)) it.2
 
   has_added : (ps qs : Pieces)
       → ((base : ℕ) (p : Piece) → qs base ≡ Some p → (ps base ≡ Some p) ⊎ (field p ≡ none))
       → (base value : ℕ) → value ≢ none → Has qs base value → Has ps base value
-  has_added ps qs from base value set h = ⊎_elim (λ k. (h.0, k, h.2)) (λ k. absurd (set (sym h.2 ∙ k))) (from base h.0 h.1)
+  has_added ps qs from base value set h = ⊎_elim (λ k. (h.0, k, h.2))
+      (λ k. absurd (set (sym h.2 ∙ k))) (from base h.0 h.1)
 
   tree_none : (ps : Pieces) (rows : List ℕ) (base : ℕ) (p : Piece) → Each (StandsShaped ps) rows
       → Among base rows → ps base ≡ Some p → field p ≡ none
   tree_none ps rows base p all i e =
       let it = each-among (StandsShaped ps) base rows all i in
-      known (λ x. field x ≡ none) (ps base) p (Inner it.row) e it.published (rare.inner it.row it.untouched)
+      known (λ x. field x ≡ none) (ps base) p (Inner it.row) e it.published
+      (rare.inner it.row it.untouched)
 
   -- behind the rows that a Root publishes
   pub has_rooted : (t : Snapshot) (caller rebuild word : ℕ) (rows : List Row)
@@ -70,7 +76,10 @@ module _ (field : Piece → ℕ) (none : ℕ) (rare : IsRare field none) where
   has_rooted t caller rebuild word rows h s base value set has =
       let qs = with_inners t.pieces rows in
       let adds = adds-with_inners t caller rows h.held s in
-      has_added t.pieces qs (λ b p e. ⊎_elim (λ old. inl old) (λ i. inr (tree_none qs (bases_of rows) b p (root_shaped qs word h.k h.leaves h.row.target (bases_of rows) h.root) i e)) (adds.from b p e)) base value set has
+      has_added t.pieces qs (λ b p e. ⊎_elim (λ old. inl old)
+      (λ i. inr (tree_none qs (bases_of rows) b p
+      (root_shaped qs word h.k h.leaves h.row.target (bases_of rows) h.root) i e))
+      (adds.from b p e)) base value set has
 
   -- behind any other event that leaves the field
   pub has_step : (first : Snapshot) (log : Log) (event : Event) → Enabled first log event
@@ -80,22 +89,37 @@ module _ (field : Piece → ℕ) (none : ℕ) (rare : IsRare field none) where
       let t = state first log in
       let qs = with_installed t.pieces at h.change h.fresh in
       let word = word_of (ChangeAt at) in
-      let adds = adds_install first log caller at h.change h.fresh h.fits (holds_installed first log caller at rows h) s in
-      let there : Has (changed_at qs h.change.node (with_slot h.change.index word)) base value = subst (λ xs. Has (after t (Install caller at xs)).pieces base value) h.rows_are has in
-      has_added t.pieces qs (λ b p e. ⊎_elim (λ old. inl old) (λ new. inr (rare.install first log at h.change h.fresh h.fits b p new)) (adds.from b p e)) base value set
-      (has_changed qs h.change.node (with_slot h.change.index word) (rare.slot h.change.index word) base value there)
+      let adds = adds_install first log caller at h.change h.fresh h.fits
+      (holds_installed first log caller at rows h) s in
+      let there : Has (changed_at qs h.change.node (with_slot h.change.index word)) base value =
+      subst (λ xs. Has (after t (Install caller at xs)).pieces base value) h.rows_are has in
+      has_added t.pieces qs (λ b p e. ⊎_elim (λ old. inl old)
+      (λ new. inr (rare.install first log at h.change h.fresh h.fits b p new))
+      (adds.from b p e)) base value set
+      (has_changed qs h.change.node (with_slot h.change.index word) (rare.slot h.change.index word)
+      base value there)
   has_step first log (Resolve caller change) h s plain base value set has =
-      has_changed (state first log).pieces h.change.node (with_slot h.change.index (side_of h.change)) (rare.slot h.change.index (side_of h.change)) base value
+      has_changed (state first log).pieces h.change.node
+      (with_slot h.change.index (side_of h.change))
+      (rare.slot h.change.index (side_of h.change)) base value
       (subst (λ u. Has u.pieces base value) (rows_resolved (state first log) caller change h) has)
   has_step first log (Place caller rebuild i word rows) h s plain base value set has =
       let t = state first log in
       let qs = with_inners t.pieces rows in
       let adds = adds-with_inners t caller rows h.held s in
-      has_added t.pieces qs (λ b p e. ⊎_elim (λ old. inl old) (λ j. inr (tree_none qs (bases_of rows) b p (ideal_shaped qs h.ref h.part h.root (bases_of rows) h.ideal) j e)) (adds.from b p e)) base value set
-      (has_changed qs h.root (with_slot i word) (rare.slot i word) base value (subst (λ ps. Has ps base value) (rows_placed t caller rebuild i word rows h) has))
-  has_step first log (Decide caller change said) h s plain base value set has = has_changed (state first log).pieces change (with_decision (decision_word said)) (rare.decision (decision_word said)) base value has
-  has_step first log (Count caller node) h s plain base value set has = has_changed (state first log).pieces node counted rare.count base value has
-  has_step first log (Draw caller rebuild part) h s plain base value set has = has_changed (state first log).pieces rebuild drawn rare.draw base value has
+      has_added t.pieces qs (λ b p e. ⊎_elim (λ old. inl old)
+      (λ j. inr (tree_none qs (bases_of rows) b p
+      (ideal_shaped qs h.ref h.part h.root (bases_of rows) h.ideal) j e)) (adds.from b p e))
+      base value set
+      (has_changed qs h.root (with_slot i word) (rare.slot i word) base value
+      (subst (λ ps. Has ps base value) (rows_placed t caller rebuild i word rows h) has))
+  has_step first log (Decide caller change said) h s plain base value set has = has_changed
+      (state first log).pieces change (with_decision (decision_word said))
+      (rare.decision (decision_word said)) base value has
+  has_step first log (Count caller node) h s plain base value set has = has_changed
+      (state first log).pieces node counted rare.count base value has
+  has_step first log (Draw caller rebuild part) h s plain base value set has = has_changed
+      (state first log).pieces rebuild drawn rare.draw base value has
   has_step first log (Mark caller node) h s plain base value set has = absurd plain
   has_step first log (Finish caller node keys) h s plain base value set has = absurd plain
   has_step first log (Root caller rebuild word rows) h s plain base value set has = absurd plain

@@ -1,4 +1,5 @@
--- The end of the log of a whole rebuild is lawful, and it leaves the contents. Serves `examples.a_rebuild_is_lawful`.
+-- The end of the log of a whole rebuild is lawful, and it leaves the contents. Serves
+-- `examples.a_rebuild_is_lawful`.
 use Rattle.std.proofs.Common.{◌≡◌, ℕ, zero, suc, ◌≢◌, true, [], ◌∷◌, slice_get, Some, refl, inl, inr, ap, sym, subst, ◌∙◌, arith}
 use Rattle.ist_core.specs.declared.events.Event.TheVariants.{Reserve, Okay, Decide}
 use Rattle.ist_core.specs.Arithmetic.{degree, square_root, root_up_to, part_len, part_lens}
@@ -27,7 +28,8 @@ use Rattle.ist_core.proofs.RefusalLemmas.{NotRefused, NoneRefused, none_refused-
 -- ---- no change was refused up to the start of the rebuild
 
 pub at_opening : NoneRefused two.pieces
-unfolding NotRefused rows_within degree square_root root_up_to part_len part_lens ideal_words ideal_words_within
+unfolding NotRefused rows_within degree square_root root_up_to part_len part_lens ideal_words
+    ideal_words_within
 at_opening base p e = by_row (among-pieces_of (rows_from first_row start_pairs) base p e)
   where
     by_row : Among (base, p) (rows_from first_row start_pairs) → NotRefused p
@@ -39,7 +41,8 @@ at_opening base p e = by_row (among-pieces_of (rows_from first_row start_pairs) 
 pub none_refused_started : NoneRefused (state two rebuild_started).pieces
 unfolding NotRefused
 none_refused_started =
-    let installed = none_refused-with_row _ 20 (Change (the_start 0)) (λ e. omega arith) (none_refused-with_row _ 15 (Rebuild (the_rebuild 7)) tt at_opening) in
+    let installed = none_refused-with_row _ 20 (Change (the_start 0)) (λ e. omega arith)
+    (none_refused-with_row _ 15 (Rebuild (the_rebuild 7)) tt at_opening) in
     let standing = none_refused-changed_at _ 2 (with_slot 0 163) (slot_keeps 0 163) installed in
     let decided = none_refused-changed_at _ 20 (with_decision 1) yes_keeps standing in
     none_refused-changed_at _ 2 (with_slot 0 124) (slot_keeps 0 124) decided
@@ -52,7 +55,8 @@ finish_held = Reserve 0 36 9 ∷ rebuild_rooted
 none_refused : NoneRefused (state two finish_held).pieces
 unfolding NotRefused
 none_refused =
-    let marked = none_refused-changed_at _ 4 (with_status 1) (status_keeps 1) none_refused_started in
+    let marked = none_refused-changed_at _ 4 (with_status 1) (status_keeps 1) none_refused_started
+    in
     let finished = none_refused-changed_at _ 4 (with_status 11) (status_keeps 11) marked in
     let with_root_row = none_refused-with_row _ 29 (Inner (the_row 0)) tt finished in
     none_refused-changed_at _ 15 (with_root 234) (root_keeps 234) with_root_row
@@ -64,12 +68,27 @@ finish_reserved =
       base_is = refl;
       room = omega arith;
       fair =
-          record { building = []; spare = 9 ∷ []; merge = from_right 9 at_end; builds = no_build; few = (inr (inr (inr (inl refl))), tt); one_each = ((λ k. k), tt) };
+          record {
+            building = [];
+            spare = 9 ∷ [];
+            merge = from_right 9 at_end;
+            builds = no_build;
+            few = (inr (inr (inr (inl refl))), tt);
+            one_each = ((λ k. k), tt);
+          };
     }
 
 is_started : IsStarted (state two finish_held) 15
 unfolding ref_of
-is_started = record { base = 20; change = the_start 1; published = refl; kind = refl; decision = refl; to = refl }
+is_started = record {
+  base = 20;
+  change = the_start 1;
+  published = refl;
+  kind = refl;
+  decision =
+      refl;
+  to = refl;
+}
 
 -- no slot of the root is Unset
 none_unset : (i word : ℕ) → slice_get (89 ∷ 105 ∷ []) i ≡ Some word → word ≢ 7
@@ -80,10 +99,12 @@ none_unset (suc (suc i)) word e = absurd (cc)
 root_whole : (base i word : ℕ) → ref_of 234 ≡ Some (InnerAt base)
     → SlotHolds (state two finish_held) base i word → word ≢ 7
 unfolding ref_of
-root_whole base i word e (in_anchor at _ _) = let is : ◌≡◌ {A = ℕ} 29 base = cc in absurd (omega arith)
+root_whole base i word e (in_anchor at _ _) = let is : ◌≡◌ {A = ℕ} 29 base = cc in absurd
+    (omega arith)
 root_whole base i word e (in_row r published holds) =
     let is : ◌≡◌ {A = ℕ} 29 base = cc in
-    let there : (state two finish_held).pieces 29 ≡ Some (Inner r) = ap (state two finish_held).pieces is ∙ published in
+    let there : (state two finish_held).pieces 29 ≡ Some (Inner r) = ap
+    (state two finish_held).pieces is ∙ published in
     let same : the_row 0 ≡ r = cc in
     none_unset i word (ap (λ y. slice_get y.slots i) same ∙ holds)
 
@@ -120,24 +141,50 @@ installed =
     }
 
 okayed : CanOkay (state two finish_installed) 0 36
-okayed = record { known = omega arith; change = the_finish 0; pending = record { published = refl; unset = refl }; node_open = anchor_is refl }
+okayed = record {
+  known = omega arith;
+  change = the_finish 0;
+  pending = record
+      { published = refl; unset = refl };
+  node_open = anchor_is refl;
+}
 
-decided : CanDecide (state two (Okay 0 36 ∷ finish_installed)) (Okay 0 36 ∷ finish_installed) 0 36 true
-decided = record { known = omega arith; change = the_finish 0; pending = record { published = refl; unset = refl }; outcome = inl refl }
+decided : CanDecide (state two (Okay 0 36 ∷ finish_installed)) (Okay 0 36 ∷ finish_installed) 0 36
+    true
+decided = record {
+  known = omega arith;
+  change = the_finish 0;
+  pending = record
+      { published = refl; unset = refl };
+  outcome = inl refl;
+}
 
 resolved : CanResolve (state two (Decide 0 36 true ∷ Okay 0 36 ∷ finish_installed)) 0 36
-resolved = record { known = omega arith; change = the_finish 1; published = refl; decided = λ e. omega arith; in_slot = in_anchor refl refl refl }
+resolved = record {
+  known = omega arith;
+  change = the_finish 1;
+  published = refl;
+  decided = λ e.
+      omega arith;
+  in_slot = in_anchor refl refl refl;
+}
 
 -- the log is lawful
 pub rebuild_is_lawful : Lawful start_pairs 100 rebuild_replaced
-rebuild_is_lawful = record { opens = start_is_lawful.opens; enabled = (((((rooted_log, finish_reserved), installed), okayed), decided), resolved) }
+rebuild_is_lawful = record {
+  opens = start_is_lawful.opens;
+  enabled =
+      (((((rooted_log, finish_reserved), installed), okayed), decided), resolved);
+}
 
 -- the contents are the start pairs
 pub rebuild_contents : HasContents (state two rebuild_replaced) start_pairs
-unfolding ref_of rows_within degree square_root root_up_to part_len part_lens ideal_words ideal_words_within
+unfolding ref_of rows_within degree square_root root_up_to part_len part_lens ideal_words
+    ideal_words_within
 rebuild_contents =
     record {
       leaves = both;
-      reached = row_here (the_row 0) refl (one_slot (leaf_here low refl) (one_slot (leaf_here high refl) no_slot));
+      reached = row_here (the_row 0) refl
+          (one_slot (leaf_here low refl) (one_slot (leaf_here high refl) no_slot));
       pairs_are = refl;
     }

@@ -1,4 +1,5 @@
--- Each slot of a finished row was passed, and what it reads as stays. Serves the order law and each law on finished rows.
+-- Each slot of a finished row was passed, and what it reads as stays. Serves the order law and each
+-- law on finished rows.
 use Rattle.std.proofs.Common.{◌≡◌, ◌≢◌, ℕ, zero, suc, ◌+◌, ◌⊎◌, nat_lt, if◌then◌else◌, true, false, List, [], ◌∷◌, length, slice_get, Option, Some, refl, sym, ap, ◌∙◌, subst, inl, inr, ⊎_elim, arith}
 use Rattle.ist_core.specs.declared.pairs.Pair.{Pair}
 use Rattle.ist_core.specs.declared.lists.Row.{Row}
@@ -44,13 +45,17 @@ status_in _ = 0
 pair_untouched : (key base other_key other : ℕ)
     → status_in (pair_row key base other_key other) ≡ 0
 pair_untouched key base other_key other =
-    elim (nat_lt other_key key) as (λ v. status_in (if v then pair_over key other base else pair_over other_key base other) ≡ 0) [ true ↦ refl | false ↦ refl ]
+    elim (nat_lt other_key key) as
+    (λ v. status_in (if v then pair_over key other base else pair_over other_key base other) ≡
+    0) [ true ↦ refl | false ↦ refl ]
 
-installed_untouched : (first : Snapshot) (log : Log) (at : ℕ) (change : ChangeRow) (fresh : List Row) (fits : FitsKind first log change fresh) (base : ℕ) (p : Piece)
+installed_untouched : (first : Snapshot) (log : Log) (at : ℕ) (change : ChangeRow)
+    (fresh : List Row) (fits : FitsKind first log change fresh) (base : ℕ) (p : Piece)
     → IsInstalled first log at change fresh fits base p → status_in p ≡ 0
 installed_untouched first log at change fresh fits base p (inl h) = ap status_in h.1
 installed_untouched first log at change fresh (a_put f) base p (inr h) = ap status_in h.1
-installed_untouched first log at change fresh (a_pair f) base p (inr (inl h)) = ap status_in h.1 ∙ pair_untouched change.key f.leaf f.other_key f.other
+installed_untouched first log at change fresh (a_pair f) base p (inr (inl h)) = ap status_in h.1 ∙
+    pair_untouched change.key f.leaf f.other_key f.other
 installed_untouched first log at change fresh (a_pair f) base p (inr (inr h)) = ap status_in h.1
 installed_untouched first log at change fresh (a_remove f) base p (inr h) = absurd h
 installed_untouched first log at change fresh (a_start f) base p (inr h) = ap status_in h.1
@@ -87,7 +92,15 @@ root_same word (Change r) = refl
 root_same word (Rebuild r) = refl
 
 status_rare : IsRare status_in 0
-status_rare = record { slot = slot_same; decision = decision_same; count = count_same; draw = draw_same; inner = λ r e. e; install = installed_untouched }
+status_rare = record {
+  slot = slot_same;
+  decision = decision_same;
+  count = count_same;
+  draw =
+      draw_same;
+  inner = λ r e. e;
+  install = installed_untouched;
+}
 
 -- a finished row is one with that status
 finished_has : (t : Snapshot) (node k : ℕ) → IsFinishedWith t node k
@@ -113,7 +126,8 @@ MayFinish t log node = (caller : ℕ) × (keys : ℕ) × CanFinish t log caller 
 finished_was : (first : Snapshot) (log : Log) (event : Event) → Enabled first log event
     → IsSound (state first log) → (node k : ℕ) → IsFinishedWith (state first (event ∷ log)) node k
     → IsFinishedWith (state first log) node k ⊎ MayFinish (state first log) log node
-finished_was first log event h s node k f = at event h (finished_has (state first (event ∷ log)) node k f)
+finished_was first log event h s node k f = at event h
+    (finished_has (state first (event ∷ log)) node k f)
   where
     t : Snapshot
     t = state first log
@@ -127,11 +141,14 @@ finished_was first log event h s node k f = at event h (finished_has (state firs
 
     -- the status of this row is written, or it was finished
     written : (at word : ℕ)
-        → Has status_in 0 status_rare (changed_at t.pieces at (with_status word)) node (finished_word k)
-        → IsFinishedWith t node k ⊎ ((at ≡ node) × (p : Piece) × (status_in (with_status word p) ≡ finished_word k))
+        → Has status_in 0 status_rare (changed_at t.pieces at (with_status word)) node
+        (finished_word k)
+        → IsFinishedWith t node k ⊎ ((at ≡ node) × (p : Piece) ×
+        (status_in (with_status word p) ≡ finished_word k))
     written at word has =
         let it = changed_at-some t.pieces at node (with_status word) has.0 has.1 in
-        ⊎_elim (λ same. inl (has_finished t node k (it.0, it.1, sym (ap status_in same) ∙ has.2))) (λ new. inr (sym new.0, it.0, sym (ap status_in new.1) ∙ has.2)) it.2
+        ⊎_elim (λ same. inl (has_finished t node k (it.0, it.1, sym (ap status_in same) ∙ has.2)))
+        (λ new. inr (sym new.0, it.0, sym (ap status_in new.1) ∙ has.2)) it.2
 
     not_marked : (p : Piece) → status_in (with_status marked_word p) ≡ finished_word k → ⊥
     not_marked (Inner r) e = omega arith
@@ -142,21 +159,39 @@ finished_was first log event h s node k f = at event h (finished_has (state firs
     at : (event : Event) → Enabled first log event
         → Has status_in 0 status_rare (state first (event ∷ log)).pieces node (finished_word k)
         → IsFinishedWith t node k ⊎ MayFinish t log node
-    at (Mark caller n) h has = ⊎_elim (λ old. inl old) (λ new. absurd (not_marked new.1 new.2)) (written n marked_word has)
-    at (Finish caller n keys) h has = ⊎_elim (λ old. inl old) (λ new. inr (caller, keys, subst (λ m. CanFinish t log caller m keys) new.0 h)) (written n (finished_word keys) has)
+    at (Mark caller n) h has = ⊎_elim (λ old. inl old) (λ new. absurd (not_marked new.1 new.2))
+        (written n marked_word has)
+    at (Finish caller n keys) h has = ⊎_elim (λ old. inl old)
+        (λ new. inr (caller, keys, subst (λ m. CanFinish t log caller m keys) new.0 h))
+        (written n (finished_word keys) has)
     at (Root caller rebuild word rows) h has =
-        plain (Root caller rebuild word rows) (has_rooted status_in 0 status_rare t caller rebuild word rows h s node (finished_word k) some
-        (has_changed status_in 0 status_rare (with_inners t.pieces rows) rebuild (with_root word) (root_same word) node (finished_word k) has))
+        plain (Root caller rebuild word rows)
+        (has_rooted status_in 0 status_rare t caller rebuild word rows h s node
+        (finished_word k) some
+        (has_changed status_in 0 status_rare (with_inners t.pieces rows) rebuild (with_root word)
+        (root_same word) node (finished_word k) has))
     at (Enter caller) h has = plain (Enter caller) has
     at (Reserve caller base size) h has = plain (Reserve caller base size) has
-    at (Install caller change rows) h has = plain (Install caller change rows) (has_step status_in 0 status_rare first log (Install caller change rows) h s tt node (finished_word k) some has)
+    at (Install caller change rows) h has = plain (Install caller change rows)
+        (has_step status_in 0 status_rare first log (Install caller change rows) h s tt node
+        (finished_word k) some has)
     at (Okay caller change) h has = plain (Okay caller change) has
-    at (Decide caller change said) h has = plain (Decide caller change said) (has_step status_in 0 status_rare first log (Decide caller change said) h s tt node (finished_word k) some has)
-    at (Resolve caller change) h has = plain (Resolve caller change) (has_step status_in 0 status_rare first log (Resolve caller change) h s tt node (finished_word k) some has)
-    at (Count caller n) h has = plain (Count caller n) (has_step status_in 0 status_rare first log (Count caller n) h s tt node (finished_word k) some has)
+    at (Decide caller change said) h has = plain (Decide caller change said)
+        (has_step status_in 0 status_rare first log (Decide caller change said) h s tt node
+        (finished_word k) some has)
+    at (Resolve caller change) h has = plain (Resolve caller change)
+        (has_step status_in 0 status_rare first log (Resolve caller change) h s tt node
+        (finished_word k) some has)
+    at (Count caller n) h has = plain (Count caller n)
+        (has_step status_in 0 status_rare first log (Count caller n) h s tt node (finished_word k)
+        some has)
     at (Pass caller n i word) h has = plain (Pass caller n i word) has
-    at (Draw caller rebuild part) h has = plain (Draw caller rebuild part) (has_step status_in 0 status_rare first log (Draw caller rebuild part) h s tt node (finished_word k) some has)
-    at (Place caller rebuild i word rows) h has = plain (Place caller rebuild i word rows) (has_step status_in 0 status_rare first log (Place caller rebuild i word rows) h s tt node (finished_word k) some has)
+    at (Draw caller rebuild part) h has = plain (Draw caller rebuild part)
+        (has_step status_in 0 status_rare first log (Draw caller rebuild part) h s tt node
+        (finished_word k) some has)
+    at (Place caller rebuild i word rows) h has = plain (Place caller rebuild i word rows)
+        (has_step status_in 0 status_rare first log (Place caller rebuild i word rows) h s tt node
+        (finished_word k) some has)
     at (Lose caller bases) h has = plain (Lose caller bases) has
 
 -- ---- each slot was passed
@@ -175,8 +210,10 @@ passed_each : (t : Snapshot) (log : Log) (node start : ℕ) (slots : List ℕ) (
 passed_each t log node start _ _ past_end i at word is e = absurd (cc)
 passed_each t log node start _ _ (one_passed {here = here} word p c more) zero at w is e =
     let same : start ≡ at = omega arith in
-    subst (λ n. WasPassed t log node n) same record { word = word; passed = p; keys = here; counts = c }
-passed_each t log node start _ _ (one_passed {rest = rest} {slots = slots} word p c more) (suc i) at w is e = passed_each t log node (start + 1) slots rest more i at w (omega arith) e
+    subst (λ n. WasPassed t log node n) same record
+    { word = word; passed = p; keys = here; counts = c }
+passed_each t log node start _ _ (one_passed {rest = rest} {slots = slots} word p c more) (suc i) at
+    w is e = passed_each t log node (start + 1) slots rest more i at w (omega arith) e
 
 -- what was counted counts so still
 counts_grows : (t u : Snapshot) → AllGrow t.pieces u.pieces → (ref : Option Ref) (k : ℕ)
@@ -186,11 +223,18 @@ counts_grows t u g _ _ one_key = one_key
 counts_grows t u g _ k (of_child {child = child} f) = of_child (finished_grows t u child k g f)
 counts_grows t u g _ k (of_target {rebuild = rebuild} {target = target} has f) =
     let it = rebuild_there t.pieces u.pieces g rebuild has.row has.published in
-    of_target record { row = it.0; published = it.1; target_is = it.2.target ∙ has.target_is } (finished_grows t u target k g f)
+    of_target record { row = it.0; published = it.1; target_is = it.2.target ∙ has.target_is }
+    (finished_grows t u target k g f)
 
 passed_grows : (t u : Snapshot) (event : Event) (log : Log) (node i : ℕ)
     → AllGrow t.pieces u.pieces → WasPassed t log node i → WasPassed u (event ∷ log) node i
-passed_grows t u event log node i g h = record { word = h.word; passed = inr h.passed; keys = h.keys; counts = counts_grows t u g (ref_of h.word) h.keys h.counts }
+passed_grows t u event log node i g h = record {
+  word = h.word;
+  passed = inr h.passed;
+  keys = h.keys;
+  counts = counts_grows t u g
+      (ref_of h.word) h.keys h.counts;
+}
 
 -- a list of the same length has an element where the other has one
 get_alike : (xs ys : List ℕ) (i x : ℕ) → length xs ≡ length ys → slice_get xs i ≡ Some x
@@ -207,13 +251,17 @@ unfolding rows_within
 start_untouched fuel base [] = tt
 start_untouched fuel base (pair ∷ []) = (refl, tt)
 start_untouched zero base (pair ∷ more ∷ pairs) = tt
-start_untouched (suc fuel) base (pair ∷ more ∷ pairs) =
-    (refl, each-flat_map (λ row. status_in row.1 ≡ 0) (λ part. rows_within fuel part.0 part.1) (placed_parts base (pair ∷ more ∷ pairs)) (λ part. start_untouched fuel part.0 part.1))
+start_untouched (suc fuel) base (pair ∷ more ∷ pairs) = (
+  refl,
+  each-flat_map (λ row. status_in row.1 ≡ 0) (λ part. rows_within fuel part.0 part.1)
+      (placed_parts base (pair ∷ more ∷ pairs)) (λ part. start_untouched fuel part.0 part.1),
+)
 
 module _ (pairs : List Pair) (words : ℕ) (opens : CanOpen pairs words) where
   grows : (log : Log) (event : Event) → EachEnabled (start pairs words) (event ∷ log)
       → AllGrow (state_of pairs words log).pieces (state_of pairs words (event ∷ log)).pieces
-  grows log event h = grow_step (start pairs words) log event h.1 (sound (start pairs words) log (sound_start pairs words) h.0)
+  grows log event h = grow_step (start pairs words) log event h.1
+      (sound (start pairs words) log (sound_start pairs words) h.0)
 
   -- a slot of a finished row was passed
   pub finished_passed : (log : Log) → EachEnabled (start pairs words) log → (node k : ℕ)
@@ -221,7 +269,9 @@ module _ (pairs : List Pair) (words : ℕ) (opens : CanOpen pairs words) where
       → (state_of pairs words log).pieces node ≡ Some (Inner r) → (i word : ℕ)
       → slice_get r.slots i ≡ Some word → WasPassed (state_of pairs words log) log node i
   finished_passed [] h node k f r e i word at =
-      let none = each-among (λ row. status_in row.1 ≡ 0) (node, Inner f.row) (rows_from first_row pairs) (start_untouched (length pairs) first_row pairs) (among-pieces_of (rows_from first_row pairs) node (Inner f.row) f.published) in
+      let none = each-among (λ row. status_in row.1 ≡ 0) (node, Inner f.row)
+      (rows_from first_row pairs) (start_untouched (length pairs) first_row pairs)
+      (among-pieces_of (rows_from first_row pairs) node (Inner f.row) f.published) in
       let some = f.status in
       absurd (omega arith)
   finished_passed (event ∷ log) h node k f r e i word at =
@@ -230,16 +280,23 @@ module _ (pairs : List Pair) (words : ℕ) (opens : CanOpen pairs words) where
       let g = grows log event h in
       passed_grows t u event log node i g
       (⊎_elim
-      (λ old. before old.row old.published (λ w there. finished_passed log h.0 node k old old.row old.published i w there))
-      (λ now. before now.2.row now.2.published (λ w there. passed_each t log node 0 now.2.row.slots now.1 now.2.passed i i w (omega arith) there))
-      (finished_was (start pairs words) log event h.1 (sound (start pairs words) log (sound_start pairs words) h.0) node k f))
+      (λ old. before old.row old.published
+      (λ w there. finished_passed log h.0 node k old old.row old.published i w there))
+      (λ now. before now.2.row now.2.published
+      (λ w there. passed_each t log node 0 now.2.row.slots now.1 now.2.passed i i w
+      (omega arith) there))
+      (finished_was (start pairs words) log event h.1
+      (sound (start pairs words) log (sound_start pairs words) h.0) node k f))
     where
       before : (s : InnerRow) → (state_of pairs words log).pieces node ≡ Some (Inner s)
-          → ((w : ℕ) → slice_get s.slots i ≡ Some w → WasPassed (state_of pairs words log) log node i)
+          → ((w : ℕ) → slice_get s.slots i ≡ Some w → WasPassed (state_of pairs words log) log node
+          i)
           → WasPassed (state_of pairs words log) log node i
       before s there found =
-          let it = inner_there (state_of pairs words log).pieces (state_of pairs words (event ∷ log)).pieces (grows log event h) node s there in
+          let it = inner_there (state_of pairs words log).pieces
+          (state_of pairs words (event ∷ log)).pieces (grows log event h) node s there in
           let same = same_inner ((state_of pairs words (event ∷ log)).pieces node) it.0 r it.1 e in
-          let long : length r.slots ≡ length s.slots = ap (λ x. length x.slots) (sym same) ∙ it.2.slots in
+          let long : length r.slots ≡ length s.slots = ap (λ x. length x.slots) (sym same) ∙
+          it.2.slots in
           let old = get_alike r.slots s.slots i word long at in
           found old.0 old.1

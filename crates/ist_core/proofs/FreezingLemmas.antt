@@ -147,7 +147,9 @@ module _ (pairs : List Pair) (words : ℕ) (opens : CanOpen pairs words) (log : 
       → SlotHolds (state_of pairs words (event ∷ log)) node i (word_of (ChangeAt v.base))
       → KeepsWord (state_of pairs words (event ∷ log)) (event ∷ log) node i word
   vain_stays event h still node i word v none slot =
-      vain_on (state_of pairs words log) (state_of pairs words (event ∷ log)) log event node i word v (change_stays (start pairs words) log event h rows_sound still v.base v.change v.published) slot none
+      vain_on (state_of pairs words log) (state_of pairs words (event ∷ log)) log event node i word
+      v (change_stays (start pairs words) log event h rows_sound still v.base v.change
+      v.published) slot none
 
   keeps_install : (caller base : ℕ) (rows : List Row)
       → CanInstall (start pairs words) log caller base rows → (node i word : ℕ)
@@ -257,7 +259,9 @@ module _ (pairs : List Pair) (words : ℕ) (opens : CanOpen pairs words) (log : 
   keeps_okay caller base h node i word r e closed (holds_it slot) = holds_it slot
   keeps_okay caller base h node i word r e closed (holds_change v) =
       let t = state_of pairs words log in
-      let here = subst (λ o. SlotNames t.pieces node i o) (change_read v.base v.change v.published) (slot_names t node i (word_of (ChangeAt v.base)) (names pairs words opens log enabled) v.in_slot) in
+      let here = subst (λ o. SlotNames t.pieces node i o) (change_read v.base v.change v.published)
+      (slot_names t node i (word_of (ChangeAt v.base)) (names pairs words opens log enabled)
+      v.in_slot) in
       vain_on t t log (Okay caller base) node i word v v.published v.in_slot
       (λ is.
       let row = same_change (t.pieces v.base) h.change here.row (subst (λ b. t.pieces b ≡ Some (Change h.change)) is h.pending.published) here.published in

@@ -1,4 +1,5 @@
--- Which rows an Install publishes beside its change's, and where they stand. Serves each law that speaks of rows.
+-- Which rows an Install publishes beside its change's, and where they stand. Serves each law that
+-- speaks of rows.
 use Rattle.std.proofs.Common.{◌≡◌, ◌≢◌, ℕ, ◌⊎◌, ◌==◌, nat_lt, true, false, if◌then◌else◌, List, ◌∷◌, length, Option, Some, refl, sym, ap, ◌∙◌, subst, inl, inr, ⊎_elim, arith}
 use Rattle.ist_core.specs.declared.lists.Row.{Row}
 use Rattle.ist_core.specs.declared.states.ChangeRow.{ChangeRow}
@@ -17,9 +18,11 @@ abbrev pub IsFresh : (first : Snapshot) (log : Log) (change : ChangeRow) (fresh 
     → FitsKind first log change fresh → ℕ → Piece → Type 0
 IsFresh first log change fresh (a_put h) base p = (base ≡ h.leaf) × (p ≡ new_leaf change)
 IsFresh first log change fresh (a_pair h) base p =
-    ((base ≡ h.pair) × (p ≡ pair_row change.key h.leaf h.other_key h.other)) ⊎ ((base ≡ h.leaf) × (p ≡ new_leaf change))
+    ((base ≡ h.pair) × (p ≡ pair_row change.key h.leaf h.other_key h.other)) ⊎
+    ((base ≡ h.leaf) × (p ≡ new_leaf change))
 IsFresh first log change fresh (a_remove h) base p = ⊥
-IsFresh first log change fresh (a_start h) base p = (base ≡ h.rebuild) × (p ≡ new_rebuild change h.target)
+IsFresh first log change fresh (a_start h) base p = (base ≡ h.rebuild) ×
+    (p ≡ new_rebuild change h.target)
 IsFresh first log change fresh (a_finish h) base p = ⊥
 
 -- a fresh row is read as a rebuild at a start, and as a leaf otherwise
@@ -36,49 +39,65 @@ one_row ps at base o new p read e =
     same x a b h k = cc
 
 -- what stands behind the fresh rows is one of them, or stood there
-pub fresh_from : (ps : Pieces) (first : Snapshot) (log : Log) (change : ChangeRow) (fresh : List Row) (fits : FitsKind first log change fresh) (base : ℕ) (p : Piece)
+pub fresh_from : (ps : Pieces) (first : Snapshot) (log : Log) (change : ChangeRow)
+    (fresh : List Row) (fits : FitsKind first log change fresh) (base : ℕ) (p : Piece)
     → with_fresh ps change fresh base ≡ Some p
     → IsFresh first log change fresh fits base p ⊎ (ps base ≡ Some p)
 fresh_from ps first log change fresh (a_put h) base p e =
-    let read : read_of change.kind (words_of (new_leaf change)) ≡ Some (new_leaf change) = ap (λ k. read_of k (words_of (new_leaf change))) h.kind in
-    one_row ps h.leaf base (read_of change.kind (words_of (new_leaf change))) (new_leaf change) p read (subst (λ rows. with_fresh ps change rows base ≡ Some p) h.fresh_are e)
+    let read : read_of change.kind (words_of (new_leaf change)) ≡ Some (new_leaf change) = ap
+    (λ k. read_of k (words_of (new_leaf change))) h.kind in
+    one_row ps h.leaf base (read_of change.kind (words_of (new_leaf change))) (new_leaf change) p
+    read (subst (λ rows. with_fresh ps change rows base ≡ Some p) h.fresh_are e)
 fresh_from ps first log change fresh (a_pair h) base p e =
     let row = pair_row change.key h.leaf h.other_key h.other in
     let leafy = with_row ps h.leaf (Some (new_leaf change)) in
     ⊎_elim
     (λ w. inl (inl w))
-    (λ w. ⊎_elim (λ v. inl (inr v)) (λ v. inr v) (one_row ps h.leaf base (Some (new_leaf change)) (new_leaf change) p refl w))
-    (one_row leafy h.pair base (inner_of (words_of row)) row p (inner_of-pair_row change.key h.leaf h.other_key h.other)
+    (λ w. ⊎_elim (λ v. inl (inr v)) (λ v. inr v)
+    (one_row ps h.leaf base (Some (new_leaf change)) (new_leaf change) p refl w))
+    (one_row leafy h.pair base (inner_of (words_of row)) row p
+    (inner_of-pair_row change.key h.leaf h.other_key h.other)
     (subst (λ rows. with_fresh ps change rows base ≡ Some p) h.fresh_are e))
-fresh_from ps first log change fresh (a_remove h) base p e = inr (subst (λ rows. with_fresh ps change rows base ≡ Some p) h.fresh_are e)
+fresh_from ps first log change fresh (a_remove h) base p e = inr
+    (subst (λ rows. with_fresh ps change rows base ≡ Some p) h.fresh_are e)
 fresh_from ps first log change fresh (a_start h) base p e =
     let row = new_rebuild change h.target in
-    let read : read_of change.kind (words_of row) ≡ Some row = ap (λ k. read_of k (words_of row)) h.kind in
-    one_row ps h.rebuild base (read_of change.kind (words_of row)) row p read (subst (λ rows. with_fresh ps change rows base ≡ Some p) h.fresh_are e)
-fresh_from ps first log change fresh (a_finish h) base p e = inr (subst (λ rows. with_fresh ps change rows base ≡ Some p) h.fresh_are e)
+    let read : read_of change.kind (words_of row) ≡ Some row = ap (λ k. read_of k (words_of row))
+    h.kind in
+    one_row ps h.rebuild base (read_of change.kind (words_of row)) row p read
+    (subst (λ rows. with_fresh ps change rows base ≡ Some p) h.fresh_are e)
+fresh_from ps first log change fresh (a_finish h) base p e = inr
+    (subst (λ rows. with_fresh ps change rows base ≡ Some p) h.fresh_are e)
 
 -- a row that was put stands
 put_stands : (ps : Pieces) (at base : ℕ) (o : Option Piece) (new p : Piece) → o ≡ Some new
     → base ≡ at → p ≡ new → with_row ps at o base ≡ Some p
 put_stands ps at base o new p read here is =
-    subst (λ b. with_row ps at o b ≡ Some p) (sym here) (subst (λ x. with_row ps at x at ≡ Some p) (sym read) (with_row-same ps at new ∙ ap (λ x. Some x) (sym is)))
+    subst (λ b. with_row ps at o b ≡ Some p) (sym here)
+    (subst (λ x. with_row ps at x at ≡ Some p) (sym read)
+    (with_row-same ps at new ∙ ap (λ x. Some x) (sym is)))
 
 -- rows of different sizes that a caller holds have different bases
 pub sizes_apart : (t : Snapshot) (caller base other size more : ℕ) → IsSound t
     → HoldsRow t caller base size → HoldsRow t caller other more → size ≢ more → base ≢ other
 sizes_apart t caller base other size more sound h k differ same =
-    differ (ap (λ row. row.size) (sound.once record { caller = caller; base = base; size = size } record { caller = caller; base = other; size = more } h k same))
+    differ (ap (λ row. row.size) (sound.once record { caller = caller; base = base; size = size }
+    record { caller = caller; base = other; size = more } h k same))
 
 pair_size : (key base other_key other : ℕ)
     → length (words_of (pair_row key base other_key other)) ≡ 7
 pair_size key base other_key other =
-    elim (nat_lt other_key key) as (λ v. length (words_of (if v then pair_over key other base else pair_over other_key base other)) ≡ 7) [ true ↦ refl | false ↦ refl ]
+    elim (nat_lt other_key key) as
+    (λ v. length (words_of (if v then pair_over key other base else pair_over other_key base
+    other)) ≡ 7) [ true ↦ refl | false ↦ refl ]
 
-module _ (first : Snapshot) (log : Log) (caller at : ℕ) (change : ChangeRow) (fresh : List Row) (sound : IsSound (state first log)) where
+module _ (first : Snapshot) (log : Log) (caller at : ℕ) (change : ChangeRow) (fresh : List Row)
+    (sound : IsSound (state first log)) where
   -- a fresh row is held, and is not at the change's base
   fresh_apart : (size : ℕ) (base : ℕ) → HoldsRow (state first log) caller at 9
       → HoldsRow (state first log) caller base size → size ≢ 9 → base ≢ at
-  fresh_apart size base h k differ = sizes_apart (state first log) caller base at size 9 sound k h differ
+  fresh_apart size base h k differ = sizes_apart (state first log) caller base at size 9 sound k h
+      differ
 
   -- each fresh row stands behind the Install
   pub fresh_stands : (ps : Pieces) (fits : FitsKind first log change fresh)
@@ -86,37 +105,53 @@ module _ (first : Snapshot) (log : Log) (caller at : ℕ) (change : ChangeRow) (
       → (base : ℕ) (p : Piece)
       → IsFresh first log change fresh fits base p → with_installed ps at change fresh base ≡ Some p
   fresh_stands ps (a_put h) holds base p (here, is) =
-      let held = subst (λ rows. HoldsRows (state first log) caller (row_at at (Change change) ∷ rows)) h.fresh_are holds in
-      let read : read_of change.kind (words_of (new_leaf change)) ≡ Some (new_leaf change) = ap (λ k. read_of k (words_of (new_leaf change))) h.kind in
+      let held = subst (λ rows. HoldsRows (state first log) caller
+      (row_at at (Change change) ∷ rows)) h.fresh_are holds in
+      let read : read_of change.kind (words_of (new_leaf change)) ≡ Some (new_leaf change) = ap
+      (λ k. read_of k (words_of (new_leaf change))) h.kind in
       let out = fresh_apart 2 h.leaf held.0 held.1.0 (λ e. omega arith) in
-      with_row-other (with_fresh ps change fresh) at base (Some (Change change)) (λ e. out (sym here ∙ e))
+      with_row-other (with_fresh ps change fresh) at base (Some (Change change))
+      (λ e. out (sym here ∙ e))
       ∙ subst (λ rows. with_fresh ps change rows base ≡ Some p) (sym h.fresh_are)
-      (put_stands ps h.leaf base (read_of change.kind (words_of (new_leaf change))) (new_leaf change) p read here is)
+      (put_stands ps h.leaf base (read_of change.kind (words_of (new_leaf change)))
+      (new_leaf change) p read here is)
   fresh_stands ps (a_pair h) holds base p (inl (here, is)) =
       let row = pair_row change.key h.leaf h.other_key h.other in
-      let held = subst (λ rows. HoldsRows (state first log) caller (row_at at (Change change) ∷ rows)) h.fresh_are holds in
+      let held = subst (λ rows. HoldsRows (state first log) caller
+      (row_at at (Change change) ∷ rows)) h.fresh_are holds in
       let size = pair_size change.key h.leaf h.other_key h.other in
-      let out = fresh_apart (length (words_of row)) h.pair held.0 held.1.0 (λ e. let nine : 7 ≡ 9 = sym size ∙ e in absurd (omega arith)) in
-      with_row-other (with_fresh ps change fresh) at base (Some (Change change)) (λ e. out (sym here ∙ e))
+      let out = fresh_apart (length (words_of row)) h.pair held.0 held.1.0
+      (λ e. let nine : 7 ≡ 9 = sym size ∙ e in absurd (omega arith)) in
+      with_row-other (with_fresh ps change fresh) at base (Some (Change change))
+      (λ e. out (sym here ∙ e))
       ∙ subst (λ rows. with_fresh ps change rows base ≡ Some p) (sym h.fresh_are)
-      (put_stands (with_row ps h.leaf (Some (new_leaf change))) h.pair base (inner_of (words_of row)) row p (inner_of-pair_row change.key h.leaf h.other_key h.other) here is)
+      (put_stands (with_row ps h.leaf (Some (new_leaf change))) h.pair base
+      (inner_of (words_of row)) row p (inner_of-pair_row change.key h.leaf h.other_key h.other)
+      here is)
   fresh_stands ps (a_pair h) holds base p (inr (here, is)) =
       let row = pair_row change.key h.leaf h.other_key h.other in
-      let held = subst (λ rows. HoldsRows (state first log) caller (row_at at (Change change) ∷ rows)) h.fresh_are holds in
+      let held = subst (λ rows. HoldsRows (state first log) caller
+      (row_at at (Change change) ∷ rows)) h.fresh_are holds in
       let size = pair_size change.key h.leaf h.other_key h.other in
       let out = fresh_apart 2 h.leaf held.0 held.1.1.0 (λ e. omega arith) in
-      let beside = sizes_apart (state first log) caller h.leaf h.pair 2 (length (words_of row)) sound held.1.1.0 held.1.0 (λ e. let seven : 2 ≡ 7 = e ∙ size in absurd (omega arith)) in
-      with_row-other (with_fresh ps change fresh) at base (Some (Change change)) (λ e. out (sym here ∙ e))
+      let beside = sizes_apart (state first log) caller h.leaf h.pair 2 (length (words_of row))
+      sound held.1.1.0 held.1.0 (λ e. let seven : 2 ≡ 7 = e ∙ size in absurd (omega arith)) in
+      with_row-other (with_fresh ps change fresh) at base (Some (Change change))
+      (λ e. out (sym here ∙ e))
       ∙ subst (λ rows. with_fresh ps change rows base ≡ Some p) (sym h.fresh_are)
-      (with_row-other (with_row ps h.leaf (Some (new_leaf change))) h.pair base (inner_of (words_of row)) (λ e. beside (sym here ∙ e))
+      (with_row-other (with_row ps h.leaf (Some (new_leaf change))) h.pair base
+      (inner_of (words_of row)) (λ e. beside (sym here ∙ e))
       ∙ put_stands ps h.leaf base (Some (new_leaf change)) (new_leaf change) p refl here is)
   fresh_stands ps (a_remove h) holds base p f = absurd f
   fresh_stands ps (a_start h) holds base p (here, is) =
       let row = new_rebuild change h.target in
-      let held = subst (λ rows. HoldsRows (state first log) caller (row_at at (Change change) ∷ rows)) h.fresh_are holds in
-      let read : read_of change.kind (words_of row) ≡ Some row = ap (λ k. read_of k (words_of row)) h.kind in
+      let held = subst (λ rows. HoldsRows (state first log) caller
+      (row_at at (Change change) ∷ rows)) h.fresh_are holds in
+      let read : read_of change.kind (words_of row) ≡ Some row = ap (λ k. read_of k (words_of row))
+      h.kind in
       let out = fresh_apart 5 h.rebuild held.0 held.1.0 (λ e. omega arith) in
-      with_row-other (with_fresh ps change fresh) at base (Some (Change change)) (λ e. out (sym here ∙ e))
+      with_row-other (with_fresh ps change fresh) at base (Some (Change change))
+      (λ e. out (sym here ∙ e))
       ∙ subst (λ rows. with_fresh ps change rows base ≡ Some p) (sym h.fresh_are)
       (put_stands ps h.rebuild base (read_of change.kind (words_of row)) row p read here is)
   fresh_stands ps (a_finish h) holds base p f = absurd f

@@ -28,8 +28,12 @@ PassedBy t node i word = (caller : ℕ) × CanPass t caller node i word
 
 passed_now : (first : Snapshot) (log : Log) (event : Event) (node i word : ℕ)
     → Enabled first log event → Passes node i word event → PassedBy (state first log) node i word
-passed_now first log (Pass caller n j w) node i word h is =
-    (caller, subst (λ x. CanPass (state first log) caller node i x) is.2 (subst (λ x. CanPass (state first log) caller node x w) is.1 (subst (λ x. CanPass (state first log) caller x j w) is.0 h)))
+passed_now first log (Pass caller n j w) node i word h is = (
+  caller,
+  subst (λ x. CanPass (state first log) caller node i x) is.2
+      (subst (λ x. CanPass (state first log) caller node x w) is.1
+      (subst (λ x. CanPass (state first log) caller x j w) is.0 h)),
+)
 passed_now first log (Enter caller) node i word h is = absurd is
 passed_now first log (Reserve caller base size) node i word h is = absurd is
 passed_now first log (Install caller change rows) node i word h is = absurd is
@@ -66,15 +70,24 @@ pass_same t log (Lose caller bases) first node i word is = absurd is
 passed_plain : (first : Snapshot) (log : Log) (node i word : ℕ) → EachEnabled first log
     → Happened (Passes node i word) log → IsPlain word
 passed_plain first [] node i word h p = absurd p
-passed_plain first (event ∷ log) node i word h (inl now) = let can = (passed_now first log event node i word h.1 now).1 in record { set = can.set; no_change = can.no_change }
-passed_plain first (event ∷ log) node i word h (inr before) = passed_plain first log node i word h.0 before
+passed_plain first (event ∷ log) node i word h (inl now) = let can =
+    (passed_now first log event node i word h.1 now).1 in record
+    { set = can.set; no_change = can.no_change }
+passed_plain first (event ∷ log) node i word h (inr before) = passed_plain first log node i word h.0
+    before
 
 -- a node that is marked is closed
 closed_now : (t : Snapshot) (log : Log) (caller node i word : ℕ) → CanPass t caller node i word
     → IsClosedOver t log node i word
 closed_now t log caller node i word h =
     let one = h.marked in
-    record { row = h.row; published = h.published; closed = λ e. omega arith; keeps = holds_it (in_row h.row h.published h.in_slot) }
+    record {
+      row = h.row;
+      published = h.published;
+      closed = λ e. omega arith;
+      keeps = holds_it
+          (in_row h.row h.published h.in_slot);
+    }
 
 -- a change is read away
 past_no_change : (ps : Pieces) (ref : Option Ref) → ((change : ℕ) → ref ≢ Some (ChangeAt change))
@@ -94,10 +107,13 @@ module _ (pairs : List Pair) (words : ℕ) (opens : CanOpen pairs words) where
   closed [] h node i word p = absurd p
   closed (event ∷ log) h node i word (inl now) =
       let can = passed_now (start pairs words) log event node i word h.1 now in
-      subst (λ u. IsClosedOver u (event ∷ log) node i word) (sym (pass_same (start pairs words) log event (start pairs words) node i word now)) (closed_now (state_of pairs words log) (event ∷ log) can.0 node i word can.1)
+      subst (λ u. IsClosedOver u (event ∷ log) node i word)
+      (sym (pass_same (start pairs words) log event (start pairs words) node i word now))
+      (closed_now (state_of pairs words log) (event ∷ log) can.0 node i word can.1)
   closed (event ∷ log) h node i word (inr before) =
       let plain = passed_plain (start pairs words) log node i word h.0 before in
-      closed_step pairs words opens log h.0 event h.1 node i word plain.set plain.no_change (closed log h.0 node i word before)
+      closed_step pairs words opens log h.0 event h.1 node i word plain.set plain.no_change
+      (closed log h.0 node i word before)
 
   -- what a closed slot holds where it holds no change
   held_word : (log : Log) → EachEnabled (start pairs words) log → (node i v w : ℕ)
@@ -107,10 +123,13 @@ module _ (pairs : List Pair) (words : ℕ) (opens : CanOpen pairs words) where
   held_word log h node i v w c slot plain = at c.keeps
     where
       at : KeepsWord (state_of pairs words log) log node i v → w ≡ v
-      at (holds_it k) = slot_once (state_of pairs words log) node i w v (anchor_free pairs words log h) slot k
+      at (holds_it k) = slot_once (state_of pairs words log) node i w v
+          (anchor_free pairs words log h) slot k
       at (holds_change x) =
-          let same = slot_once (state_of pairs words log) node i w (word_of (ChangeAt x.base)) (anchor_free pairs words log h) slot x.in_slot in
-          absurd (plain x.base (ap ref_of same ∙ change_read pairs words opens log h x.base x.change x.published))
+          let same = slot_once (state_of pairs words log) node i w (word_of (ChangeAt x.base))
+          (anchor_free pairs words log h) slot x.in_slot in
+          absurd (plain x.base (ap ref_of same ∙ change_read pairs words opens log h x.base x.change
+          x.published))
 
   -- all passes of a slot name one word
   pub passes_agree : (log : Log) → EachEnabled (start pairs words) log → (node i v w : ℕ)
@@ -119,13 +138,17 @@ module _ (pairs : List Pair) (words : ℕ) (opens : CanOpen pairs words) where
   passes_agree (event ∷ log) h node i v w (inl p) (inl q) =
       let first = passed_now (start pairs words) log event node i v h.1 p in
       let second = passed_now (start pairs words) log event node i w h.1 q in
-      slot_once (state_of pairs words log) node i v w (anchor_free pairs words log h.0) (in_row first.1.row first.1.published first.1.in_slot) (in_row second.1.row second.1.published second.1.in_slot)
+      slot_once (state_of pairs words log) node i v w (anchor_free pairs words log h.0)
+      (in_row first.1.row first.1.published first.1.in_slot)
+      (in_row second.1.row second.1.published second.1.in_slot)
   passes_agree (event ∷ log) h node i v w (inl p) (inr q) =
       let can = passed_now (start pairs words) log event node i v h.1 p in
-      held_word log h.0 node i w v (closed log h.0 node i w q) (in_row can.1.row can.1.published can.1.in_slot) can.1.no_change
+      held_word log h.0 node i w v (closed log h.0 node i w q)
+      (in_row can.1.row can.1.published can.1.in_slot) can.1.no_change
   passes_agree (event ∷ log) h node i v w (inr p) (inl q) =
       let can = passed_now (start pairs words) log event node i w h.1 q in
-      sym (held_word log h.0 node i v w (closed log h.0 node i v p) (in_row can.1.row can.1.published can.1.in_slot) can.1.no_change)
+      sym (held_word log h.0 node i v w (closed log h.0 node i v p)
+      (in_row can.1.row can.1.published can.1.in_slot) can.1.no_change)
   passes_agree (event ∷ log) h node i v w (inr p) (inr q) = passes_agree log h.0 node i v w p q
 
   -- a frozen slot reads as its word
@@ -143,11 +166,15 @@ module _ (pairs : List Pair) (words : ℕ) (opens : CanOpen pairs words) where
           (state_of pairs words log).pieces (ref_of v)
       at (holds_it k) =
           let ps = (state_of pairs words log).pieces in
-          ap (logical ps) (slot_once (state_of pairs words log) node i w v (anchor_free pairs words log h) slot k) ∙ ap (past_rebuild ps) (past_no_change ps (ref_of v) plain.no_change)
+          ap (logical ps) (slot_once (state_of pairs words log) node i w v
+          (anchor_free pairs words log h) slot k) ∙ ap (past_rebuild ps)
+          (past_no_change ps (ref_of v) plain.no_change)
       at (holds_change x) =
           let ps = (state_of pairs words log).pieces in
-          let same = slot_once (state_of pairs words log) node i w (word_of (ChangeAt x.base)) (anchor_free pairs words log h) slot x.in_slot in
+          let same = slot_once (state_of pairs words log) node i w (word_of (ChangeAt x.base))
+          (anchor_free pairs words log h) slot x.in_slot in
           ap (logical ps) same
-          ∙ ap (λ o. past_rebuild ps (past_change ps o)) (change_read pairs words opens log h x.base x.change x.published)
+          ∙ ap (λ o. past_rebuild ps (past_change ps o))
+          (change_read pairs words opens log h x.base x.change x.published)
           ∙ ap (λ o. past_rebuild ps (change_reads o)) x.published
           ∙ ap (λ y. past_rebuild ps (ref_of y)) (side_not_yes x.change x.not_yes ∙ x.from)

@@ -15,14 +15,22 @@ use Rattle.ist_core.specs.Growing.{StatusGoesOn, status_stays, is_marked, is_fin
 
 -- an inner row may stay as it is
 inner_same : (r : InnerRow) → InnerGrows r r
-inner_same r = record { status = status_stays refl; count = le_refl _; degree = refl; size = refl; keys = refl; slots = refl }
+inner_same r = record {
+  status = status_stays refl;
+  count = le_refl _;
+  degree = refl;
+  size = refl;
+  keys = refl;
+  slots = refl;
+}
 
 -- so may each row
 pub grows_same : (p : Piece) → Grows p p
 grows_same (Leaf r) = leaf_stays
 grows_same (Inner r) = inner_grows (inner_same r)
 grows_same (Change r) = change_grows record { decided = λ _. refl; others = refl }
-grows_same (Rebuild r) = rebuild_grows record { target = refl; parent = refl; index = refl; rooted = λ _. refl; draw = le_refl _ }
+grows_same (Rebuild r) = rebuild_grows record
+    { target = refl; parent = refl; index = refl; rooted = λ _. refl; draw = le_refl _ }
 
 -- a status goes on and on
 status_on : (a b c : ℕ) → StatusGoesOn a b → StatusGoesOn b c → StatusGoesOn a c
@@ -75,22 +83,39 @@ rebuild_on a b c h k =
 -- what becomes of a row may become of the first
 pub grows_on : (p q r : Piece) → Grows p q → Grows q r → Grows p r
 grows_on _ _ _ leaf_stays k = k
-grows_on _ _ _ (inner_grows {old = a} {new = b} h) (inner_grows {new = c} k) = inner_grows (inner_on a b c h k)
-grows_on _ _ _ (change_grows {old = a} {new = b} h) (change_grows {new = c} k) = change_grows (change_on a b c h k)
-grows_on _ _ _ (rebuild_grows {old = a} {new = b} h) (rebuild_grows {new = c} k) = rebuild_grows (rebuild_on a b c h k)
+grows_on _ _ _ (inner_grows {old = a} {new = b} h) (inner_grows {new = c} k) = inner_grows
+    (inner_on a b c h k)
+grows_on _ _ _ (change_grows {old = a} {new = b} h) (change_grows {new = c} k) = change_grows
+    (change_on a b c h k)
+grows_on _ _ _ (rebuild_grows {old = a} {new = b} h) (rebuild_grows {new = c} k) = rebuild_grows
+    (rebuild_on a b c h k)
 
 -- ---- what each write makes of a row
 
 pub grows-with_slot : (i word : ℕ) (p : Piece) → Grows p (with_slot i word p)
 grows-with_slot i word (Leaf r) = leaf_stays
 grows-with_slot i word (Inner r) =
-    inner_grows record { status = status_stays refl; count = le_refl _; degree = refl; size = refl; keys = refl; slots = length-set r.slots i word }
+    inner_grows record {
+      status = status_stays refl;
+      count = le_refl _;
+      degree = refl;
+      size = refl;
+      keys = refl;
+      slots = length-set r.slots i word;
+    }
 grows-with_slot i word (Change r) = grows_same (Change r)
 grows-with_slot i word (Rebuild r) = grows_same (Rebuild r)
 
 pub grows-counted : (p : Piece) → Grows p (counted p)
 grows-counted (Leaf r) = leaf_stays
-grows-counted (Inner r) = inner_grows record { status = status_stays refl; count = omega arith; degree = refl; size = refl; keys = refl; slots = refl }
+grows-counted (Inner r) = inner_grows record {
+  status = status_stays refl;
+  count = omega arith;
+  degree = refl;
+  size = refl;
+  keys = refl;
+  slots = refl;
+}
 grows-counted (Change r) = grows_same (Change r)
 grows-counted (Rebuild r) = grows_same (Rebuild r)
 
@@ -98,22 +123,26 @@ pub grows-drawn : (p : Piece) → Grows p (drawn p)
 grows-drawn (Leaf r) = leaf_stays
 grows-drawn (Inner r) = grows_same (Inner r)
 grows-drawn (Change r) = grows_same (Change r)
-grows-drawn (Rebuild r) = rebuild_grows record { target = refl; parent = refl; index = refl; rooted = λ _. refl; draw = omega arith }
+grows-drawn (Rebuild r) = rebuild_grows record
+    { target = refl; parent = refl; index = refl; rooted = λ _. refl; draw = omega arith }
 
 -- a status that goes on
 pub grows-with_status : (r : InnerRow) (status : ℕ) → StatusGoesOn r.status status
     → Grows (Inner r) (with_status status (Inner r))
-grows-with_status r status h = inner_grows record { status = h; count = le_refl _; degree = refl; size = refl; keys = refl; slots = refl }
+grows-with_status r status h = inner_grows record
+    { status = h; count = le_refl _; degree = refl; size = refl; keys = refl; slots = refl }
 
 -- a change that is decided now
 pub grows-with_decision : (r : ChangeRow) (decision : ℕ) → r.decision ≡ undecided
     → Grows (Change r) (with_decision decision (Change r))
-grows-with_decision r decision e = change_grows record { decided = λ set. absurd (set e); others = refl }
+grows-with_decision r decision e = change_grows record
+    { decided = λ set. absurd (set e); others = refl }
 
 -- a rebuild that gets its root now
 pub grows-with_root : (r : RebuildRow) (word : ℕ) → r.root ≡ unset_word
     → Grows (Rebuild r) (with_root word (Rebuild r))
-grows-with_root r word e = rebuild_grows record { target = refl; parent = refl; index = refl; rooted = λ set. absurd (set e); draw = le_refl _ }
+grows-with_root r word e = rebuild_grows record
+    { target = refl; parent = refl; index = refl; rooted = λ set. absurd (set e); draw = le_refl _ }
 
 -- ---- all rows
 
@@ -135,7 +164,12 @@ all_grow-changed_at ps at f grows base p e = here (base == at) refl
   where
     here : (v : Bool) → (base == at) ≡ v
         → (q : Piece) × ((if v then option_map f (ps base) else ps base) ≡ Some q) × Grows p q
-    here true same = (f p, ap (option_map f) e, grows p (subst (λ b. ps b ≡ Some p) (let is : base ≡ at = grind (arith, nat_tests) in is) e))
+    here true same = (
+      f p,
+      ap (option_map f) e,
+      grows p
+          (subst (λ b. ps b ≡ Some p) (let is : base ≡ at = grind (arith, nat_tests) in is) e),
+    )
     here false same = (p, e, grows_same p)
 
 -- where rows are only added
@@ -155,7 +189,8 @@ leaf_there ps qs g base r e = at (g base (Leaf r) e).0 (g base (Leaf r) e).1 (g 
 pub inner_there : (ps qs : Pieces) → AllGrow ps qs → (base : ℕ) (r : InnerRow)
     → ps base ≡ Some (Inner r)
     → (s : InnerRow) × (qs base ≡ Some (Inner s)) × InnerGrows r s
-inner_there ps qs g base r e = at (g base (Inner r) e).0 (g base (Inner r) e).1 (g base (Inner r) e).2
+inner_there ps qs g base r e = at (g base (Inner r) e).0 (g base (Inner r) e).1
+    (g base (Inner r) e).2
   where
     at : (q : Piece) → qs base ≡ Some q → Grows (Inner r) q
         → (s : InnerRow) × (qs base ≡ Some (Inner s)) × InnerGrows r s
@@ -164,7 +199,8 @@ inner_there ps qs g base r e = at (g base (Inner r) e).0 (g base (Inner r) e).1 
 pub change_there : (ps qs : Pieces) → AllGrow ps qs → (base : ℕ) (r : ChangeRow)
     → ps base ≡ Some (Change r)
     → (s : ChangeRow) × (qs base ≡ Some (Change s)) × ChangeGrows r s
-change_there ps qs g base r e = at (g base (Change r) e).0 (g base (Change r) e).1 (g base (Change r) e).2
+change_there ps qs g base r e = at (g base (Change r) e).0 (g base (Change r) e).1
+    (g base (Change r) e).2
   where
     at : (q : Piece) → qs base ≡ Some q → Grows (Change r) q
         → (s : ChangeRow) × (qs base ≡ Some (Change s)) × ChangeGrows r s
@@ -173,7 +209,8 @@ change_there ps qs g base r e = at (g base (Change r) e).0 (g base (Change r) e)
 pub rebuild_there : (ps qs : Pieces) → AllGrow ps qs → (base : ℕ) (r : RebuildRow)
     → ps base ≡ Some (Rebuild r)
     → (s : RebuildRow) × (qs base ≡ Some (Rebuild s)) × RebuildGrows r s
-rebuild_there ps qs g base r e = at (g base (Rebuild r) e).0 (g base (Rebuild r) e).1 (g base (Rebuild r) e).2
+rebuild_there ps qs g base r e = at (g base (Rebuild r) e).0 (g base (Rebuild r) e).1
+    (g base (Rebuild r) e).2
   where
     at : (q : Piece) → qs base ≡ Some q → Grows (Rebuild r) q
         → (s : RebuildRow) × (qs base ≡ Some (Rebuild s)) × RebuildGrows r s

@@ -1,4 +1,5 @@
--- The conjunct `one_home`: an inner row is named for one slot only, by the slot, a change of it or a rebuild for it.
+-- The conjunct `one_home`: an inner row is named for one slot only, by the slot, a change of it or
+-- a rebuild for it.
 -- Serves the one-parent law.
 use Rattle.std.proofs.Common.{◌≡◌, ◌≢◌, ℕ, ◌⊎◌, ◌==◌, if◌then◌else◌, Bool, true, false, slice_get, Option, Some, None, refl, sym, ap, ◌∙◌, subst, inl, inr, ⊎_elim}
 use Rattle.std.proofs.lemmas.Bool.Decides.{eqb_tells}
@@ -16,13 +17,17 @@ use Rattle.ist_core.proofs.NamingLemmas.{InnerHere, SlotNames, RowNames, SideNam
 
 -- ---- what is named for a slot
 
--- the row at the base names the reference for slot i of the node: in this slot, as a side of a change of this slot, or as the
+-- the row at the base names the reference for slot i of the node: in this slot, as a side of a
+-- change of this slot, or as the
 -- target or the root of a rebuild for this slot
 abbrev pub Says : ℕ → Piece → ℕ → ℕ → Ref → Type 0
 Says base (Leaf r) node i ref = ⊥
-Says base (Inner r) node i ref = (node ≡ base) × (word : ℕ) × (slice_get r.slots i ≡ Some word) × (ref_of word ≡ Some ref)
-Says base (Change r) node i ref = (node ≡ r.node) × (i ≡ r.index) × ((ref_of r.from ≡ Some ref) ⊎ (ref_of r.to ≡ Some ref))
-Says base (Rebuild r) node i ref = (node ≡ r.parent) × (i ≡ r.index) × ((InnerAt r.target ≡ ref) ⊎ (ref_of r.root ≡ Some ref))
+Says base (Inner r) node i ref = (node ≡ base) × (word : ℕ) × (slice_get r.slots i ≡ Some word) ×
+    (ref_of word ≡ Some ref)
+Says base (Change r) node i ref = (node ≡ r.node) × (i ≡ r.index) ×
+    ((ref_of r.from ≡ Some ref) ⊎ (ref_of r.to ≡ Some ref))
+Says base (Rebuild r) node i ref = (node ≡ r.parent) × (i ≡ r.index) ×
+    ((InnerAt r.target ≡ ref) ⊎ (ref_of r.root ≡ Some ref))
 
 -- the reference is named for slot i of the node
 abbrev pub Mentions : Snapshot → ℕ → ℕ → Ref → Type 0
@@ -44,22 +49,28 @@ slot_mentions t node i word ref (in_row r p e) is = inr (node, Inner r, p, (refl
 -- an inner row that is named is published
 pub mentioned_here : (t : Snapshot) (node i child : ℕ) → WordsName t
     → Mentions t node i (InnerAt child) → InnerHere t.pieces child
-mentioned_here t node i child o (inl h) = let it : SlotNames t.pieces anchor 0 (Some (InnerAt child)) = subst (λ ref. SlotNames t.pieces anchor 0 ref) h.2 o.anchor_slot in it.1
+mentioned_here t node i child o (inl h) = let it : SlotNames t.pieces anchor 0
+    (Some (InnerAt child)) = subst (λ ref. SlotNames t.pieces anchor 0 ref) h.2 o.anchor_slot in
+    it.1
 mentioned_here t node i child o (inr h) = at h.1 (o.rows h.0 h.1 h.2) h.3
   where
     at : (p : Piece) → RowNames t.pieces h.0 p → Says h.0 p node i (InnerAt child)
         → InnerHere t.pieces child
     at (Leaf r) names says = absurd says
-    at (Inner r) names says = let it : SlotNames t.pieces h.0 i (Some (InnerAt child)) = subst (λ ref. SlotNames t.pieces h.0 i ref) says.3 (names i says.1 says.2) in it.1
+    at (Inner r) names says = let it : SlotNames t.pieces h.0 i (Some (InnerAt child)) = subst
+        (λ ref. SlotNames t.pieces h.0 i ref) says.3 (names i says.1 says.2) in it.1
     at (Change r) names says =
         ⊎_elim
-        (λ e. let it : SideNames t.pieces r.node r.index (Some (InnerAt child)) = subst (λ ref. SideNames t.pieces r.node r.index ref) e names.0 in it.1)
-        (λ e. let it : SideNames t.pieces r.node r.index (Some (InnerAt child)) = subst (λ ref. SideNames t.pieces r.node r.index ref) e names.1 in it.1)
+        (λ e. let it : SideNames t.pieces r.node r.index (Some (InnerAt child)) = subst
+        (λ ref. SideNames t.pieces r.node r.index ref) e names.0 in it.1)
+        (λ e. let it : SideNames t.pieces r.node r.index (Some (InnerAt child)) = subst
+        (λ ref. SideNames t.pieces r.node r.index ref) e names.1 in it.1)
         says.2
     at (Rebuild r) names says =
         ⊎_elim
         (λ e. let same : r.target ≡ child = cc in subst (λ b. InnerHere t.pieces b) same names.1)
-        (λ e. let it : RootNames t.pieces r.target (Some (InnerAt child)) = subst (λ ref. RootNames t.pieces r.target ref) e names.2 in it.1)
+        (λ e. let it : RootNames t.pieces r.target (Some (InnerAt child)) = subst
+        (λ ref. RootNames t.pieces r.target ref) e names.2 in it.1)
         says.2
 
 -- ---- what an event names
@@ -70,7 +81,8 @@ Came of t New node i child = Mentions t node i (of child) ⊎ New node i child
 
 -- whatever the row names came so
 unfoldable pub SaysCame : (ℕ → Ref) → Snapshot → (ℕ → ℕ → ℕ → Type 0) → ℕ → Piece → Type 0
-SaysCame of t New base p = (node i child : ℕ) → Says base p node i (of child) → Came of t New node i child
+SaysCame of t New base p = (node i child : ℕ) → Says base p node i (of child) → Came of t New node i
+    child
 
 -- whatever the word names came so
 unfoldable pub WordCame : (ℕ → Ref) → Snapshot → (ℕ → ℕ → ℕ → Type 0) → ℕ → ℕ → Option Ref → Type 0
@@ -95,9 +107,11 @@ pub came_added : (of : ℕ → Ref) (t : Snapshot) (New : ℕ → ℕ → ℕ �
     → ((base : ℕ) (p : Piece) → Born base p → qs base ≡ Some p → SaysCame of t New base p)
     → AllCame of t New qs
 unfolding AllCame
-came_added of t New ps qs Born adds all born base p e = ⊎_elim (λ old. all base p old) (λ new. born base p new e) (adds.from base p e)
+came_added of t New ps qs Born adds all born base p e = ⊎_elim (λ old. all base p old)
+    (λ new. born base p new e) (adds.from base p e)
 
-pub came-changed_at : (of : ℕ → Ref) (t : Snapshot) (New : ℕ → ℕ → ℕ → Type 0) (ps : Pieces) (at : ℕ)
+pub came-changed_at : (of : ℕ → Ref) (t : Snapshot) (New : ℕ → ℕ → ℕ → Type 0) (ps : Pieces)
+    (at : ℕ)
     (f : Piece → Piece)
     → AllCame of t New ps
     → ((p : Piece) → ps at ≡ Some p → SaysCame of t New at p → SaysCame of t New at (f p))
@@ -109,35 +123,43 @@ came-changed_at of t New ps at f all keeps base q e =
     ⊎_elim
     (λ same. subst (λ x. SaysCame of t New base x) (sym same) old)
     (λ new. subst (λ x. SaysCame of t New base x) (sym new.1)
-    (subst (λ b. SaysCame of t New b (f it.0)) (sym new.0) (keeps it.0 (subst (λ b. ps b ≡ Some it.0) new.0 it.1) (subst (λ b. SaysCame of t New b it.0) new.0 old))))
+    (subst (λ b. SaysCame of t New b (f it.0)) (sym new.0)
+    (keeps it.0 (subst (λ b. ps b ≡ Some it.0) new.0 it.1)
+    (subst (λ b. SaysCame of t New b it.0) new.0 old))))
     it.2
 
 -- ---- writes
 
-pub came-with_slot : (of : ℕ → Ref) (t : Snapshot) (New : ℕ → ℕ → ℕ → Type 0) (node i word : ℕ) (p : Piece)
+pub came-with_slot : (of : ℕ → Ref) (t : Snapshot) (New : ℕ → ℕ → ℕ → Type 0) (node i word : ℕ)
+    (p : Piece)
     → WordCame of t New node i (ref_of word) → SaysCame of t New node p
     → SaysCame of t New node (with_slot i word p)
 unfolding SaysCame WordCame
 came-with_slot of t New node i word (Inner r) came old n j child says =
     ⊎_elim
-    (λ w. subst (λ x. Came of t New x j child) (sym says.0) (subst (λ x. Came of t New node x child) (sym w.0) (came child (ap ref_of (sym w.1) ∙ says.3))))
+    (λ w. subst (λ x. Came of t New x j child) (sym says.0)
+    (subst (λ x. Came of t New node x child) (sym w.0)
+    (came child (ap ref_of (sym w.1) ∙ says.3))))
     (λ w. old n j child (says.0, says.1, w, says.3))
     (get-set_some r.slots i j word says.1 says.2)
 came-with_slot of t New node i word (Leaf r) came old n j child says = old n j child says
 came-with_slot of t New node i word (Change r) came old n j child says = old n j child says
 came-with_slot of t New node i word (Rebuild r) came old n j child says = old n j child says
 
-pub came-with_root : (of : ℕ → Ref) (t : Snapshot) (New : ℕ → ℕ → ℕ → Type 0) (base word : ℕ) (r : RebuildRow)
+pub came-with_root : (of : ℕ → Ref) (t : Snapshot) (New : ℕ → ℕ → ℕ → Type 0) (base word : ℕ)
+    (r : RebuildRow)
     → WordCame of t New r.parent r.index (ref_of word) → SaysCame of t New base (Rebuild r)
     → SaysCame of t New base (Rebuild record r { root = word })
 unfolding SaysCame WordCame
 came-with_root of t New base word r came old node i child says =
     ⊎_elim
     (λ e. old node i child (says.0, says.1, inl e))
-    (λ e. subst (λ n. Came of t New n i child) (sym says.0) (subst (λ j. Came of t New r.parent j child) (sym says.1) (came child e)))
+    (λ e. subst (λ n. Came of t New n i child) (sym says.0)
+    (subst (λ j. Came of t New r.parent j child) (sym says.1) (came child e)))
     says.2
 
-pub came-with_status : (of : ℕ → Ref) (t : Snapshot) (New : ℕ → ℕ → ℕ → Type 0) (base status : ℕ) (p : Piece)
+pub came-with_status : (of : ℕ → Ref) (t : Snapshot) (New : ℕ → ℕ → ℕ → Type 0) (base status : ℕ)
+    (p : Piece)
     → SaysCame of t New base p → SaysCame of t New base (with_status status p)
 unfolding SaysCame
 came-with_status of t New base status (Inner r) h = h
@@ -161,7 +183,8 @@ came-drawn of t New base (Leaf r) h = h
 came-drawn of t New base (Change r) h = h
 came-drawn of t New base (Rebuild r) h = h
 
-pub came-with_decision : (of : ℕ → Ref) (t : Snapshot) (New : ℕ → ℕ → ℕ → Type 0) (base decision : ℕ) (p : Piece)
+pub came-with_decision : (of : ℕ → Ref) (t : Snapshot) (New : ℕ → ℕ → ℕ → Type 0)
+    (base decision : ℕ) (p : Piece)
     → SaysCame of t New base p → SaysCame of t New base (with_decision decision p)
 unfolding SaysCame
 came-with_decision of t New base decision (Inner r) h = h
@@ -173,7 +196,8 @@ came-with_decision of t New base decision (Rebuild r) h = h
 
 -- where all that is named came so, each inner row has one home still
 pub one_home_from : (t u : Snapshot) (New : ℕ → ℕ → ℕ → Type 0) → HasOneHome t → WordsName t
-    → AreNew t New → AllCame InnerAt t New u.pieces → WordCame InnerAt t New anchor 0 (ref_of u.anchor)
+    → AreNew t New → AllCame InnerAt t New u.pieces → WordCame InnerAt t New anchor 0
+    (ref_of u.anchor)
     → HasOneHome u
 unfolding AllCame SaysCame WordCame
 one_home_from t u New home names new all word =
@@ -182,19 +206,24 @@ one_home_from t u New home names new all word =
     }
   where
     came : (node i child : ℕ) → Mentions u node i (InnerAt child) → Came InnerAt t New node i child
-    came node i child (inl h) = subst (λ n. Came InnerAt t New n i child) (sym h.0) (subst (λ j. Came InnerAt t New anchor j child) (sym h.1) (word child h.2))
+    came node i child (inl h) = subst (λ n. Came InnerAt t New n i child) (sym h.0)
+        (subst (λ j. Came InnerAt t New anchor j child) (sym h.1) (word child h.2))
     came node i child (inr h) = all h.0 h.1 h.2 node i child h.3
 
-    both : (n i k j child : ℕ) → Came InnerAt t New n i child → Came InnerAt t New k j child → (n ≡ k) × (i ≡ j)
+    both : (n i k j child : ℕ) → Came InnerAt t New n i child → Came InnerAt t New k j child →
+        (n ≡ k) × (i ≡ j)
     both n i k j child (inl x) (inl y) = home.one n i k j child x y
-    both n i k j child (inl x) (inr y) = let p = mentioned_here t n i child names x in absurd (no_piece (t.pieces child) (Inner p.0) (new.unpublished k j child y) p.1)
-    both n i k j child (inr x) (inl y) = let p = mentioned_here t k j child names y in absurd (no_piece (t.pieces child) (Inner p.0) (new.unpublished n i child x) p.1)
+    both n i k j child (inl x) (inr y) = let p = mentioned_here t n i child names x in absurd
+        (no_piece (t.pieces child) (Inner p.0) (new.unpublished k j child y) p.1)
+    both n i k j child (inr x) (inl y) = let p = mentioned_here t k j child names y in absurd
+        (no_piece (t.pieces child) (Inner p.0) (new.unpublished n i child x) p.1)
     both n i k j child (inr x) (inr y) = new.one n i k j child x y
 
 -- an event that leaves the rows and the anchor
 pub one_home_same : (t u : Snapshot) → HasOneHome t → u.anchor ≡ t.anchor → u.pieces ≡ t.pieces
     → HasOneHome u
-one_home_same t u home word pieces = record { one = λ n i k j child x y. home.one n i k j child (back n i child x) (back k j child y) }
+one_home_same t u home word pieces = record
+    { one = λ n i k j child x y. home.one n i k j child (back n i child x) (back k j child y) }
   where
     back : (node i child : ℕ) → Mentions u node i (InnerAt child)
         → Mentions t node i (InnerAt child)
@@ -207,7 +236,8 @@ pub anchor_came : (of : ℕ → Ref) (t u : Snapshot) (New : ℕ → ℕ → ℕ
     → WordCame of t New node i (ref_of word)
     → WordCame of t New anchor 0 (ref_of u.anchor)
 unfolding WordCame
-anchor_came of t u New node i word is zero_there came child e = at (node == anchor) (eqb_tells node anchor) (ap ref_of (sym is) ∙ e)
+anchor_came of t u New node i word is zero_there came child e = at (node == anchor)
+    (eqb_tells node anchor) (ap ref_of (sym is) ∙ e)
   where
     at : (v : Bool)
         → (((node == anchor) ≡ true) × (node ≡ anchor)) ⊎
@@ -216,8 +246,15 @@ anchor_came of t u New node i word is zero_there came child e = at (node == anch
         → Came of t New anchor 0 child
     at v (inl k) f =
         subst (λ j. Came of t New anchor j child) (zero_there k.1)
-        (subst (λ n. Came of t New n i child) k.1 (came child (subst (λ b. ref_of (if b then word else t.anchor) ≡ Some (of child)) k.0 f)))
-    at v (inr k) f = inl (inl (refl, refl, subst (λ b. ref_of (if b then word else t.anchor) ≡ Some (of child)) k.0 f))
+        (subst (λ n. Came of t New n i child) k.1
+        (came child (subst (λ b. ref_of (if b then word else t.anchor) ≡ Some (of child)) k.0
+        f)))
+    at v (inr k) f = inl (inl (
+      refl,
+      refl,
+      subst
+          (λ b. ref_of (if b then word else t.anchor) ≡ Some (of child)) k.0 f,
+    ))
 
 -- where it isn't written
 pub anchor_old : (of : ℕ → Ref) (t u : Snapshot) (New : ℕ → ℕ → ℕ → Type 0) → u.anchor ≡ t.anchor

@@ -65,7 +65,9 @@ pub one_home_changed : (t u : Snapshot) (at : ℕ) (f : Piece → Piece) → u.a
     → WordsName t → HasOneHome t → HasOneHome u
 one_home_changed t u at f word pieces keeps names home =
     one_home_from t u NoneNew home names (none_new t)
-    (subst (λ ps. AllCame InnerAt t NoneNew ps) (sym pieces) (came-changed_at InnerAt t NoneNew t.pieces at f (came_old InnerAt t NoneNew) (λ p _ old. keeps NoneNew p old)))
+    (subst (λ ps. AllCame InnerAt t NoneNew ps) (sym pieces)
+    (came-changed_at InnerAt t NoneNew t.pieces at f (came_old InnerAt t NoneNew)
+    (λ p _ old. keeps NoneNew p old)))
     (anchor_old InnerAt t u NoneNew word)
 
 -- ---- Resolve
@@ -75,18 +77,26 @@ pub one_home_resolve : (t : Snapshot) (caller base : ℕ) → (h : CanResolve t 
     → HasOneHome (after t (Resolve caller base))
 one_home_resolve t caller base h free names home =
     let change = h.change in
-    let side = word_mentioned InnerAt t NoneNew change.node change.index (ref_of (side_of change)) (λ child e. inr (base, Change change, h.published, (refl, refl, either child e))) in
+    let side = word_mentioned InnerAt t NoneNew change.node change.index (ref_of (side_of change))
+    (λ child e. inr (base, Change change, h.published, (refl, refl, either child e))) in
     let u = resolved t (Some change) in
     subst HasOneHome (sym (rows_resolved t caller base h))
     (one_home_from t u NoneNew home names (none_new t)
-    (came-changed_at InnerAt t NoneNew t.pieces change.node (with_slot change.index (side_of change)) (came_old InnerAt t NoneNew) (λ p _ old. came-with_slot InnerAt t NoneNew change.node change.index (side_of change) p side old))
-    (anchor_came InnerAt t u NoneNew change.node change.index (side_of change) refl (anchor_slot t change.node change.index (word_of (ChangeAt base)) free h.in_slot) side))
+    (came-changed_at InnerAt t NoneNew t.pieces change.node
+    (with_slot change.index (side_of change)) (came_old InnerAt t NoneNew)
+    (λ p _ old. came-with_slot InnerAt t NoneNew change.node change.index (side_of change) p
+    side old))
+    (anchor_came InnerAt t u NoneNew change.node change.index (side_of change) refl
+    (anchor_slot t change.node change.index (word_of (ChangeAt base)) free h.in_slot) side))
   where
     either : (child : ℕ) → ref_of (side_of h.change) ≡ Some (InnerAt child)
         → (ref_of h.change.from ≡ Some (InnerAt child)) ⊎
         (ref_of h.change.to ≡ Some (InnerAt child))
     either child =
-        elim (h.change.decision == decided_yes) as (λ v. ref_of (if v then h.change.to else h.change.from) ≡ Some (InnerAt child) → (ref_of h.change.from ≡ Some (InnerAt child)) ⊎ (ref_of h.change.to ≡ Some (InnerAt child))) [
+        elim (h.change.decision == decided_yes) as
+        (λ v. ref_of (if v then h.change.to else h.change.from) ≡ Some (InnerAt child) →
+        (ref_of h.change.from ≡ Some (InnerAt child)) ⊎
+        (ref_of h.change.to ≡ Some (InnerAt child))) [
           | true ↦ λ e. inr e
           | false ↦ λ e. inl e
         ]
@@ -100,7 +110,8 @@ tree_says : (t : Snapshot) (ps : Pieces) (parent at : ℕ) (ref : Ref) (rows : L
 unfolding SaysCame
 tree_says t ps parent at ref rows all base p i e =
     let it = each-among (IsTreeRow ps) base rows all i in
-    known (λ x. (node j child : ℕ) → Says base x node j (InnerAt child) → Came InnerAt t (HangsIn ps parent at ref rows) node j child) (ps base) p (Inner it.row) e it.published
+    known (λ x. (node j child : ℕ) → Says base x node j (InnerAt child) → Came InnerAt t
+    (HangsIn ps parent at ref rows) node j child) (ps base) p (Inner it.row) e it.published
     (λ node j child says.
     inr (inr record {
       among = subst (λ b. Among b rows) (sym says.0) i;
@@ -124,14 +135,18 @@ one_home_root t caller rebuild word rows h sound names home =
     let all = came_added InnerAt t New t.pieces qs (λ base p. Among base bases) adds (came_old InnerAt t New)
     (λ base p i e. tree_says t qs h.row.parent h.row.index tree.0 bases (tree_rows qs tree.0 h.row.target bases tree.2) base p i e) in
     let stands = adds.keeps rebuild (Rebuild h.row) h.published in
-    let root = word_new InnerAt t New h.row.parent h.row.index (ref_of word) (λ child e. inl (refl, refl, same_ref (ref_of word) tree.0 (InnerAt child) tree.1 e)) in
+    let root = word_new InnerAt t New h.row.parent h.row.index (ref_of word)
+    (λ child e. inl (refl, refl, same_ref (ref_of word) tree.0 (InnerAt child) tree.1 e)) in
     one_home_from t u New home names
     record {
-      unpublished = λ node i child x. held_free t caller rows h.held sound child (hangs_among qs h.row.parent h.row.index tree.0 h.row.target bases node i child tree.2 x);
+      unpublished = λ node i child x. held_free t caller rows h.held sound child
+          (hangs_among qs h.row.parent h.row.index tree.0 h.row.target bases node i child tree.2 x);
       one = λ n i k j child x y. hangs_once qs h.row.parent h.row.index tree.0 h.row.target bases n i k j child tree.2 h.once x y;
     }
     (came-changed_at InnerAt t New qs rebuild (with_root word) all
-    (λ p e old. known (λ x. SaysCame InnerAt t New rebuild x → SaysCame InnerAt t New rebuild (with_root word x)) (qs rebuild) p (Rebuild h.row) e stands (λ k. came-with_root InnerAt t New rebuild word h.row root k) old))
+    (λ p e old. known (λ x. SaysCame InnerAt t New rebuild x → SaysCame InnerAt t New rebuild
+    (with_root word x)) (qs rebuild) p (Rebuild h.row) e stands
+    (λ k. came-with_root InnerAt t New rebuild word h.row root k) old))
     (anchor_old InnerAt t u New refl)
   where
     same_ref : (o : Option Ref) (a b : Ref) → o ≡ Some a → o ≡ Some b → a ≡ b
@@ -171,7 +186,8 @@ NewPair first log change fresh (a_pair h) node i child = (node ≡ change.node) 
 NewPair first log change fresh _ node i child = ⊥
 
 module _ (first : Snapshot) (log : Log) (caller at : ℕ) (change : ChangeRow) (fresh : List Row) (sound : IsSound (state first log))
-    (holds : HoldsRows (state first log) caller (row_at at (Change change) ∷ fresh)) (in_slot : SlotHolds (state first log) change.node change.index change.from) where
+    (holds : HoldsRows (state first log) caller (row_at at (Change change) ∷ fresh))
+    (in_slot : SlotHolds (state first log) change.node change.index change.from) where
   -- it is new
   pub pair_new : (fits : FitsKind first log change fresh)
       → AreNew (state first log) (NewPair first log change fresh fits)
@@ -191,7 +207,9 @@ module _ (first : Snapshot) (log : Log) (caller at : ℕ) (change : ChangeRow) (
   -- what a change takes out is named already
   from_came : (New : ℕ → ℕ → ℕ → Type 0)
       → WordCame InnerAt (state first log) New change.node change.index (ref_of change.from)
-  from_came New = word_mentioned InnerAt (state first log) New change.node change.index (ref_of change.from) (λ child e. slot_mentions (state first log) change.node change.index change.from (InnerAt child) in_slot e)
+  from_came New = word_mentioned InnerAt (state first log) New change.node change.index
+      (ref_of change.from) (λ child e. slot_mentions (state first log) change.node change.index
+      change.from (InnerAt child) in_slot e)
 
   -- what it puts in is a new pair row, or the root of its rebuild, or no inner row
   to_came : (fits : FitsKind first log change fresh)
@@ -199,12 +217,15 @@ module _ (first : Snapshot) (log : Log) (caller at : ℕ) (change : ChangeRow) (
       (ref_of change.to)
   to_came (a_put h) = word_of_other InnerAt (state first log) NoneNew change.node change.index (ref_of change.to) (LeafAt h.leaf) h.to (λ child e. cc)
   to_came (a_pair h) =
-      word_new InnerAt (state first log) (NewPair first log change fresh (a_pair h)) change.node change.index (ref_of change.to) (λ child e. (refl, refl, same (ref_of change.to) child h.pair e h.to))
+      word_new InnerAt (state first log) (NewPair first log change fresh (a_pair h)) change.node
+      change.index (ref_of change.to)
+      (λ child e. (refl, refl, same (ref_of change.to) child h.pair e h.to))
     where
       same : (o : Option Ref) (a b : ℕ) → o ≡ Some (InnerAt a) → o ≡ Some (InnerAt b) → a ≡ b
       same o a b e f = cc
   to_came (a_remove h) = word_of_other InnerAt (state first log) NoneNew change.node change.index (ref_of change.to) Empty h.to (λ child e. cc)
-  to_came (a_start h) = word_of_other InnerAt (state first log) NoneNew change.node change.index (ref_of change.to) (RebuildAt h.rebuild) h.to (λ child e. cc)
+  to_came (a_start h) = word_of_other InnerAt (state first log) NoneNew change.node change.index
+      (ref_of change.to) (RebuildAt h.rebuild) h.to (λ child e. cc)
   to_came (a_finish h) =
       word_mentioned InnerAt (state first log) NoneNew change.node change.index (ref_of change.to)
       (λ child e. inr (h.rebuild, Rebuild h.row, h.published, (sym h.parent, sym h.index, inr (ap ref_of (sym h.to) ∙ e))))
@@ -253,10 +274,14 @@ module _ (first : Snapshot) (log : Log) (caller at : ℕ) (change : ChangeRow) (
       subst (λ n. Came InnerAt (state first log) (NewPair first log change fresh fits) n i child) (sym says.0)
       (subst (λ j. Came InnerAt (state first log) (NewPair first log change fresh fits) change.node j child) (sym says.1)
       (⊎_elim (λ e. from_came (NewPair first log change fresh fits) child e) (λ e. to_came fits child e) says.2)))
-  installed_says (a_put h) leaf_good other_good base p (inr (here, new)) = subst (λ x. SaysCame InnerAt (state first log) NoneNew base x) (sym new) (λ node i child says. absurd says)
+  installed_says (a_put h) leaf_good other_good base p (inr (here, new)) = subst
+      (λ x. SaysCame InnerAt (state first log) NoneNew base x) (sym new)
+      (λ node i child says. absurd says)
   installed_says (a_pair h) leaf_good other_good base p (inr (inl (here, new))) =
       subst (λ x. SaysCame InnerAt (state first log) (NewPair first log change fresh (a_pair h)) base x) (sym new)
-      (pair_says (NewPair first log change fresh (a_pair h)) base change.key h.leaf h.other_key h.other (leaf_good h.leaf (inr (refl, refl))) (other_good h.other (Leaf h.stands.row) h.stands.published))
+      (pair_says (NewPair first log change fresh (a_pair h)) base change.key h.leaf h.other_key
+      h.other (leaf_good h.leaf (inr (refl, refl)))
+      (other_good h.other (Leaf h.stands.row) h.stands.published))
   installed_says (a_pair h) leaf_good other_good base p (inr (inr (here, new))) =
       subst (λ x. SaysCame InnerAt (state first log) (NewPair first log change fresh (a_pair h)) base x) (sym new) (λ node i child says. absurd says)
   installed_says (a_remove h) leaf_good other_good base p (inr f) = absurd f

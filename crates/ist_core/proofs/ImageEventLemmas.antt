@@ -49,14 +49,16 @@ words_of-inner_of [] p e = absurd (cc)
 words_of-inner_of (a ∷ []) p e = absurd (cc)
 words_of-inner_of (a ∷ b ∷ []) p e = absurd (cc)
 words_of-inner_of (a ∷ b ∷ c ∷ []) p e = absurd (cc)
-words_of-inner_of (status ∷ count ∷ degree ∷ size ∷ rest) p e = sym (ap words_in e) ∙ ap (λ xs. status ∷ count ∷ degree ∷ size ∷ xs) (take-append-drop (degree - 1) rest)
+words_of-inner_of (status ∷ count ∷ degree ∷ size ∷ rest) p e = sym (ap words_in e) ∙ ap
+    (λ xs. status ∷ count ∷ degree ∷ size ∷ xs) (take-append-drop (degree - 1) rest)
 
 -- the row at a base stands where the words of one of these rows do
 pub row_stands : (words : List ℕ) (rows : List Row) (row : Row) (base : ℕ) (p : Piece)
     → RowsStand words rows → Among row rows → row.base ≡ base → row.words ≡ words_of p
     → StandsAt words base p
 row_stands words rows row base p all i here is k less =
-    let it = each-among (λ r. (n : ℕ) → n < length r.words → slice_get words (r.base + n) ≡ slice_get r.words n) row rows all i k (subst (λ ws. k < length ws) (sym is) less) in
+    let it = each-among (λ r. (n : ℕ) → n < length r.words → slice_get words (r.base + n) ≡
+    slice_get r.words n) row rows all i k (subst (λ ws. k < length ws) (sym is) less) in
     ap (λ b. slice_get words (b + k)) (sym here) ∙ it ∙ ap (λ ws. slice_get ws k) is
 
 -- inner rows that are published stand
@@ -64,7 +66,9 @@ pub inners_stand : (ps : Pieces) (words : List ℕ) (rows : List Row) → RowsSt
     → ((base : ℕ) (p : Piece) → ps base ≡ Some p → StandsAt words base p)
     → (base : ℕ) (p : Piece) → with_inners ps rows base ≡ Some p → StandsAt words base p
 inners_stand ps words rows all old base p e =
-    ⊎_elim (λ w. row_stands words rows w.0 base p all w.1 w.2 (sym (words_of-inner_of w.0.words p w.3))) (λ there. old base p there) (with_inners-some ps rows base p e)
+    ⊎_elim (λ w. row_stands words rows w.0 base p all w.1 w.2
+    (sym (words_of-inner_of w.0.words p w.3))) (λ there. old base p there)
+    (with_inners-some ps rows base p e)
 
 -- a row of an Install is one of those that it publishes
 pub installed_row : (first : Snapshot) (log : Log) (at : ℕ) (change : ChangeRow) (fresh : List Row)
@@ -72,11 +76,16 @@ pub installed_row : (first : Snapshot) (log : Log) (at : ℕ) (change : ChangeRo
     → IsInstalled first log at change fresh fits base p
     → Among (row_at base p) (row_at at (Change change) ∷ fresh)
 installed_row first log at change fresh fits base p (inl h) = inl (λ i. row_at (h.0 i) (h.1 i))
-installed_row first log at change fresh (a_put f) base p (inr h) = inr (subst (λ xs. Among (row_at base p) xs) (sym f.fresh_are) (inl (λ i. row_at (h.0 i) (h.1 i))))
-installed_row first log at change fresh (a_pair f) base p (inr (inl h)) = inr (subst (λ xs. Among (row_at base p) xs) (sym f.fresh_are) (inl (λ i. row_at (h.0 i) (h.1 i))))
-installed_row first log at change fresh (a_pair f) base p (inr (inr h)) = inr (subst (λ xs. Among (row_at base p) xs) (sym f.fresh_are) (inr (inl (λ i. row_at (h.0 i) (h.1 i)))))
+installed_row first log at change fresh (a_put f) base p (inr h) = inr
+    (subst (λ xs. Among (row_at base p) xs) (sym f.fresh_are) (inl (λ i. row_at (h.0 i) (h.1 i))))
+installed_row first log at change fresh (a_pair f) base p (inr (inl h)) = inr
+    (subst (λ xs. Among (row_at base p) xs) (sym f.fresh_are) (inl (λ i. row_at (h.0 i) (h.1 i))))
+installed_row first log at change fresh (a_pair f) base p (inr (inr h)) = inr
+    (subst (λ xs. Among (row_at base p) xs) (sym f.fresh_are)
+    (inr (inl (λ i. row_at (h.0 i) (h.1 i)))))
 installed_row first log at change fresh (a_remove f) base p (inr h) = absurd h
-installed_row first log at change fresh (a_start f) base p (inr h) = inr (subst (λ xs. Among (row_at base p) xs) (sym f.fresh_are) (inl (λ i. row_at (h.0 i) (h.1 i))))
+installed_row first log at change fresh (a_start f) base p (inr h) = inr
+    (subst (λ xs. Among (row_at base p) xs) (sym f.fresh_are) (inl (λ i. row_at (h.0 i) (h.1 i))))
 installed_row first log at change fresh (a_finish f) base p (inr h) = absurd h
 
 -- ---- where the rows of a state lie
@@ -98,7 +107,8 @@ rows_apart pairs words log h =
       within = λ base p e. claimed_within pairs words log base (size_of p) h (k.published base p e);
       apart = λ base other p q e f differ.
           ⊎_elim (λ same. absurd (differ same.0)) (λ a. a.1)
-          (claimed_apart pairs words log base (size_of p) other (size_of q) h (k.published base p e) (k.published other q f));
+          (claimed_apart pairs words log base (size_of p) other (size_of q) h (k.published base p e)
+          (k.published other q f));
     }
 
 -- ---- the events that write no word, or a fixed one
@@ -121,7 +131,8 @@ image_same t u words a b c d e image =
 -- a fixed word before all rows is written
 pub row_behind : (words : List ℕ) (base place word : ℕ) (p : Piece) → place < base
     → StandsAt words base p → StandsAt (slice_set words place word) base p
-row_behind words base place word p low h k less = get-set_other words place (base + k) word (λ e. omega arith) ∙ h k less
+row_behind words base place word p low h k less = get-set_other words place (base + k) word
+    (λ e. omega arith) ∙ h k less
 
 pub image_enter : (t : Snapshot) (caller : ℕ) (words : List ℕ) → RowsApart t → IsImage t words
     → IsImage (after t (Enter caller)) (slice_set words callers_place (t.callers + 1))
@@ -129,12 +140,17 @@ image_enter t caller words a image =
     let low = a.low_next in
     record {
       size = length-set words callers_place (t.callers + 1) ∙ image.size;
-      next = get-set_other words callers_place next_place (t.callers + 1) (λ e. omega arith) ∙ image.next;
+      next = get-set_other words callers_place next_place (t.callers + 1) (λ e. omega arith) ∙
+          image.next;
       callers = get-set_same words callers_place (t.callers + 1) t.callers image.callers;
-      anchor_status = get-set_other words callers_place anchor_status_place (t.callers + 1) (λ e. omega arith) ∙ image.anchor_status;
-      anchor_slot = get-set_other words callers_place anchor_slot_place (t.callers + 1) (λ e. omega arith) ∙ image.anchor_slot;
-      rows = λ base p e. let in_it = a.within base p e in let bottom = in_it.behind_fixed in row_behind words base callers_place (t.callers + 1) p (omega arith) (image.rows base p e);
-      free = λ place k l. get-set_other words callers_place place (t.callers + 1) (λ e. omega arith) ∙ image.free place k l;
+      anchor_status = get-set_other words callers_place anchor_status_place (t.callers + 1)
+          (λ e. omega arith) ∙ image.anchor_status;
+      anchor_slot = get-set_other words callers_place anchor_slot_place (t.callers + 1)
+          (λ e. omega arith) ∙ image.anchor_slot;
+      rows = λ base p e. let in_it = a.within base p e in let bottom = in_it.behind_fixed in
+          row_behind words base callers_place (t.callers + 1) p (omega arith) (image.rows base p e);
+      free = λ place k l. get-set_other words callers_place place (t.callers + 1) (λ e. omega arith)
+          ∙ image.free place k l;
     }
 
 pub image_reserve : (t : Snapshot) (caller base size : ℕ) (words : List ℕ) → base ≡ t.next → RowsApart t
@@ -145,11 +161,16 @@ image_reserve t caller base size words is a image =
     record {
       size = length-set words next_place (base + size) ∙ image.size;
       next = get-set_same words next_place (base + size) t.next image.next;
-      callers = get-set_other words next_place callers_place (base + size) (λ e. omega arith) ∙ image.callers;
-      anchor_status = get-set_other words next_place anchor_status_place (base + size) (λ e. omega arith) ∙ image.anchor_status;
-      anchor_slot = get-set_other words next_place anchor_slot_place (base + size) (λ e. omega arith) ∙ image.anchor_slot;
-      rows = λ b p e. let in_it = a.within b p e in let bottom = in_it.behind_fixed in row_behind words b next_place (base + size) p (omega arith) (image.rows b p e);
-      free = λ place k l. get-set_other words next_place place (base + size) (λ e. omega arith) ∙ image.free place (omega arith) l;
+      callers = get-set_other words next_place callers_place (base + size) (λ e. omega arith) ∙
+          image.callers;
+      anchor_status = get-set_other words next_place anchor_status_place (base + size)
+          (λ e. omega arith) ∙ image.anchor_status;
+      anchor_slot = get-set_other words next_place anchor_slot_place (base + size)
+          (λ e. omega arith) ∙ image.anchor_slot;
+      rows = λ b p e. let in_it = a.within b p e in let bottom = in_it.behind_fixed in row_behind
+          words b next_place (base + size) p (omega arith) (image.rows b p e);
+      free = λ place k l. get-set_other words next_place place (base + size) (λ e. omega arith) ∙
+          image.free place (omega arith) l;
     }
 
 -- ---- the events that write a word of a row
@@ -162,14 +183,17 @@ pub image_word : (t u : Snapshot) (words : List ℕ) (node j word : ℕ) (p : Pi
     → words_of (f p) ≡ slice_set (words_of p) j word → IsImage t words
     → IsImage u (slice_set words (node + j) word)
 image_word t u words node j word p f a same next callers anchored pieces there below is image =
-    image_row t u words image same next callers a.low_next a.within a.apart t.pieces node j word p f image.rows anchored there pieces below is
+    image_row t u words image same next callers a.low_next a.within a.apart t.pieces node j word p f
+    image.rows anchored there pieces below is
 
 pub image_count : (t : Snapshot) (caller node : ℕ) (words : List ℕ) (r : InnerRow)
     → t.pieces node ≡ Some (Inner r) → RowsApart (after t (Count caller node)) → IsImage t words
     → IsImage (after t (Count caller node)) (touched words (touch_of t (Count caller node)))
 image_count t caller node words r e a image =
-    subst (λ x. IsImage (after t (Count caller node)) (touched words (touch_of_count node x))) (sym (ap as_inner e))
-    (image_word t (after t (Count caller node)) words node 1 (r.count + 1) (Inner r) counted a refl refl refl refl refl e (omega arith) refl image)
+    subst (λ x. IsImage (after t (Count caller node)) (touched words (touch_of_count node x)))
+    (sym (ap as_inner e))
+    (image_word t (after t (Count caller node)) words node 1 (r.count + 1) (Inner r) counted a refl
+    refl refl refl refl e (omega arith) refl image)
 
 pub image_draw : (t : Snapshot) (caller rebuild part : ℕ) (words : List ℕ) (r : RebuildRow)
     → t.pieces rebuild ≡ Some (Rebuild r) → RowsApart (after t (Draw caller rebuild part))
@@ -177,8 +201,10 @@ pub image_draw : (t : Snapshot) (caller rebuild part : ℕ) (words : List ℕ) (
     → IsImage (after t (Draw caller rebuild part))
     (touched words (touch_of t (Draw caller rebuild part)))
 image_draw t caller rebuild part words r e a image =
-    subst (λ x. IsImage (after t (Draw caller rebuild part)) (touched words (touch_of_draw rebuild x))) (sym (ap as_rebuild e))
-    (image_word t (after t (Draw caller rebuild part)) words rebuild 4 (r.draw + 1) (Rebuild r) drawn a refl refl refl refl refl e (omega arith) refl image)
+    subst (λ x. IsImage (after t (Draw caller rebuild part))
+    (touched words (touch_of_draw rebuild x))) (sym (ap as_rebuild e))
+    (image_word t (after t (Draw caller rebuild part)) words rebuild 4 (r.draw + 1) (Rebuild r)
+    drawn a refl refl refl refl refl e (omega arith) refl image)
 
 -- ---- the events that write a slot, and a Root
 
@@ -204,9 +230,12 @@ pub image_resolve : (t : Snapshot) (caller base : ℕ) (words : List ℕ) (h : C
 image_resolve t caller base words h ready a image =
     let u = resolved t (Some h.change) in
     let b = subst RowsApart (rows_resolved t caller base h) a in
-    subst (λ x. IsImage (after t (Resolve caller base)) (touched words (touch_of_resolve t base x))) (sym (ap as_change h.published))
-    (subst (λ x. IsImage x (slice_set words (place_of_slot t h.change.node h.change.index) (side_of h.change))) (sym (rows_resolved t caller base h))
-    (image_slot t u words image refl refl refl b.low_next b.within b.apart t.pieces h.change.node h.change.index (side_of h.change) (word_of (ChangeAt base))
+    subst (λ x. IsImage (after t (Resolve caller base)) (touched words (touch_of_resolve t base x)))
+    (sym (ap as_change h.published))
+    (subst (λ x. IsImage x (slice_set words (place_of_slot t h.change.node h.change.index)
+    (side_of h.change))) (sym (rows_resolved t caller base h))
+    (image_slot t u words image refl refl refl b.low_next b.within b.apart t.pieces h.change.node
+    h.change.index (side_of h.change) (word_of (ChangeAt base))
     image.rows ready.free ready.free (λ at p e. e) ready.shaped refl refl h.in_slot))
 
 pub image_place : (t : Snapshot) (caller rebuild i word : ℕ) (rows : List Row) (words : List ℕ)
@@ -219,11 +248,14 @@ image_place t caller rebuild i word rows words h ready a free stand image =
     let u = after t (Place caller rebuild i word rows) in
     let qs = with_inners t.pieces rows in
     let keeps = (adds-with_inners t caller rows h.held ready.sound).keeps in
-    let touch = ap (λ o. touch_of_place t o i word) (ap as_rebuild h.published) ∙ ap (λ o. touch_in_root t o i word) h.root_is in
+    let touch = ap (λ o. touch_of_place t o i word) (ap as_rebuild h.published) ∙ ap
+    (λ o. touch_in_root t o i word) h.root_is in
     subst (λ x. IsImage u (touched words x)) (sym touch)
     (image_slot t u words image refl refl refl a.low_next a.within a.apart qs h.root i word unset_word
-    (inners_stand t.pieces words rows stand image.rows) ready.free free keeps ready.shaped (rows_placed t caller rebuild i word rows h)
-    (elsewhere h.root word t.anchor (λ e. no_row t.pieces h.root h.root_row ready.free e h.root_published))
+    (inners_stand t.pieces words rows stand image.rows) ready.free free keeps ready.shaped
+    (rows_placed t caller rebuild i word rows h)
+    (elsewhere h.root word t.anchor
+    (λ e. no_row t.pieces h.root h.root_row ready.free e h.root_published))
     (in_row h.root_row h.root_published h.free))
 
 pub image_root : (t : Snapshot) (caller rebuild word : ℕ) (rows : List Row) (words : List ℕ)
@@ -236,8 +268,10 @@ image_root t caller rebuild word rows words h ready a stand image =
     let u = after t (Root caller rebuild word rows) in
     let qs = with_inners t.pieces rows in
     let keeps = (adds-with_inners t caller rows h.held ready.sound).keeps in
-    image_row t u words image refl refl refl a.low_next a.within a.apart qs rebuild 3 word (Rebuild h.row) (with_root word)
-    (inners_stand t.pieces words rows stand image.rows) refl (keeps rebuild (Rebuild h.row) h.published) refl (omega arith) refl
+    image_row t u words image refl refl refl a.low_next a.within a.apart qs rebuild 3 word
+    (Rebuild h.row) (with_root word)
+    (inners_stand t.pieces words rows stand image.rows) refl
+    (keeps rebuild (Rebuild h.row) h.published) refl (omega arith) refl
 
 pub image_install : (first : Snapshot) (log : Log) (caller base : ℕ) (rows : List Row) (words : List ℕ)
     (h : CanInstall first log caller base rows)
@@ -253,8 +287,14 @@ image_install first log caller base rows words h ready a free stand image =
     let b = subst (λ xs. RowsApart (after t (Install caller base xs))) h.rows_are a in
     let there = subst (λ xs. RowsStand words xs) h.rows_are stand in
     let qs = with_installed t.pieces base h.change h.fresh in
-    let adds = adds_install first log caller base h.change h.fresh h.fits (holds_installed first log caller base rows h) ready.sound in
-    subst (λ xs. IsImage (after t (Install caller base xs)) (touched words (touch_of t (Install caller base xs)))) (sym h.rows_are)
-    (image_slot t (after t (Install caller base all)) words image refl refl refl b.low_next b.within b.apart qs h.change.node h.change.index (word_of (ChangeAt base)) h.change.from
-    (λ at p e. ⊎_elim (λ old. image.rows at p old) (λ new. row_stands words all (row_at at p) at p there (installed_row first log base h.change h.fresh h.fits at p new) refl refl) (adds.from at p e))
+    let adds = adds_install first log caller base h.change h.fresh h.fits
+    (holds_installed first log caller base rows h) ready.sound in
+    subst (λ xs. IsImage (after t (Install caller base xs))
+    (touched words (touch_of t (Install caller base xs)))) (sym h.rows_are)
+    (image_slot t (after t (Install caller base all)) words image refl refl refl b.low_next b.within
+    b.apart qs h.change.node h.change.index (word_of (ChangeAt base)) h.change.from
+    (λ at p e. ⊎_elim (λ old. image.rows at p old)
+    (λ new. row_stands words all (row_at at p) at p there
+    (installed_row first log base h.change h.fresh h.fits at p new) refl refl)
+    (adds.from at p e))
     ready.free free adds.keeps ready.shaped refl refl h.in_slot)

@@ -35,7 +35,8 @@ pub words_of-with_slot : (r : InnerRow) (i word : ℕ)
     (4 + length r.keys + i) word
 words_of-with_slot r i word =
     let same : 4 + length r.keys + i ≡ suc (suc (suc (suc (length r.keys + i)))) = omega arith in
-    ap (λ zs. r.status ∷ r.count ∷ r.degree ∷ r.size ∷ zs) (sym (set_behind r.keys r.slots i word)) ∙ ap (λ k. slice_set (words_of (Inner r)) k word) (sym same)
+    ap (λ zs. r.status ∷ r.count ∷ r.degree ∷ r.size ∷ zs) (sym (set_behind r.keys r.slots i word))
+    ∙ ap (λ k. slice_set (words_of (Inner r)) k word) (sym same)
 
 -- a word behind some words
 get_behind : (xs ys : List ℕ) (i : ℕ) → slice_get (xs ++ ys) (length xs + i) ≡ slice_get ys i
@@ -69,59 +70,81 @@ stands_set words base j word p q below is h k less = at (eqb_tells k j)
     at (inl e) =
         let old = has_word (words_of p) j below in
         let there = h j below ∙ old.1 in
-        ap (λ n. slice_get (slice_set words (base + j) word) (base + n)) e.1 ∙ get-set_same words (base + j) word old.0 there
-        ∙ sym (ap (λ ws. slice_get ws k) is ∙ ap (λ n. slice_get (slice_set (words_of p) j word) n) e.1 ∙ get-set_same (words_of p) j word old.0 old.1)
+        ap (λ n. slice_get (slice_set words (base + j) word) (base + n)) e.1 ∙ get-set_same words
+        (base + j) word old.0 there
+        ∙ sym (ap (λ ws. slice_get ws k) is ∙ ap (λ n. slice_get (slice_set (words_of p) j word) n)
+        e.1 ∙ get-set_same (words_of p) j word old.0 old.1)
     at (inr e) =
         let long = length-set (words_of p) j word in
         let lens = ap length is in
         let apart : base + k ≢ base + j = λ f. e.1 (omega arith) in
-        get-set_other words (base + j) (base + k) word apart ∙ h k (omega arith) ∙ sym (ap (λ ws. slice_get ws k) is ∙ get-set_other (words_of p) j k word e.1)
+        get-set_other words (base + j) (base + k) word apart ∙ h k (omega arith) ∙ sym
+        (ap (λ ws. slice_get ws k) is ∙ get-set_other (words_of p) j k word e.1)
 
 -- a row that the place is no part of
 pub stands_other : (words : List ℕ) (base place word : ℕ) (p : Piece)
     → (place < base) ⊎ (base + size_of p ≤ place) → StandsAt words base p
     → StandsAt (slice_set words place word) base p
-stands_other words base place word p out h k less = let apart : base + k ≢ place = λ e. ⊎_elim (λ l. omega arith) (λ l. omega arith) out in get-set_other words place (base + k) word apart ∙ h k less
+stands_other words base place word p out h k less = let apart : base + k ≢ place = λ e. ⊎_elim
+    (λ l. omega arith) (λ l. omega arith) out in get-set_other words place (base + k) word apart ∙ h
+    k less
 
 -- ---- one word of the table
 
-module _ (t u : Snapshot) (words : List ℕ) (image : IsImage t words) (same_words : u.words ≡ t.words) (next : u.next ≡ t.next) (callers : u.callers ≡ t.callers) (low_next : first_row ≤ u.next)
+module _ (t u : Snapshot) (words : List ℕ) (image : IsImage t words)
+    (same_words : u.words ≡ t.words) (next : u.next ≡ t.next) (callers : u.callers ≡ t.callers)
+    (low_next : first_row ≤ u.next)
     (within : (base : ℕ) (p : Piece) → u.pieces base ≡ Some p → IsWithin u base (size_of p))
-    (apart : (base other : ℕ) (p q : Piece) → u.pieces base ≡ Some p → u.pieces other ≡ Some q → base ≢ other → Apart base (size_of p) other (size_of q)) where
+    (apart : (base other : ℕ) (p q : Piece) → u.pieces base ≡ Some p → u.pieces other ≡ Some q →
+    base ≢ other → Apart base (size_of p) other (size_of q)) where
   -- a word of a row is written, behind rows that stand
   pub image_row : (ps : Pieces) (node j word : ℕ) (p : Piece) (f : Piece → Piece)
       → ((base : ℕ) (q : Piece) → ps base ≡ Some q → StandsAt words base q) → u.anchor ≡ t.anchor
       → ps node ≡ Some p → u.pieces ≡ changed_at ps node f → j < length (words_of p)
       → words_of (f p) ≡ slice_set (words_of p) j word → IsImage u (slice_set words (node + j) word)
   image_row ps node j word p f stand same_anchor there pieces below is =
-      let now : u.pieces node ≡ Some (f p) = subst (λ qs. qs node ≡ Some (f p)) (sym pieces) (changed_at-same ps node f ∙ ap (option_map f) there) in
+      let now : u.pieces node ≡ Some (f p) = subst (λ qs. qs node ≡ Some (f p)) (sym pieces)
+      (changed_at-same ps node f ∙ ap (option_map f) there) in
       let inside = within node (f p) now in
       let low = inside.behind_fixed in
       let high = inside.below_next in
-      let size : size_of (f p) ≡ length (words_of p) = ap length is ∙ length-set (words_of p) j word in
+      let size : size_of (f p) ≡ length (words_of p) = ap length is ∙ length-set (words_of p) j word
+      in
       record {
         size = length-set words (node + j) word ∙ image.size ∙ sym same_words;
-        next = get-set_other words (node + j) next_place word (λ e. omega arith) ∙ image.next ∙ ap (λ n. Some n) (sym next);
-        callers = get-set_other words (node + j) callers_place word (λ e. omega arith) ∙ image.callers ∙ ap (λ n. Some n) (sym callers);
-        anchor_status = get-set_other words (node + j) anchor_status_place word (λ e. omega arith) ∙ image.anchor_status;
-        anchor_slot = get-set_other words (node + j) anchor_slot_place word (λ e. omega arith) ∙ image.anchor_slot ∙ ap (λ n. Some n) (sym same_anchor);
-        rows = λ base q e. ⊎_elim (λ k. here base q e now k.1) (λ k. elsewhere base q e now k.1 size) (eqb_tells base node);
-        free = λ place k l. get-set_other words (node + j) place word (λ e. omega arith) ∙ image.free place (omega arith) (omega arith);
+        next = get-set_other words (node + j) next_place word (λ e. omega arith) ∙ image.next ∙ ap
+            (λ n. Some n) (sym next);
+        callers = get-set_other words (node + j) callers_place word (λ e. omega arith) ∙
+            image.callers ∙ ap (λ n. Some n) (sym callers);
+        anchor_status = get-set_other words (node + j) anchor_status_place word (λ e. omega arith) ∙
+            image.anchor_status;
+        anchor_slot = get-set_other words (node + j) anchor_slot_place word (λ e. omega arith) ∙
+            image.anchor_slot ∙ ap (λ n. Some n) (sym same_anchor);
+        rows = λ base q e. ⊎_elim (λ k. here base q e now k.1)
+            (λ k. elsewhere base q e now k.1 size) (eqb_tells base node);
+        free = λ place k l. get-set_other words (node + j) place word (λ e. omega arith) ∙
+            image.free place (omega arith) (omega arith);
       }
     where
       here : (base : ℕ) (q : Piece) → u.pieces base ≡ Some q → u.pieces node ≡ Some (f p)
           → base ≡ node → StandsAt (slice_set words (node + j) word) base q
       here base q e now k =
-          let same : f p ≡ q = one_piece (u.pieces node) (f p) q now (subst (λ b. u.pieces b ≡ Some q) k e) in
-          subst (λ b. StandsAt (slice_set words (node + j) word) b q) (sym k) (stands_set words node j word p q below (subst (λ x. words_of x ≡ slice_set (words_of p) j word) same is) (stand node p there))
+          let same : f p ≡ q = one_piece (u.pieces node) (f p) q now
+          (subst (λ b. u.pieces b ≡ Some q) k e) in
+          subst (λ b. StandsAt (slice_set words (node + j) word) b q) (sym k)
+          (stands_set words node j word p q below
+          (subst (λ x. words_of x ≡ slice_set (words_of p) j word) same is)
+          (stand node p there))
 
       elsewhere : (base : ℕ) (q : Piece) → u.pieces base ≡ Some q → u.pieces node ≡ Some (f p)
           → base ≢ node → size_of (f p) ≡ length (words_of p)
           → StandsAt (slice_set words (node + j) word) base q
       elsewhere base q e now k size =
-          let old : ps base ≡ Some q = sym (changed_at-other ps node base f k) ∙ subst (λ qs. qs base ≡ Some q) pieces e in
+          let old : ps base ≡ Some q = sym (changed_at-other ps node base f k) ∙ subst
+          (λ qs. qs base ≡ Some q) pieces e in
           let out = apart node base (f p) q now e (λ x. k (sym x)) in
-          stands_other words base (node + j) word q (⊎_elim (λ l. inl (omega arith)) (λ l. inr (omega arith)) out) (stand base q old)
+          stands_other words base (node + j) word q
+          (⊎_elim (λ l. inl (omega arith)) (λ l. inr (omega arith)) out) (stand base q old)
 
   -- the anchor's slot is written
   pub image_anchor : (ps : Pieces) (word : ℕ)
@@ -131,13 +154,20 @@ module _ (t u : Snapshot) (words : List ℕ) (image : IsImage t words) (same_wor
   image_anchor ps word stand is old =
       record {
         size = length-set words anchor_slot_place word ∙ image.size ∙ sym same_words;
-        next = get-set_other words anchor_slot_place next_place word (λ e. omega arith) ∙ image.next ∙ ap (λ n. Some n) (sym next);
-        callers = get-set_other words anchor_slot_place callers_place word (λ e. omega arith) ∙ image.callers ∙ ap (λ n. Some n) (sym callers);
-        anchor_status = get-set_other words anchor_slot_place anchor_status_place word (λ e. omega arith) ∙ image.anchor_status;
-        anchor_slot = get-set_same words anchor_slot_place word t.anchor image.anchor_slot ∙ ap (λ n. Some n) (sym is);
-        rows = λ base q e. let inside = within base q e in let low = inside.behind_fixed in stands_other words base anchor_slot_place word q (inl (omega arith)) (stand base q (old base q e));
+        next = get-set_other words anchor_slot_place next_place word (λ e. omega arith) ∙ image.next
+            ∙ ap (λ n. Some n) (sym next);
+        callers = get-set_other words anchor_slot_place callers_place word (λ e. omega arith) ∙
+            image.callers ∙ ap (λ n. Some n) (sym callers);
+        anchor_status = get-set_other words anchor_slot_place anchor_status_place word
+            (λ e. omega arith) ∙ image.anchor_status;
+        anchor_slot = get-set_same words anchor_slot_place word t.anchor image.anchor_slot ∙ ap
+            (λ n. Some n) (sym is);
+        rows = λ base q e. let inside = within base q e in let low = inside.behind_fixed in
+            stands_other words base anchor_slot_place word q (inl (omega arith))
+            (stand base q (old base q e));
         free = λ place k l.
-            get-set_other words anchor_slot_place place word (λ e. omega arith) ∙ image.free place (omega arith) (omega arith);
+            get-set_other words anchor_slot_place place word (λ e. omega arith) ∙ image.free place
+            (omega arith) (omega arith);
       }
 
   -- a slot is written, of an inner row with its shape or of the anchor
@@ -150,24 +180,33 @@ module _ (t u : Snapshot) (words : List ℕ) (image : IsImage t words) (same_wor
       → u.anchor ≡ (if node == anchor then word else t.anchor) → SlotHolds t node i old
       → IsImage u (slice_set words (place_of_slot t node i) word)
   image_slot ps node i word old stand free free_there keeps shaped pieces is (in_anchor a b e) =
-      let place : place_of_slot t node i ≡ anchor_slot_place = subst (λ n. (if n == anchor then anchor_slot_place else place_in n i (as_inner (t.pieces n))) ≡ anchor_slot_place) (sym a) refl in
-      let now : u.anchor ≡ word = is ∙ subst (λ n. (if n == anchor then word else t.anchor) ≡ word) (sym a) refl in
+      let place : place_of_slot t node i ≡ anchor_slot_place = subst
+      (λ n. (if n == anchor then anchor_slot_place else place_in n i (as_inner (t.pieces n))) ≡
+      anchor_slot_place) (sym a) refl in
+      let now : u.anchor ≡ word = is ∙ subst (λ n. (if n == anchor then word else t.anchor) ≡ word)
+      (sym a) refl in
       subst (λ k. IsImage u (slice_set words k word)) (sym place)
       (image_anchor ps word stand now
       (λ base q k.
-      let it = changed_at-some ps node base (with_slot i word) q (subst (λ qs. qs base ≡ Some q) pieces k) in
-      ⊎_elim (λ same. it.1 ∙ ap (λ x. Some x) (sym same)) (λ new. absurd (no_piece (ps anchor) it.0 free_there (subst (λ b. ps b ≡ Some it.0) (new.0 ∙ a) it.1))) it.2))
+      let it = changed_at-some ps node base (with_slot i word) q
+      (subst (λ qs. qs base ≡ Some q) pieces k) in
+      ⊎_elim (λ same. it.1 ∙ ap (λ x. Some x) (sym same))
+      (λ new. absurd (no_piece (ps anchor) it.0 free_there
+      (subst (λ b. ps b ≡ Some it.0) (new.0 ∙ a) it.1))) it.2))
   image_slot ps node i word old stand free free_there keeps shaped pieces is (in_row r p g) =
       let out : node ≢ anchor = λ a. no_row t.pieces node r free a p in
       let shape = shaped node r p in
       let keys = shape.keys in
       let there = keeps node (Inner r) p in
       let read : as_inner (t.pieces node) ≡ Some r = ap as_inner p in
-      let place : place_of_slot t node i ≡ node + (4 + length r.keys + i) = not_there (place_in node i (as_inner (t.pieces node))) out ∙ ap (place_in node i) read ∙ number keys in
+      let place : place_of_slot t node i ≡ node + (4 + length r.keys + i) = not_there
+      (place_in node i (as_inner (t.pieces node))) out ∙ ap (place_in node i) read ∙ number keys
+      in
       let lens = length-append r.keys r.slots in
       let below = get_below r.slots i old g in
       subst (λ k. IsImage u (slice_set words k word)) (sym place)
-      (image_row ps node (4 + length r.keys + i) word (Inner r) (with_slot i word) stand (is ∙ not_there_word out) there pieces (omega arith) (words_of-with_slot r i word))
+      (image_row ps node (4 + length r.keys + i) word (Inner r) (with_slot i word) stand
+      (is ∙ not_there_word out) there pieces (omega arith) (words_of-with_slot r i word))
     where
       not_there : (k : ℕ) → node ≢ anchor → (if node == anchor then anchor_slot_place else k) ≡ k
       not_there k out = at (node == anchor) refl
@@ -194,17 +233,22 @@ pub slot_found : (t : Snapshot) (words : List ℕ) (node i word : ℕ) → IsIma
     → SlotHolds t node i word
     → slice_get words (place_of_slot t node i) ≡ Some word
 slot_found t words node i word image free shaped (in_anchor a b e) =
-    let place : place_of_slot t node i ≡ anchor_slot_place = subst (λ n. (if n == anchor then anchor_slot_place else place_in n i (as_inner (t.pieces n))) ≡ anchor_slot_place) (sym a) refl in
+    let place : place_of_slot t node i ≡ anchor_slot_place = subst
+    (λ n. (if n == anchor then anchor_slot_place else place_in n i (as_inner (t.pieces n))) ≡
+    anchor_slot_place) (sym a) refl in
     ap (slice_get words) place ∙ image.anchor_slot ∙ ap (λ x. Some x) e
 slot_found t words node i word image free shaped (in_row r p g) =
     let out : node ≢ anchor = λ a. no_row t.pieces node r free a p in
     let shape = shaped node r p in
     let keys = shape.keys in
     let read : as_inner (t.pieces node) ≡ Some r = ap as_inner p in
-    let place : place_of_slot t node i ≡ node + (4 + length r.keys + i) = not_there (place_in node i (as_inner (t.pieces node))) out ∙ ap (place_in node i) read ∙ number keys in
+    let place : place_of_slot t node i ≡ node + (4 + length r.keys + i) = not_there
+    (place_in node i (as_inner (t.pieces node))) out ∙ ap (place_in node i) read ∙ number keys
+    in
     let lens = length-append r.keys r.slots in
     let below = get_below r.slots i word g in
-    ap (slice_get words) place ∙ image.rows node (Inner r) p (4 + length r.keys + i) (omega arith) ∙ get-words_of_slot r i ∙ g
+    ap (slice_get words) place ∙ image.rows node (Inner r) p (4 + length r.keys + i) (omega arith) ∙
+    get-words_of_slot r i ∙ g
   where
     not_there : (k : ℕ) → node ≢ anchor → (if node == anchor then anchor_slot_place else k) ≡ k
     not_there k out = at (node == anchor) refl

@@ -55,7 +55,8 @@ module _ (pairs : List Pair) (words : ℕ) (opens : CanOpen pairs words) where
   free_published : (log : Log) (event : Event) → EachEnabled (start pairs words) (event ∷ log)
       → (qs : Pieces) (at : ℕ) (f : Piece → Piece)
       → (state_of pairs words (event ∷ log)).pieces ≡ changed_at qs at f → qs anchor ≡ None
-  free_published log event h qs at f pieces = none (qs anchor) refl (anchor_free pairs words (event ∷ log) h)
+  free_published log event h qs at f pieces = none (qs anchor) refl
+      (anchor_free pairs words (event ∷ log) h)
     where
       none : (o : Option Piece) → qs anchor ≡ o
           → (state_of pairs words (event ∷ log)).pieces anchor ≡ None → qs anchor ≡ None
@@ -63,7 +64,9 @@ module _ (pairs : List Pair) (words : ℕ) (opens : CanOpen pairs words) where
       none (Some p) e free = absurd (changed_there (anchor == at) refl)
         where
           changed_there : (v : Bool) → (anchor == at) ≡ v → ⊥
-          changed_there v is = clash v (sym (ap (λ b. if b then option_map f (qs anchor) else qs anchor) is) ∙ sym (ap (λ ps. ps anchor) pieces) ∙ free) e
+          changed_there v is = clash v (sym
+              (ap (λ b. if b then option_map f (qs anchor) else qs anchor) is) ∙ sym
+              (ap (λ ps. ps anchor) pieces) ∙ free) e
             where
               clash : (b : Bool) → (if b then option_map f (qs anchor) else qs anchor) ≡ None
                   → qs anchor ≡ Some p → ⊥
@@ -86,46 +89,72 @@ module _ (pairs : List Pair) (words : ℕ) (opens : CanOpen pairs words) where
       (touched ws (touch_of (state_of pairs words log) event))
   image_loaded log event h ws image it same still =
       let whole : touched ws (touch_of (state_of pairs words log) event) ≡ ws =
-      ap (touched ws) it.is ∙ ap (λ x. slice_set ws it.touch.place x) same ∙ set_same ws it.touch.place it.touch.found it.found in
-      subst (λ xs. IsImage (state_of pairs words (event ∷ log)) xs) (sym whole) (subst (λ u. IsImage u ws) (sym still) image)
+      ap (touched ws) it.is ∙ ap (λ x. slice_set ws it.touch.place x) same ∙ set_same ws
+      it.touch.place it.touch.found it.found in
+      subst (λ xs. IsImage (state_of pairs words (event ∷ log)) xs) (sym whole)
+      (subst (λ u. IsImage u ws) (sym still) image)
 
   -- each event writes its one word, or none
   pub image_step : (log : Log) (event : Event) → EachEnabled (start pairs words) (event ∷ log)
       → (ws : List ℕ) → IsImage (state_of pairs words log) ws → RowsStand ws (published_by event)
       → IsImage (state_of pairs words (event ∷ log))
       (touched ws (touch_of (state_of pairs words log) event))
-  image_step log (Enter caller) h ws image stand = image_enter (state_of pairs words log) caller ws (rows_apart pairs words log h.0) image
-  image_step log (Reserve caller base size) h ws image stand = image_reserve (state_of pairs words log) caller base size ws h.1.base_is (rows_apart pairs words log h.0) image
+  image_step log (Enter caller) h ws image stand = image_enter (state_of pairs words log) caller ws
+      (rows_apart pairs words log h.0) image
+  image_step log (Reserve caller base size) h ws image stand = image_reserve
+      (state_of pairs words log) caller base size ws h.1.base_is (rows_apart pairs words log h.0)
+      image
   image_step log (Install caller base rows) h ws image stand =
-      image_install (start pairs words) log caller base rows ws h.1 (slots_ready log h.0) (rows_apart pairs words (Install caller base rows ∷ log) h)
-      (free_published log (Install caller base rows) h (with_installed (state_of pairs words log).pieces base h.1.change h.1.fresh) h.1.change.node (with_slot h.1.change.index (word_of (ChangeAt base)))
-      (ap (λ xs. (after (state_of pairs words log) (Install caller base xs)).pieces) h.1.rows_are)) stand image
+      image_install (start pairs words) log caller base rows ws h.1 (slots_ready log h.0)
+      (rows_apart pairs words (Install caller base rows ∷ log) h)
+      (free_published log (Install caller base rows) h
+      (with_installed (state_of pairs words log).pieces base h.1.change h.1.fresh)
+      h.1.change.node (with_slot h.1.change.index (word_of (ChangeAt base)))
+      (ap (λ xs. (after (state_of pairs words log) (Install caller base xs)).pieces) h.1.rows_are))
+      stand image
   image_step log (Okay caller base) h ws image stand =
       let it = touches pairs words opens log h.0 ws image (Okay caller base) h.1 tt in
       image_loaded log (Okay caller base) h ws image it
-      (left_found (touch_of (state_of pairs words log) (Okay caller base)) _ it.touch (ap (λ o. touch_of_okay (as_change o)) h.1.pending.published) it.is refl) refl
+      (left_found (touch_of (state_of pairs words log) (Okay caller base)) _ it.touch
+      (ap (λ o. touch_of_okay (as_change o)) h.1.pending.published) it.is refl) refl
   image_step log (Decide caller base said) h ws image stand =
-      image_word (state_of pairs words log) (state_of pairs words (Decide caller base said ∷ log)) ws base 0 (decision_word said) (Change h.1.change) (with_decision (decision_word said))
-      (rows_apart pairs words (Decide caller base said ∷ log) h) refl refl refl refl refl h.1.pending.published (omega arith) refl image
-  image_step log (Resolve caller base) h ws image stand = image_resolve (state_of pairs words log) caller base ws h.1 (slots_ready log h.0) (rows_apart pairs words (Resolve caller base ∷ log) h) image
+      image_word (state_of pairs words log) (state_of pairs words (Decide caller base said ∷ log))
+      ws base 0 (decision_word said) (Change h.1.change) (with_decision (decision_word said))
+      (rows_apart pairs words (Decide caller base said ∷ log) h) refl refl refl refl refl
+      h.1.pending.published (omega arith) refl image
+  image_step log (Resolve caller base) h ws image stand = image_resolve (state_of pairs words log)
+      caller base ws h.1 (slots_ready log h.0)
+      (rows_apart pairs words (Resolve caller base ∷ log) h) image
   image_step log (Count caller node) h ws image stand =
       let it = on_chain_inner pairs words opens log h.0 h.1.update.change.node node h.1.on_chain in
-      image_count (state_of pairs words log) caller node ws it.0 it.1 (rows_apart pairs words (Count caller node ∷ log) h) image
+      image_count (state_of pairs words log) caller node ws it.0 it.1
+      (rows_apart pairs words (Count caller node ∷ log) h) image
   image_step log (Mark caller node) h ws image stand =
-      image_word (state_of pairs words log) (state_of pairs words (Mark caller node ∷ log)) ws node 0 marked_word (Inner h.1.row) (with_status marked_word)
-      (rows_apart pairs words (Mark caller node ∷ log) h) refl refl refl refl refl h.1.published (omega arith) refl image
+      image_word (state_of pairs words log) (state_of pairs words (Mark caller node ∷ log)) ws node
+      0 marked_word (Inner h.1.row) (with_status marked_word)
+      (rows_apart pairs words (Mark caller node ∷ log) h) refl refl refl refl refl h.1.published
+      (omega arith) refl image
   image_step log (Pass caller node i word) h ws image stand =
       let it = touches pairs words opens log h.0 ws image (Pass caller node i word) h.1 tt in
       image_loaded log (Pass caller node i word) h ws image it
-      (left_found (touch_of (state_of pairs words log) (Pass caller node i word)) _ it.touch refl it.is refl) refl
+      (left_found (touch_of (state_of pairs words log) (Pass caller node i word)) _ it.touch refl
+      it.is refl) refl
   image_step log (Finish caller node keys) h ws image stand =
-      image_word (state_of pairs words log) (state_of pairs words (Finish caller node keys ∷ log)) ws node 0 (finished_word keys) (Inner h.1.row) (with_status (finished_word keys))
-      (rows_apart pairs words (Finish caller node keys ∷ log) h) refl refl refl refl refl h.1.published (omega arith) refl image
+      image_word (state_of pairs words log) (state_of pairs words (Finish caller node keys ∷ log))
+      ws node 0 (finished_word keys) (Inner h.1.row) (with_status (finished_word keys))
+      (rows_apart pairs words (Finish caller node keys ∷ log) h) refl refl refl refl refl
+      h.1.published (omega arith) refl image
   image_step log (Root caller rebuild word rows) h ws image stand =
-      image_root (state_of pairs words log) caller rebuild word rows ws h.1 (slots_ready log h.0) (rows_apart pairs words (Root caller rebuild word rows ∷ log) h) stand image
+      image_root (state_of pairs words log) caller rebuild word rows ws h.1 (slots_ready log h.0)
+      (rows_apart pairs words (Root caller rebuild word rows ∷ log) h) stand image
   image_step log (Draw caller rebuild part) h ws image stand =
-      image_draw (state_of pairs words log) caller rebuild part ws h.1.row h.1.published (rows_apart pairs words (Draw caller rebuild part ∷ log) h) image
+      image_draw (state_of pairs words log) caller rebuild part ws h.1.row h.1.published
+      (rows_apart pairs words (Draw caller rebuild part ∷ log) h) image
   image_step log (Place caller rebuild i word rows) h ws image stand =
-      image_place (state_of pairs words log) caller rebuild i word rows ws h.1 (slots_ready log h.0) (rows_apart pairs words (Place caller rebuild i word rows ∷ log) h)
-      (free_published log (Place caller rebuild i word rows) h (with_inners (state_of pairs words log).pieces rows) h.1.root (with_slot i word) (rows_placed (state_of pairs words log) caller rebuild i word rows h.1)) stand image
-  image_step log (Lose caller bases) h ws image stand = image_same (state_of pairs words log) (state_of pairs words (Lose caller bases ∷ log)) ws refl refl refl refl refl image
+      image_place (state_of pairs words log) caller rebuild i word rows ws h.1 (slots_ready log h.0)
+      (rows_apart pairs words (Place caller rebuild i word rows ∷ log) h)
+      (free_published log (Place caller rebuild i word rows) h
+      (with_inners (state_of pairs words log).pieces rows) h.1.root (with_slot i word)
+      (rows_placed (state_of pairs words log) caller rebuild i word rows h.1)) stand image
+  image_step log (Lose caller bases) h ws image stand = image_same (state_of pairs words log)
+      (state_of pairs words (Lose caller bases ∷ log)) ws refl refl refl refl refl image

@@ -17,7 +17,8 @@ use Rattle.ist_core.proofs.PublishingLemmas.{Stands, stands-with_row, stands_her
 size_of-leaf_of : (words : List ℕ) (p : Piece) → leaf_of words ≡ Some p → size_of p ≡ length words
 size_of-leaf_of [] p e = absurd (cc)
 size_of-leaf_of (a ∷ []) p e = absurd (cc)
-size_of-leaf_of (a ∷ b ∷ []) p e = let is : Leaf record { key = a; value = b } ≡ p = cc in subst (λ q. size_of q ≡ 2) is refl
+size_of-leaf_of (a ∷ b ∷ []) p e = let is : Leaf record { key = a; value = b } ≡ p = cc in subst
+    (λ q. size_of q ≡ 2) is refl
 size_of-leaf_of (a ∷ b ∷ c ∷ words) p e = absurd (cc)
 
 -- a rebuild has as many words as it was read from
@@ -29,7 +30,8 @@ size_of-rebuild_of (a ∷ b ∷ []) p e = absurd (cc)
 size_of-rebuild_of (a ∷ b ∷ c ∷ []) p e = absurd (cc)
 size_of-rebuild_of (a ∷ b ∷ c ∷ d ∷ []) p e = absurd (cc)
 size_of-rebuild_of (a ∷ b ∷ c ∷ d ∷ f ∷ []) p e =
-    let is : Rebuild record { target = a; parent = b; index = c; root = d; draw = f } ≡ p = cc in subst (λ q. size_of q ≡ 5) is refl
+    let is : Rebuild record { target = a; parent = b; index = c; root = d; draw = f } ≡ p = cc in
+    subst (λ q. size_of q ≡ 5) is refl
 size_of-rebuild_of (a ∷ b ∷ c ∷ d ∷ f ∷ g ∷ words) p e = absurd (cc)
 
 -- a fresh row behind the change is read as one or the other
@@ -40,7 +42,8 @@ size_of-fresh_of : (change : ChangeRow) (words : List ℕ) (p : Piece)
     → fresh_of change words ≡ Some p → size_of p ≡ length words
 unfolding fresh_of
 size_of-fresh_of change words p e =
-    elim (change.kind == start_kind) as (λ v. (if v then rebuild_of words else leaf_of words) ≡ Some p → size_of p ≡ length words) [
+    elim (change.kind == start_kind) as
+    (λ v. (if v then rebuild_of words else leaf_of words) ≡ Some p → size_of p ≡ length words) [
       | true ↦ λ f. size_of-rebuild_of words p f
       | false ↦ λ f. size_of-leaf_of words p f
     ] e
@@ -48,16 +51,20 @@ size_of-fresh_of change words p e =
 -- what stands behind the fresh rows stood there, or is one of them
 fresh-some : (ps : Pieces) (change : ChangeRow) (rows : List Row) (base : ℕ) (q : Piece)
     → with_fresh ps change rows base ≡ Some q
-    → (ps base ≡ Some q) ⊎ ((row : Row) × Among row rows × (row.base ≡ base) × (size_of q ≡ length row.words))
+    → (ps base ≡ Some q) ⊎ ((row : Row) × Among row rows × (row.base ≡ base) ×
+    (size_of q ≡ length row.words))
 unfolding fresh_of
 fresh-some ps change [] base q e = inl e
 fresh-some ps change (row ∷ []) base q e =
-    ⊎_elim (λ h. inr (row, inl refl, sym h.0, size_of-fresh_of change row.words q h.1)) (λ h. inl h) (with_row-some ps row.base base (fresh_of change row.words) q e)
+    ⊎_elim (λ h. inr (row, inl refl, sym h.0, size_of-fresh_of change row.words q h.1)) (λ h. inl h)
+    (with_row-some ps row.base base (fresh_of change row.words) q e)
 fresh-some ps change (pair ∷ leaf ∷ []) base q e =
     ⊎_elim
     (λ h. inr (pair, inl refl, sym h.0, size_of-inner_of pair.words q h.1))
-    (λ h. ⊎_elim (λ k. inr (leaf, inr (inl refl), sym k.0, size_of-leaf_of leaf.words q k.1)) (λ k. inl k) (with_row-some ps leaf.base base (leaf_of leaf.words) q h))
-    (with_row-some (with_row ps leaf.base (leaf_of leaf.words)) pair.base base (inner_of pair.words) q e)
+    (λ h. ⊎_elim (λ k. inr (leaf, inr (inl refl), sym k.0, size_of-leaf_of leaf.words q k.1))
+    (λ k. inl k) (with_row-some ps leaf.base base (leaf_of leaf.words) q h))
+    (with_row-some (with_row ps leaf.base (leaf_of leaf.words)) pair.base base (inner_of pair.words)
+    q e)
 fresh-some ps change (a ∷ b ∷ c ∷ rows) base q e = inl e
 
 -- where no fresh row lies, what stood there stands there
@@ -65,17 +72,22 @@ fresh-other : (ps : Pieces) (change : ChangeRow) (rows : List Row) (base : ℕ)
     → ¬ (Among base (bases_of rows)) → with_fresh ps change rows base ≡ ps base
 unfolding fresh_of
 fresh-other ps change [] base out = refl
-fresh-other ps change (row ∷ []) base out = with_row-other ps row.base base (fresh_of change row.words) (λ e. out (inl e))
+fresh-other ps change (row ∷ []) base out = with_row-other ps row.base base
+    (fresh_of change row.words) (λ e. out (inl e))
 fresh-other ps change (pair ∷ leaf ∷ []) base out =
-    with_row-other (with_row ps leaf.base (leaf_of leaf.words)) pair.base base (inner_of pair.words) (λ e. out (inl e))
+    with_row-other (with_row ps leaf.base (leaf_of leaf.words)) pair.base base (inner_of pair.words)
+    (λ e. out (inl e))
     ∙ with_row-other ps leaf.base base (leaf_of leaf.words) (λ e. out (inr (inl e)))
 fresh-other ps change (a ∷ b ∷ c ∷ rows) base out = refl
 
 -- a pair row is read from its words
 pub inner_of-pair_row : (key base other_key other : ℕ)
-    → inner_of (words_of (pair_row key base other_key other)) ≡ Some (pair_row key base other_key other)
+    → inner_of (words_of (pair_row key base other_key other)) ≡ Some
+    (pair_row key base other_key other)
 inner_of-pair_row key base other_key other =
-    elim (nat_lt other_key key) as (λ v. inner_of (words_of (if v then pair_over key other base else pair_over other_key base other)) ≡ Some (if v then pair_over key other base else pair_over other_key base other)) [
+    elim (nat_lt other_key key) as
+    (λ v. inner_of (words_of (if v then pair_over key other base else pair_over other_key base
+    other)) ≡ Some (if v then pair_over key other base else pair_over other_key base other)) [
       | true ↦ refl
       | false ↦ refl
     ]
@@ -86,46 +98,67 @@ fresh_named : (ps : Pieces) (first : Snapshot) (log : Log) (change : ChangeRow) 
     → (row : Row) → Among row fresh → Stands (with_fresh ps change fresh) row.base
 unfolding fresh_of
 fresh_named ps first log change fresh (a_put h) =
-    let read = ap (λ k. if k == start_kind then rebuild_of (words_of (new_leaf change)) else leaf_of (words_of (new_leaf change))) h.kind in
-    subst (λ rows. (row : Row) → Among row rows → Stands (with_fresh ps change rows) row.base) (sym h.fresh_are) (λ row i. one h.leaf read row i)
+    let read = ap (λ k. if k == start_kind then rebuild_of (words_of (new_leaf change)) else leaf_of
+    (words_of (new_leaf change))) h.kind in
+    subst (λ rows. (row : Row) → Among row rows → Stands (with_fresh ps change rows) row.base)
+    (sym h.fresh_are) (λ row i. one h.leaf read row i)
   where
     one : (leaf : ℕ) → fresh_of change (words_of (new_leaf change)) ≡ Some (new_leaf change)
         → (row : Row) → Among row (row_at leaf (new_leaf change) ∷ [])
         → Stands (with_row ps leaf (fresh_of change (words_of (new_leaf change)))) row.base
     one leaf read row (inl e) =
-        subst (λ b. Stands (with_row ps leaf (fresh_of change (words_of (new_leaf change)))) b) (sym (ap (λ r. r.base) e)) (stands_here ps leaf (fresh_of change (words_of (new_leaf change))) (new_leaf change) read)
+        subst (λ b. Stands (with_row ps leaf (fresh_of change (words_of (new_leaf change)))) b)
+        (sym (ap (λ r. r.base) e)) (stands_here ps leaf
+        (fresh_of change (words_of (new_leaf change))) (new_leaf change) read)
     one leaf read row (inr i) = absurd i
 fresh_named ps first log change fresh (a_pair h) =
-    subst (λ rows. (row : Row) → Among row rows → Stands (with_fresh ps change rows) row.base) (sym h.fresh_are)
-    (λ row i. two (pair_row change.key h.leaf h.other_key h.other) h.pair h.leaf (inner_of-pair_row change.key h.leaf h.other_key h.other) row i)
+    subst (λ rows. (row : Row) → Among row rows → Stands (with_fresh ps change rows) row.base)
+    (sym h.fresh_are)
+    (λ row i. two (pair_row change.key h.leaf h.other_key h.other) h.pair h.leaf
+    (inner_of-pair_row change.key h.leaf h.other_key h.other) row i)
   where
     two : (p : Piece) (pair leaf : ℕ) → inner_of (words_of p) ≡ Some p → (row : Row)
         → Among row (row_at pair p ∷ row_at leaf (new_leaf change) ∷ [])
-        → Stands (with_row (with_row ps leaf (Some (new_leaf change))) pair (inner_of (words_of p))) row.base
+        → Stands (with_row (with_row ps leaf (Some (new_leaf change))) pair (inner_of (words_of p)))
+        row.base
     two p pair leaf read row (inl e) =
-        subst (λ b. Stands (with_row (with_row ps leaf (Some (new_leaf change))) pair (inner_of (words_of p))) b) (sym (ap (λ r. r.base) e)) (stands_here (with_row ps leaf (Some (new_leaf change))) pair (inner_of (words_of p)) p read)
+        subst (λ b. Stands (with_row (with_row ps leaf (Some (new_leaf change))) pair
+        (inner_of (words_of p))) b) (sym (ap (λ r. r.base) e))
+        (stands_here (with_row ps leaf (Some (new_leaf change))) pair (inner_of (words_of p)) p
+        read)
     two p pair leaf read row (inr (inl e)) =
-        subst (λ b. Stands (with_row (with_row ps leaf (Some (new_leaf change))) pair (inner_of (words_of p))) b) (sym (ap (λ r. r.base) e))
-        (stands-with_row (with_row ps leaf (Some (new_leaf change))) pair leaf (inner_of (words_of p)) (stands_here ps leaf (Some (new_leaf change)) (new_leaf change) refl))
+        subst (λ b. Stands (with_row (with_row ps leaf (Some (new_leaf change))) pair
+        (inner_of (words_of p))) b) (sym (ap (λ r. r.base) e))
+        (stands-with_row (with_row ps leaf (Some (new_leaf change))) pair leaf
+        (inner_of (words_of p)) (stands_here ps leaf (Some (new_leaf change)) (new_leaf change)
+        refl))
     two p pair leaf read row (inr (inr i)) = absurd i
-fresh_named ps first log change fresh (a_remove h) = λ row i. absurd (subst (λ rows. Among row rows) h.fresh_are i)
+fresh_named ps first log change fresh (a_remove h) = λ row i. absurd
+    (subst (λ rows. Among row rows) h.fresh_are i)
 fresh_named ps first log change fresh (a_start h) =
-    let read = ap (λ k. if k == start_kind then rebuild_of (words_of (new_rebuild change h.target)) else leaf_of (words_of (new_rebuild change h.target))) h.kind in
-    subst (λ rows. (row : Row) → Among row rows → Stands (with_fresh ps change rows) row.base) (sym h.fresh_are) (λ row i. one (new_rebuild change h.target) h.rebuild read row i)
+    let read = ap (λ k. if k == start_kind then rebuild_of (words_of (new_rebuild change h.target))
+    else leaf_of (words_of (new_rebuild change h.target))) h.kind in
+    subst (λ rows. (row : Row) → Among row rows → Stands (with_fresh ps change rows) row.base)
+    (sym h.fresh_are) (λ row i. one (new_rebuild change h.target) h.rebuild read row i)
   where
     one : (p : Piece) (base : ℕ) → fresh_of change (words_of p) ≡ Some p → (row : Row)
         → Among row (row_at base p ∷ [])
         → Stands (with_row ps base (fresh_of change (words_of p))) row.base
-    one p base read row (inl e) = subst (λ b. Stands (with_row ps base (fresh_of change (words_of p))) b) (sym (ap (λ r. r.base) e)) (stands_here ps base (fresh_of change (words_of p)) p read)
+    one p base read row (inl e) = subst
+        (λ b. Stands (with_row ps base (fresh_of change (words_of p))) b) (sym (ap (λ r. r.base) e))
+        (stands_here ps base (fresh_of change (words_of p)) p read)
     one p base read row (inr i) = absurd i
-fresh_named ps first log change fresh (a_finish h) = λ row i. absurd (subst (λ rows. Among row rows) h.fresh_are i)
+fresh_named ps first log change fresh (a_finish h) = λ row i. absurd
+    (subst (λ rows. Among row rows) h.fresh_are i)
 
 -- the rows with the change and its fresh rows
 abbrev pub with_installed : Pieces → ℕ → ChangeRow → List Row → Pieces
-with_installed ps base change fresh = with_row (with_fresh ps change fresh) base (Some (Change change))
+with_installed ps base change fresh = with_row (with_fresh ps change fresh) base
+    (Some (Change change))
 
 -- an Install publishes the change and its fresh rows
-pub publishes_install : (ps : Pieces) (first : Snapshot) (log : Log) (base : ℕ) (change : ChangeRow) (fresh : List Row)
+pub publishes_install : (ps : Pieces) (first : Snapshot) (log : Log) (base : ℕ) (change : ChangeRow)
+    (fresh : List Row)
     → FitsKind first log change fresh
     → Publishes ps (row_at base (Change change) ∷ fresh) (with_installed ps base change fresh)
 publishes_install ps first log base change fresh fits =
@@ -133,10 +166,12 @@ publishes_install ps first log base change fresh fits =
       from = λ at q e.
           ⊎_elim
           (λ h. inr (row_at base (Change change), inl refl, sym h.0, size h.1))
-          (λ h. ⊎_elim (λ k. inl k) (λ k. inr (k.0, inr k.1, k.2, k.3)) (fresh-some ps change fresh at q h))
+          (λ h. ⊎_elim (λ k. inl k) (λ k. inr (k.0, inr k.1, k.2, k.3))
+          (fresh-some ps change fresh at q h))
           (with_row-some (with_fresh ps change fresh) base at (Some (Change change)) q e);
       others = λ at out.
-          with_row-other (with_fresh ps change fresh) base at (Some (Change change)) (λ e. out (inl e)) ∙ fresh-other ps change fresh at (λ i. out (inr i));
+          with_row-other (with_fresh ps change fresh) base at (Some (Change change))
+          (λ e. out (inl e)) ∙ fresh-other ps change fresh at (λ i. out (inr i));
       named = λ row i. each row i;
     }
   where
@@ -145,5 +180,8 @@ publishes_install ps first log base change fresh fits =
 
     each : (row : Row) → Among row (row_at base (Change change) ∷ fresh)
         → Stands (with_installed ps base change fresh) row.base
-    each row (inl e) = subst (λ b. Stands (with_installed ps base change fresh) b) (sym (ap (λ r. r.base) e)) (stands_here (with_fresh ps change fresh) base (Some (Change change)) (Change change) refl)
-    each row (inr i) = stands-with_row (with_fresh ps change fresh) base row.base (Some (Change change)) (fresh_named ps first log change fresh fits row i)
+    each row (inl e) = subst (λ b. Stands (with_installed ps base change fresh) b)
+        (sym (ap (λ r. r.base) e)) (stands_here (with_fresh ps change fresh) base
+        (Some (Change change)) (Change change) refl)
+    each row (inr i) = stands-with_row (with_fresh ps change fresh) base row.base
+        (Some (Change change)) (fresh_named ps first log change fresh fits row i)

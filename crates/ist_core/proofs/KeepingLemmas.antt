@@ -35,7 +35,8 @@ IsClosed Done ref = (child : ℕ) → ref ≡ Some (InnerAt child) → Done chil
 -- the words read alike, and what they read as is closed
 abbrev pub ReadAlike : Pieces → Pieces → (ℕ → Type 0) → List ℕ → List ℕ → Type 0
 ReadAlike ps qs Done [] [] = Unit {0}
-ReadAlike ps qs Done (w ∷ ws) (v ∷ vs) = (logical ps w ≡ logical qs v) × IsClosed Done (logical ps w) × ReadAlike ps qs Done ws vs
+ReadAlike ps qs Done (w ∷ ws) (v ∷ vs) = (logical ps w ≡ logical qs v) × IsClosed Done
+    (logical ps w) × ReadAlike ps qs Done ws vs
 ReadAlike ps qs Done _ _ = ⊥
 
 -- a row of the first stands in the second, with slots that read alike
@@ -44,7 +45,10 @@ pub record StandsAlike (ps qs : Pieces) (Done : ℕ → Type 0) (base : ℕ) (r 
   pub published : qs base ≡ Some (Inner row)
   pub slots : ReadAlike ps qs Done r.slots row.slots
 
-module _ (ps qs : Pieces) (Done : ℕ → Type 0) (leaf : (base : ℕ) (r : LeafRow) → ps base ≡ Some (Leaf r) → qs base ≡ Some (Leaf r)) (row : (base : ℕ) (r : InnerRow) → Done base → ps base ≡ Some (Inner r) → StandsAlike ps qs Done base r) where
+module _ (ps qs : Pieces) (Done : ℕ → Type 0)
+    (leaf : (base : ℕ) (r : LeafRow) → ps base ≡ Some (Leaf r) → qs base ≡ Some (Leaf r))
+    (row : (base : ℕ) (r : InnerRow) → Done base → ps base ≡ Some (Inner r) → StandsAlike ps qs Done
+    base r) where
   mutual
     pub leaves_stay : (ref : Option Ref) (leaves : List PlacedLeaf) → HasLeaves ps ref leaves
         → IsClosed Done ref → HasLeaves qs ref leaves
@@ -52,19 +56,24 @@ module _ (ps qs : Pieces) (Done : ℕ → Type 0) (leaf : (base : ℕ) (r : Leaf
     leaves_stay _ _ (leaf_here {base = base} r e) closed = leaf_here r (leaf base r e)
     leaves_stay _ leaves (row_here {base = base} r e below) closed =
         let there = row base r (closed base refl) e in
-        row_here there.row there.published (slots_stay r.slots leaves below there.row.slots there.slots)
+        row_here there.row there.published
+        (slots_stay r.slots leaves below there.row.slots there.slots)
 
     slots_stay : (words : List ℕ) (leaves : List PlacedLeaf) → SlotsHaveLeaves ps words leaves
         → (vs : List ℕ) → ReadAlike ps qs Done words vs → SlotsHaveLeaves qs vs leaves
     slots_stay _ _ no_slot [] alike = no_slot
     slots_stay _ _ no_slot (v ∷ vs) alike = absurd alike
     slots_stay _ _ (one_slot first more) [] alike = absurd alike
-    slots_stay _ _ (one_slot {word = word} {words = words} {here = here} {rest = rest} first more) (v ∷ vs) alike =
-        one_slot (subst (λ ref. HasLeaves qs ref here) alike.0 (leaves_stay (logical ps word) here first alike.1)) (slots_stay words rest more vs alike.2)
+    slots_stay _ _ (one_slot {word = word} {words = words} {here = here} {rest = rest} first more)
+        (v ∷ vs) alike =
+        one_slot (subst (λ ref. HasLeaves qs ref here) alike.0
+        (leaves_stay (logical ps word) here first alike.1))
+        (slots_stay words rest more vs alike.2)
 
 -- words of two lists of one length that read alike place by place
 alike_from : (ps qs : Pieces) (Done : ℕ → Type 0) (ws vs : List ℕ) → length vs ≡ length ws
-    → ((i w v : ℕ) → slice_get ws i ≡ Some w → slice_get vs i ≡ Some v → (logical ps w ≡ logical qs v) × IsClosed Done (logical ps w))
+    → ((i w v : ℕ) → slice_get ws i ≡ Some w → slice_get vs i ≡ Some v →
+    (logical ps w ≡ logical qs v) × IsClosed Done (logical ps w))
     → ReadAlike ps qs Done ws vs
 alike_from ps qs Done [] [] long each = tt
 alike_from ps qs Done [] (v ∷ vs) long each = absurd (omega arith)
@@ -80,15 +89,24 @@ passed_reads : (t u : Snapshot) → AllGrow t.pieces u.pieces → (ref : Option 
     × IsClosed (IsFinished t) (past_rebuild t.pieces ref)
 passed_reads t u g _ _ no_key = (refl, λ child e. absurd (cc))
 passed_reads t u g _ _ one_key = (refl, λ child e. absurd (cc))
-passed_reads t u g _ k (of_child {child = child} f) = (refl, λ other e. (k, subst (λ n. IsFinishedWith t n k) (same child other e) f))
+passed_reads t u g _ k (of_child {child = child} f) =
+    (refl, λ other e. (k, subst (λ n. IsFinishedWith t n k) (same child other e) f))
   where
     same : (a b : ℕ) → Some (InnerAt a) ≡ Some (InnerAt b) → a ≡ b
     same a b e = cc
 passed_reads t u g _ k (of_target {rebuild = rebuild} {target = target} has f) =
     let it = rebuild_there t.pieces u.pieces g rebuild has.row has.published in
-    let before : rebuild_reads (t.pieces rebuild) ≡ Some (InnerAt has.row.target) = ap rebuild_reads has.published in
-    let behind : rebuild_reads (u.pieces rebuild) ≡ Some (InnerAt it.0.target) = ap rebuild_reads it.1 in
-    (before ∙ ap (λ n. Some (InnerAt n)) (sym it.2.target) ∙ sym behind, λ other e. (k, subst (λ n. IsFinishedWith t n k) (sym has.target_is ∙ same has.row.target other (sym before ∙ e)) f))
+    let before : rebuild_reads (t.pieces rebuild) ≡ Some (InnerAt has.row.target) = ap rebuild_reads
+    has.published in
+    let behind : rebuild_reads (u.pieces rebuild) ≡ Some (InnerAt it.0.target) = ap rebuild_reads
+    it.1 in (
+      before ∙ ap (λ n. Some (InnerAt n)) (sym it.2.target) ∙ sym behind,
+      λ other e. (
+        k,
+        subst (λ n. IsFinishedWith t n k)
+            (sym has.target_is ∙ same has.row.target other (sym before ∙ e)) f,
+      ),
+    )
   where
     same : (a b : ℕ) → Some (InnerAt a) ≡ Some (InnerAt b) → a ≡ b
     same a b e = cc
@@ -100,7 +118,9 @@ module _ (pairs : List Pair) (words : ℕ) (opens : CanOpen pairs words) where
       → HasLeaves (state_of pairs words log).pieces (Some (InnerAt node)) leaves
       → HasLeaves (state_of pairs words (event ∷ log)).pieces (Some (InnerAt node)) leaves
   leaves_kept log event h node leaves done has =
-      leaves_stay t.pieces u.pieces (IsFinished t) (λ base r e. leaf_there t.pieces u.pieces g base r e) stands (Some (InnerAt node)) leaves has (λ child e. subst (λ n. IsFinished t n) (same node child e) done)
+      leaves_stay t.pieces u.pieces (IsFinished t)
+      (λ base r e. leaf_there t.pieces u.pieces g base r e) stands (Some (InnerAt node)) leaves
+      has (λ child e. subst (λ n. IsFinished t n) (same node child e) done)
     where
       t : Snapshot
       t = state_of pairs words log
@@ -109,7 +129,8 @@ module _ (pairs : List Pair) (words : ℕ) (opens : CanOpen pairs words) where
       u = state_of pairs words (event ∷ log)
 
       g : AllGrow (state_of pairs words log).pieces (state_of pairs words (event ∷ log)).pieces
-      g = grow_step (start pairs words) log event h.1 (sound (start pairs words) log (sound_start pairs words) h.0)
+      g = grow_step (start pairs words) log event h.1
+          (sound (start pairs words) log (sound_start pairs words) h.0)
 
       same : (a b : ℕ) → Some (InnerAt a) ≡ Some (InnerAt b) → a ≡ b
       same a b e = cc
@@ -124,10 +145,15 @@ module _ (pairs : List Pair) (words : ℕ) (opens : CanOpen pairs words) where
             slots = alike_from t.pieces u.pieces (IsFinished t) r.slots it.0.slots it.2.slots
                 (λ i w v there now.
                 let p = finished_passed pairs words opens log h.0 base f.0 f.1 r e i w there in
-                let before = frozen_reads pairs words opens log h.0 base i p.word w p.passed (in_row r e there) in
-                let behind = frozen_reads pairs words opens (event ∷ log) h base i p.word v (inr p.passed) (in_row it.0 it.1 now) in
-                let read = passed_reads t u g (ref_of p.word) p.keys p.counts in
-                (before ∙ read.0 ∙ sym behind, subst (λ ref. IsClosed (IsFinished t) ref) (sym before) read.1));
+                let before = frozen_reads pairs words opens log h.0 base i p.word w p.passed
+                (in_row r e there) in
+                let behind = frozen_reads pairs words opens (event ∷ log) h base i p.word v
+                (inr p.passed) (in_row it.0 it.1 now) in
+                let read = passed_reads t u g (ref_of p.word) p.keys p.counts in (
+                  before ∙ read.0 ∙ sym behind,
+                  subst (λ ref. IsClosed (IsFinished t) ref)
+                      (sym before) read.1,
+                ));
           }
 
   -- and so do all events behind a log
@@ -139,5 +165,9 @@ module _ (pairs : List Pair) (words : ℕ) (opens : CanOpen pairs words) where
   finished_leaves_stay earlier _ same_log h node leaves done has = has
   finished_leaves_stay earlier _ (one_event {log = log} event g) h node leaves done has =
       let grows = grow_between pairs words earlier log h.0 g in
-      leaves_kept log event h node leaves (done.0, finished_grows (state_of pairs words earlier) (state_of pairs words log) node done.0 grows done.1)
+      leaves_kept log event h node leaves (
+        done.0,
+        finished_grows (state_of pairs words earlier) (state_of pairs words log) node
+            done.0 grows done.1,
+      )
       (finished_leaves_stay earlier log g h.0 node leaves done has)

@@ -1,4 +1,5 @@
--- The keys of each inner row rise, and so do the leaves below each slot. Serves `laws.leaves_lie_by_key`.
+-- The keys of each inner row rise, and so do the leaves below each slot. Serves
+-- `laws.leaves_lie_by_key`.
 use Rattle.std.proofs.Common.{◌≡◌, ℕ, ◌+◌, ◌≤◌, ◌⊎◌, nat_lt, if◌then◌else◌, true, false, List, [], ◌∷◌, length, map, Some, refl, sym, ap, subst, inl, inr, arith}
 use Rattle.std.specs.List.Sorted.{IsStrictlyIncreasing}
 use Rattle.ist_core.specs.declared.pairs.Pair.{Pair}
@@ -59,55 +60,86 @@ grows_rising _ _ (rebuild_grows g) h = tt
 
 pair_rising : (key base other_key other : ℕ) → HasRisingKeys (pair_row key base other_key other)
 pair_rising key base other_key other =
-    elim (nat_lt other_key key) as (λ v. HasRisingKeys (if v then pair_over key other base else pair_over other_key base other)) [ true ↦ (tt, tt) | false ↦ (tt, tt) ]
+    elim (nat_lt other_key key) as
+    (λ v. HasRisingKeys (if v then pair_over key other base else pair_over other_key base
+    other)) [ true ↦ (tt, tt) | false ↦ (tt, tt) ]
 
 installed_rising : (first : Snapshot) (log : Log) (at : ℕ) (change : ChangeRow) (fresh : List Row)
     (fits : FitsKind first log change fresh) (base : ℕ) (p : Piece)
     → IsInstalled first log at change fresh fits base p → HasRisingKeys p
 installed_rising first log at change fresh fits base p (inl h) = subst HasRisingKeys (sym h.1) tt
-installed_rising first log at change fresh (a_put f) base p (inr h) = subst HasRisingKeys (sym h.1) tt
-installed_rising first log at change fresh (a_pair f) base p (inr (inl h)) = subst HasRisingKeys (sym h.1) (pair_rising change.key f.leaf f.other_key f.other)
-installed_rising first log at change fresh (a_pair f) base p (inr (inr h)) = subst HasRisingKeys (sym h.1) tt
+installed_rising first log at change fresh (a_put f) base p (inr h) = subst HasRisingKeys (sym h.1)
+    tt
+installed_rising first log at change fresh (a_pair f) base p (inr (inl h)) = subst HasRisingKeys
+    (sym h.1) (pair_rising change.key f.leaf f.other_key f.other)
+installed_rising first log at change fresh (a_pair f) base p (inr (inr h)) = subst HasRisingKeys
+    (sym h.1) tt
 installed_rising first log at change fresh (a_remove f) base p (inr h) = absurd h
-installed_rising first log at change fresh (a_start f) base p (inr h) = subst HasRisingKeys (sym h.1) tt
+installed_rising first log at change fresh (a_start f) base p (inr h) = subst HasRisingKeys
+    (sym h.1) tt
 installed_rising first log at change fresh (a_finish f) base p (inr h) = absurd h
 
 -- the rows of a root over rising leaves
 root_rising : (ps : Pieces) (word k : ℕ) (leaves : List PlacedLeaf) (target : ℕ) (rows : List ℕ)
     → Rises key_of_leaf leaves → IsRoot ps word k leaves target rows → Each (StandsRising ps) rows
-root_rising ps word k leaves target rows rise (root_whole ref few e ideal) = split_rises key_of_leaf ps ref leaves rows (ideal_splits ps ref leaves target rows ideal) rise
+root_rising ps word k leaves target rows rise (root_whole ref few e ideal) = split_rises key_of_leaf
+    ps ref leaves rows (ideal_splits ps ref leaves target rows ideal) rise
 root_rising ps word k leaves target rows rise (root_top base row many e top unset one) =
-    subst (λ bs. Each (StandsRising ps) bs) (sym one)
-    (record { row = row; published = top.published; keys = subst Rising (sym top.keys) (first_keys_behind_rise key_of_leaf (parts leaves) (parts_rise key_of_leaf leaves top.two rise)) }, tt)
+    subst (λ bs. Each (StandsRising ps) bs) (sym one) (
+      record {
+        row = row;
+        published = top.published;
+        keys = subst Rising (sym top.keys)
+            (first_keys_behind_rise key_of_leaf (parts leaves)
+            (parts_rise key_of_leaf leaves top.two rise));
+      },
+      tt,
+    )
 
 tree_rising : (ps : Pieces) (rows : List ℕ) (base : ℕ) (p : Piece) → Each (StandsRising ps) rows
     → Among base rows → ps base ≡ Some p → HasRisingKeys p
-tree_rising ps rows base p all i e = let it = each-among (StandsRising ps) base rows all i in known HasRisingKeys (ps base) p (Inner it.row) e it.published it.keys
+tree_rising ps rows base p all i e = let it = each-among (StandsRising ps) base rows all i in known
+    HasRisingKeys (ps base) p (Inner it.row) e it.published it.keys
 
 module _ (pairs : List Pair) (words : ℕ) (opens : CanOpen pairs words) where
   -- each row that an event publishes
   born_rising : (log : Log) (event : Event) (base : ℕ) (p : Piece)
       → EachEnabled (start pairs words) log → Enabled (start pairs words) log event
       → Born (start pairs words) log base p event → HasRisingKeys p
-  born_rising log _ base p e can (by_install {change = at} h born) = installed_rising (start pairs words) log at h.change h.fresh h.fits base p born
+  born_rising log _ base p e can (by_install {change = at} h born) = installed_rising
+      (start pairs words) log at h.change h.fresh h.fits base p born
   born_rising log _ base p e can (by_root {rebuild = rebuild} {word = word} {rows = rows} i there) =
       let t = state_of pairs words log in
-      let under = target_lies t rebuild can.row can.leaves can.published (names pairs words opens log e) (one_home pairs words opens log e) (anchor_free pairs words log e) (leaves_lie pairs words opens log e) can.reached in
-      tree_rising (with_inners t.pieces rows) (bases_of rows) base p (root_rising (with_inners t.pieces rows) word can.k can.leaves can.row.target (bases_of rows) under.1 can.root) i there
+      let under = target_lies t rebuild can.row can.leaves can.published
+      (names pairs words opens log e) (one_home pairs words opens log e)
+      (anchor_free pairs words log e) (leaves_lie pairs words opens log e) can.reached in
+      tree_rising (with_inners t.pieces rows) (bases_of rows) base p
+      (root_rising (with_inners t.pieces rows) word can.k can.leaves can.row.target
+      (bases_of rows) under.1 can.root) i there
   born_rising log _ base p e can (by_place {rebuild = rebuild} {i = j} {rows = rows} i there) =
       let t = state_of pairs words log in
-      let under = target_lies t rebuild can.row can.leaves can.published (names pairs words opens log e) (one_home pairs words opens log e) (anchor_free pairs words log e) (leaves_lie pairs words opens log e) can.reached in
-      let cut = roots_are_cut pairs words opens log e rebuild can.row can.root can.root_row can.published can.root_is can.root_published in
-      let two = subst (λ xs. 2 ≤ length xs) (same_leaves t.pieces (Some (InnerAt can.row.target)) cut.leaves can.leaves cut.reached can.reached) cut.two in
-      let rise = part_rises key_of_leaf (parts can.leaves) j can.part (parts_rise key_of_leaf can.leaves two under.1) can.part_is in
+      let under = target_lies t rebuild can.row can.leaves can.published
+      (names pairs words opens log e) (one_home pairs words opens log e)
+      (anchor_free pairs words log e) (leaves_lie pairs words opens log e) can.reached in
+      let cut = roots_are_cut pairs words opens log e rebuild can.row can.root can.root_row
+      can.published can.root_is can.root_published in
+      let two = subst (λ xs. 2 ≤ length xs)
+      (same_leaves t.pieces (Some (InnerAt can.row.target)) cut.leaves can.leaves cut.reached
+      can.reached) cut.two in
+      let rise = part_rises key_of_leaf (parts can.leaves) j can.part
+      (parts_rise key_of_leaf can.leaves two under.1) can.part_is in
       tree_rising (with_inners t.pieces rows) (bases_of rows) base p
-      (split_rises key_of_leaf (with_inners t.pieces rows) can.ref can.part (bases_of rows) (ideal_splits (with_inners t.pieces rows) can.ref can.part can.root (bases_of rows) can.ideal) rise) i there
+      (split_rises key_of_leaf (with_inners t.pieces rows) can.ref can.part (bases_of rows)
+      (ideal_splits (with_inners t.pieces rows) can.ref can.part can.root (bases_of rows)
+      can.ideal) rise) i there
 
   -- each row of a new table
   start_rising : (base : ℕ) (p : Piece) → (start pairs words).pieces base ≡ Some p → HasRisingKeys p
-  start_rising base p e = at (hang.each base p (among-pieces_of (rows_from first_row pairs) base p e))
+  start_rising base p e = at (hang.each base p
+      (among-pieces_of (rows_from first_row pairs) base p e))
     where
-      hang : HangsAs (start pairs words).pieces (tree_at first_row pairs) pairs anchor (rows_from first_row pairs) first_row (first_row + ideal_words (length pairs))
+      hang : HangsAs (start pairs words).pieces (tree_at first_row pairs) pairs anchor
+          (rows_from first_row pairs) first_row (first_row + ideal_words (length pairs))
       hang = start_hangs pairs words opens anchor (omega arith)
 
       leaf_rising : (q : Piece) → IsLeafRow q → HasRisingKeys q
@@ -115,18 +147,23 @@ module _ (pairs : List Pair) (words : ℕ) (opens : CanOpen pairs words) where
 
       at : IsLeafRow p ⊎ Among base hang.rows → HasRisingKeys p
       at (inl leaf) = leaf_rising p leaf
-      at (inr k) = tree_rising (start pairs words).pieces hang.rows base p (split_rises (λ pair. pair.key) (start pairs words).pieces (tree_at first_row pairs) pairs hang.rows hang.splits (pairs_rise pairs words opens)) k e
+      at (inr k) = tree_rising (start pairs words).pieces hang.rows base p
+          (split_rises (λ pair. pair.key) (start pairs words).pieces (tree_at first_row pairs) pairs
+          hang.rows hang.splits (pairs_rise pairs words opens)) k e
 
   -- behind a log from a new table the keys of each inner row rise
   pub keys_rising : (log : Log) → EachEnabled (start pairs words) log → (base : ℕ) (p : Piece)
       → (state_of pairs words log).pieces base ≡ Some p → HasRisingKeys p
   keys_rising [] h base p e = start_rising base p e
-  keys_rising (event ∷ log) h base q e = at (λ p there. keys_rising log h.0 base p there) (comes (start pairs words) log event h.1 (sound (start pairs words) log (sound_start pairs words) h.0) base q e)
+  keys_rising (event ∷ log) h base q e = at (λ p there. keys_rising log h.0 base p there)
+      (comes (start pairs words) log event h.1
+      (sound (start pairs words) log (sound_start pairs words) h.0) base q e)
     where
       at : ((p : Piece) → (state_of pairs words log).pieces base ≡ Some p → HasRisingKeys p)
           → Comes (start pairs words) log event base q → HasRisingKeys q
       at before (from_old p there g) = grows_rising p q g (before p there)
-      at before (from_born p born g) = grows_rising p q g (born_rising log event base p h.0 h.1 born)
+      at before (from_born p born g) = grows_rising p q g
+          (born_rising log event base p h.0 h.1 born)
 
   -- ---- the laws
 
@@ -138,7 +175,8 @@ module _ (pairs : List Pair) (words : ℕ) (opens : CanOpen pairs words) where
   led_leads log h key child (below {node = node} i linked is) led =
       let t = state_of pairs words log in
       let o = names pairs words opens log h in
-      let lies = parent_of t o (one_home pairs words opens log h) (anchor_free pairs words log h) child key led node i (child_mentioned t node i child o is) in
+      let lies = parent_of t o (one_home pairs words opens log h) (anchor_free pairs words log h)
+      child key led node i (child_mentioned t node i child o is) in
       down i (led_leads log h key node linked lies.led) lies.child_for is
 
   -- a leaf in a slot of a linked node lies where its key leads
@@ -147,27 +185,35 @@ module _ (pairs : List Pair) (words : ℕ) (opens : CanOpen pairs words) where
       → SlotHolds (state_of pairs words log) node i word
       → logical (state_of pairs words log).pieces word ≡ Some (LeafAt leaf)
       → (state_of pairs words log).pieces leaf ≡ Some (Leaf row)
-      → Leads (state_of pairs words log) row.key node × IsChildFor (state_of pairs words log) node row.key i
+      → Leads (state_of pairs words log) row.key node × IsChildFor (state_of pairs words log) node
+      row.key i
   leaf_by_key log h node i word leaf row linked slot reads there =
       let t = state_of pairs words log in
-      let lies = (leaves_lie pairs words opens log h).each node i leaf (leaf_mentioned t node i word leaf (names pairs words opens log h) slot reads) row there in
+      let lies = (leaves_lie pairs words opens log h).each node i leaf
+      (leaf_mentioned t node i word leaf (names pairs words opens log h) slot reads) row there
+      in
       (led_leads log h row.key node linked lies.led, lies.child_for)
 
   -- the leaves below a slot rise
   leaves_rise : (log : Log) → EachEnabled (start pairs words) log → (node i word : ℕ)
       (leaves : List PlacedLeaf) → SlotHolds (state_of pairs words log) node i word
-      → HasLeaves (state_of pairs words log).pieces (logical (state_of pairs words log).pieces word) leaves
+      → HasLeaves (state_of pairs words log).pieces (logical (state_of pairs words log).pieces word)
+      leaves
       → Rises key_of_leaf leaves
   leaves_rise log h node i word leaves slot has =
       let t = state_of pairs words log in
       let o = names pairs words opens log h in
-      (leaves_under t (logical t.pieces word) leaves o (one_home pairs words opens log h) (anchor_free pairs words log h) (leaves_lie pairs words opens log h) has node i (slot_reads_as t node i word o slot)).1
+      (leaves_under t (logical t.pieces word) leaves o (one_home pairs words opens log h)
+      (anchor_free pairs words log h) (leaves_lie pairs words opens log h) has node i
+      (slot_reads_as t node i word o slot)).1
 
   pub leaves_rising : (log : Log) → EachEnabled (start pairs words) log → (node i word : ℕ)
       (leaves : List PlacedLeaf) → SlotHolds (state_of pairs words log) node i word
-      → HasLeaves (state_of pairs words log).pieces (logical (state_of pairs words log).pieces word) leaves
+      → HasLeaves (state_of pairs words log).pieces (logical (state_of pairs words log).pieces word)
+      leaves
       → IsStrictlyIncreasing (map (λ leaf. leaf.row.key) leaves)
-  leaves_rising log h node i word leaves slot has = next_from_rises key_of_leaf leaves (leaves_rise log h node i word leaves slot has)
+  leaves_rising log h node i word leaves slot has = next_from_rises key_of_leaf leaves
+      (leaves_rise log h node i word leaves slot has)
 
   -- the contents rise
   pub contents_rising : (log : Log) → EachEnabled (start pairs words) log → (contents : List Pair)
@@ -176,8 +222,10 @@ module _ (pairs : List Pair) (words : ℕ) (opens : CanOpen pairs words) where
   contents_rising log h contents has =
       let t = state_of pairs words log in
       subst (λ xs. IsStrictlyIncreasing (map (λ pair. pair.key) xs)) (sym has.pairs_are)
-      (subst IsStrictlyIncreasing (keys_of has.leaves) (leaves_rising log h anchor 0 t.anchor has.leaves (in_anchor refl refl refl) has.reached))
+      (subst IsStrictlyIncreasing (keys_of has.leaves)
+      (leaves_rising log h anchor 0 t.anchor has.leaves (in_anchor refl refl refl) has.reached))
     where
-      keys_of : (leaves : List PlacedLeaf) → map (λ leaf. leaf.row.key) leaves ≡ map (λ pair. pair.key) (map pair_of leaves)
+      keys_of : (leaves : List PlacedLeaf) → map (λ leaf. leaf.row.key) leaves ≡ map
+          (λ pair. pair.key) (map pair_of leaves)
       keys_of [] = refl
       keys_of (x ∷ xs) = ap (λ ks. x.row.key ∷ ks) (keys_of xs)

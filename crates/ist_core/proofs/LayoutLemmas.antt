@@ -27,7 +27,8 @@ Fills from (row ∷ rows) to = (row.0 ≡ from) × Fills (from + size_of row.1) 
 fills_append : (from mid to : ℕ) (xs ys : List (ℕ × Piece)) → Fills from xs mid → Fills mid ys to
     → Fills from (xs ++ ys) to
 fills_append from mid to [] ys h k = subst (λ n. Fills n ys to) (sym h) k
-fills_append from mid to (x ∷ xs) ys h k = (h.0, fills_append (from + size_of x.1) mid to xs ys h.1 k)
+fills_append from mid to (x ∷ xs) ys h k =
+    (h.0, fills_append (from + size_of x.1) mid to xs ys h.1 k)
 
 -- they end behind where they begin
 fills_le : (from to : ℕ) (xs : List (ℕ × Piece)) → Fills from xs to → from ≤ to
@@ -54,7 +55,8 @@ pub fills_apart : (from to : ℕ) (xs : List (ℕ × Piece)) (base other : ℕ) 
     → Fills from xs to → Among (base, p) xs → Among (other, q) xs → base ≢ other
     → (base + size_of p ≤ other) ⊎ (other + size_of q ≤ base)
 fills_apart from to [] base other p q h i j differ = absurd i
-fills_apart from to (x ∷ xs) base other p q h (inl e) (inl f) differ = absurd (differ (ap (λ y. y.0) e ∙ sym (ap (λ y. y.0) f)))
+fills_apart from to (x ∷ xs) base other p q h (inl e) (inl f) differ = absurd
+    (differ (ap (λ y. y.0) e ∙ sym (ap (λ y. y.0) f)))
 fills_apart from to (x ∷ xs) base other p q h (inl e) (inr j) differ =
     let rest = fills_within (from + size_of x.1) to xs other q h.1 j in
     let low = rest.0 in
@@ -69,7 +71,8 @@ fills_apart from to (x ∷ xs) base other p q h (inr i) (inl f) differ =
     let here : other ≡ x.0 = ap (λ y. y.0) f in
     let size : size_of q ≡ size_of x.1 = ap (λ y. size_of y.1) f in
     inr (omega arith)
-fills_apart from to (x ∷ xs) base other p q h (inr i) (inr j) differ = fills_apart (from + size_of x.1) to xs base other p q h.1 i j differ
+fills_apart from to (x ∷ xs) base other p q h (inr i) (inr j) differ = fills_apart
+    (from + size_of x.1) to xs base other p q h.1 i j differ
 
 -- ---- the size of a top row
 
@@ -96,7 +99,8 @@ length-first_keys : {A : Type 0} (key : A → ℕ) (ns : List ℕ) (xs : List A)
     → sum ns ≤ length xs → length (first_keys key (cut ns xs)) ≡ length ns
 length-first_keys key [] xs some fits = refl
 length-first_keys key (zero ∷ ns) xs some fits = let none = some.0 in absurd (omega arith)
-length-first_keys key (suc n ∷ ns) [] some fits = let all = sum_by-cons (λ x. x) (suc n) ns in absurd (omega arith)
+length-first_keys key (suc n ∷ ns) [] some fits = let all = sum_by-cons (λ x. x) (suc n) ns in
+    absurd (omega arith)
 length-first_keys key (suc n ∷ ns) (x ∷ xs) some fits =
     let all = sum_by-cons (λ x. x) (suc n) ns in
     let less = length-drop (suc n) (x ∷ xs) in
@@ -133,7 +137,9 @@ pub keys_of_parts : {A : Type 0} (key : A → ℕ) (xs : List A) → 2 ≤ lengt
 keys_of_parts key xs two =
     let n = length xs in
     let many = length-part_lens n in
-    let keys = keys_behind_first key (part_lens n) xs (part_lens_some n two) (let whole = sum-part_lens n in omega arith) (let least = least_degree-le n in omega arith) in
+    let keys = keys_behind_first key (part_lens n) xs (part_lens_some n two)
+    (let whole = sum-part_lens n in omega arith) (let least = least_degree-le n in omega arith)
+    in
     omega arith
 
 -- and as many parts as its degree says
@@ -161,14 +167,16 @@ size_of-top_row : (base : ℕ) (pairs : List Pair) → 2 ≤ length pairs
 size_of-top_row base pairs two =
     let keys = keys_of_parts (λ pair. pair.key) pairs two in
     let slots = slots_of-top_row base pairs in
-    let both = length-append (first_keys (λ pair. pair.key) (drop 1 (parts pairs))) (map (λ part. word_of (tree_at part.0 part.1)) (placed_parts base pairs)) in
+    let both = length-append (first_keys (λ pair. pair.key) (drop 1 (parts pairs)))
+    (map (λ part. word_of (tree_at part.0 part.1)) (placed_parts base pairs)) in
     omega arith
 
 -- ---- all rows
 
 -- the trees of parts fill their words, where each does
 fills_parts : (fuel from : ℕ) (ns : List ℕ) (xs : List Pair) → sum ns ≤ length xs
-    → ((n base : ℕ) (part : List Pair) → Among n ns → length part ≡ n → Fills base (rows_within fuel base part) (base + ideal_words n))
+    → ((n base : ℕ) (part : List Pair) → Among n ns → length part ≡ n → Fills base
+    (rows_within fuel base part) (base + ideal_words n))
     → Fills from
     (flat_map (λ part. rows_within fuel part.0 part.1) (zip (bases_from from ns) (cut ns xs)))
     (from + sum_by ideal_words ns)
@@ -178,10 +186,14 @@ fills_parts fuel from (n ∷ ns) xs fits each =
     let words = sum_by-cons ideal_words n ns in
     let less = length-drop n xs in
     let here = each n from (take n xs) (inl refl) (length-take-le n xs (omega arith)) in
-    let rest = fills_parts fuel (from + ideal_words n) ns (drop n xs) (omega arith) (λ m base part i e. each m base part (inr i) e) in
-    let end : from + ideal_words n + sum_by ideal_words ns ≡ from + sum_by ideal_words (n ∷ ns) = omega arith in
-    let more = flat_map (λ part. rows_within fuel part.0 part.1) (zip (bases_from (from + ideal_words n) ns) (cut ns (drop n xs))) in
-    fills_append from (from + ideal_words n) (from + sum_by ideal_words (n ∷ ns)) (rows_within fuel from (take n xs)) more here
+    let rest = fills_parts fuel (from + ideal_words n) ns (drop n xs) (omega arith)
+    (λ m base part i e. each m base part (inr i) e) in
+    let end : from + ideal_words n + sum_by ideal_words ns ≡ from + sum_by ideal_words (n ∷ ns) =
+    omega arith in
+    let more = flat_map (λ part. rows_within fuel part.0 part.1)
+    (zip (bases_from (from + ideal_words n) ns) (cut ns (drop n xs))) in
+    fills_append from (from + ideal_words n) (from + sum_by ideal_words (n ∷ ns))
+    (rows_within fuel from (take n xs)) more here
     (subst (λ to. Fills (from + ideal_words n) more to) end rest)
 
 -- a part is one of the lengths
@@ -213,8 +225,12 @@ fills_rows (suc fuel) base (pair ∷ more ∷ pairs) h =
     let it = among_part_lens n m i in
     let less = part_len-lt n it.0 (omega arith) in
     let is = it.1 in
-    subst (λ k. Fills at (rows_within fuel at part) (at + ideal_words k)) e (fills_rows fuel at part (omega arith))) in
+    subst (λ k. Fills at (rows_within fuel at part) (at + ideal_words k)) e
+    (fills_rows fuel at part (omega arith))) in
     let begin : from ≡ base + size_of (top_row base all) = omega arith in
     let end : from + sum_by ideal_words (part_lens n) ≡ base + ideal_words n = omega arith in
-    let below = flat_map (λ part. rows_within fuel part.0 part.1) (placed_parts base all) in
-    (refl, subst (λ a. Fills a below (base + ideal_words n)) begin (subst (λ b. Fills from below b) end parts_fill))
+    let below = flat_map (λ part. rows_within fuel part.0 part.1) (placed_parts base all) in (
+      refl,
+      subst (λ a. Fills a below (base + ideal_words n)) begin
+          (subst (λ b. Fills from below b) end parts_fill),
+    )

@@ -41,10 +41,16 @@ pub target_lies : (t : Snapshot) (rebuild : ℕ) (row : RebuildRow) (leaves : Li
     → t.pieces rebuild ≡ Some (Rebuild row) → WordsName t → HasOneHome t
     → t.pieces anchor ≡ None → LeavesLie t
     → HasLeaves t.pieces (Some (InnerAt row.target)) leaves
-    → Each (λ leaf. LiesIn t (key_of_leaf leaf) row.parent row.index) leaves × Rises key_of_leaf leaves
+    → Each (λ leaf. LiesIn t (key_of_leaf leaf) row.parent row.index) leaves × Rises key_of_leaf
+    leaves
 target_lies t rebuild row leaves there names home free lie reached =
-    leaves_under t (Some (InnerAt row.target)) leaves names home free lie reached row.parent row.index
-    record { a_leaf = λ base e. absurd (cc); a_row = λ base e. inr (rebuild, Rebuild row, there, (refl, refl, inl (named row.target base e))) }
+    leaves_under t (Some (InnerAt row.target)) leaves names home free lie reached row.parent
+    row.index
+    record {
+      a_leaf = λ base e. absurd (cc);
+      a_row = λ base e. inr
+          (rebuild, Rebuild row, there, (refl, refl, inl (named row.target base e)));
+    }
   where
     named : (a b : ℕ) → Some (InnerAt a) ≡ Some (InnerAt b) → InnerAt a ≡ InnerAt b
     named a b e = cc
@@ -66,21 +72,33 @@ lies_root t caller rebuild word rows h sound names home free grows on lie =
     let tree = root_tree qs word h.k h.leaves h.row.target bases h.root in
     let stood = adds.keeps rebuild (Rebuild h.row) h.published in
     let now : rs rebuild ≡ Some (Rebuild record h.row { root = word }) = rooted qs stood in
-    let inner : (base : ℕ) (r : InnerRow) → Among base bases → qs base ≡ Some (Inner r) → rs base ≡ Some (Inner r) = λ base r i e. changed_at-fixed qs rebuild base (with_root word) (Inner r) e refl in
+    let inner : (base : ℕ) (r : InnerRow) → Among base bases → qs base ≡ Some (Inner r) → rs base ≡
+    Some (Inner r) = λ base r i e. changed_at-fixed qs rebuild base (with_root word) (Inner r) e
+    refl in
     let under = target_lies t rebuild h.row h.leaves h.published names home free lie h.reached in
-    let led = each_mapped (λ leaf. LiesIn t (key_of_leaf leaf) h.row.parent h.row.index) (λ leaf. LiesIn u (key_of_leaf leaf) h.row.parent h.row.index) h.leaves (λ leaf lies. on (key_of_leaf leaf) h.row.parent h.row.index lies) under.0 in
-    let built = root_lies u qs word h.k h.leaves h.row.target bases (λ base r e. changed_at-fixed qs rebuild base (with_root word) (Leaf r) e refl) inner under.1 h.row.parent h.row.index
-    (λ ref e. inr (rebuild, Rebuild record h.row { root = word }, now, (refl, refl, inr e))) led h.root in
-    let all = came_added LeafAt t New t.pieces qs (λ base p. Among base bases) adds (came_old LeafAt t New)
-    (λ base p i e. tree_says t u qs bases (tree_rows qs tree.0 h.row.target bases tree.2) built.0 inner base p i e) in
+    let led = each_mapped (λ leaf. LiesIn t (key_of_leaf leaf) h.row.parent h.row.index)
+    (λ leaf. LiesIn u (key_of_leaf leaf) h.row.parent h.row.index) h.leaves
+    (λ leaf lies. on (key_of_leaf leaf) h.row.parent h.row.index lies) under.0 in
+    let built = root_lies u qs word h.k h.leaves h.row.target bases
+    (λ base r e. changed_at-fixed qs rebuild base (with_root word) (Leaf r) e refl) inner
+    under.1 h.row.parent h.row.index
+    (λ ref e. inr (rebuild, Rebuild record h.row { root = word }, now, (refl, refl, inr e))) led
+    h.root in
+    let all = came_added LeafAt t New t.pieces qs (λ base p. Among base bases) adds
+    (came_old LeafAt t New)
+    (λ base p i e. tree_says t u qs bases (tree_rows qs tree.0 h.row.target bases tree.2) built.0
+    inner base p i e) in
     let root = word_new LeafAt t New h.row.parent h.row.index (ref_of word) built.1 in
     lies_from t u grows on names lie
     (came-changed_at LeafAt t New qs rebuild (with_root word) all
-    (λ p e old. known (λ x. SaysCame LeafAt t New rebuild x → SaysCame LeafAt t New rebuild (with_root word x)) (qs rebuild) p (Rebuild h.row) e stood (λ k. came-with_root LeafAt t New rebuild word h.row root k) old))
+    (λ p e old. known (λ x. SaysCame LeafAt t New rebuild x → SaysCame LeafAt t New rebuild
+    (with_root word x)) (qs rebuild) p (Rebuild h.row) e stood
+    (λ k. came-with_root LeafAt t New rebuild word h.row root k) old))
     (anchor_old LeafAt t u New refl)
   where
     rooted : (qs : Pieces) → qs rebuild ≡ Some (Rebuild h.row)
-        → changed_at qs rebuild (with_root word) rebuild ≡ Some (Rebuild record h.row { root = word })
+        → changed_at qs rebuild (with_root word) rebuild ≡ Some
+        (Rebuild record h.row { root = word })
     rooted qs e = changed_at-same qs rebuild (with_root word) ∙ ap (option_map (with_root word)) e
 
 -- a Place puts one over a part of them into the slot of this part
@@ -89,7 +107,8 @@ pub lies_place : (t : Snapshot) (caller rebuild i word : ℕ) (rows : List Row)
     → t.pieces anchor ≡ None
     → AllGrow t.pieces (after t (Place caller rebuild i word rows)).pieces
     → LiesOn t (after t (Place caller rebuild i word rows))
-    → ((node j : ℕ) → Mentions t node j (InnerAt h.root) → Mentions (after t (Place caller rebuild i word rows)) node j (InnerAt h.root))
+    → ((node j : ℕ) → Mentions t node j (InnerAt h.root) → Mentions
+    (after t (Place caller rebuild i word rows)) node j (InnerAt h.root))
     → IsCutBy t h.row.target h.root_row → LeavesLie t
     → LeavesLie (after t (Place caller rebuild i word rows))
 lies_place t caller rebuild i word rows h sound names home free grows on stay cut lie =
@@ -101,23 +120,44 @@ lies_place t caller rebuild i word rows h sound names home free grows on stay cu
     let pieces = rows_placed t caller rebuild i word rows h in
     let adds = adds-with_inners t caller rows h.held sound in
     let tree = tree_of_ideal qs h.ref h.part h.root bases h.ideal in
-    let leaf : (base : ℕ) (r : LeafRow) → qs base ≡ Some (Leaf r) → u.pieces base ≡ Some (Leaf r) = λ base r e. subst (λ ps. ps base ≡ Some (Leaf r)) (sym pieces) (changed_at-fixed qs h.root base f (Leaf r) e refl) in
-    let inner : (base : ℕ) (r : InnerRow) → Among base bases → qs base ≡ Some (Inner r) → u.pieces base ≡ Some (Inner r) =
-    λ base r k e. subst (λ ps. ps base ≡ Some (Inner r)) (sym pieces) (changed_at-other qs h.root base f (λ same. no_piece (t.pieces h.root) (Inner h.root_row) (subst (λ b. t.pieces b ≡ None) same (held_free t caller rows h.held sound base k)) h.root_published) ∙ e) in
+    let leaf : (base : ℕ) (r : LeafRow) → qs base ≡ Some (Leaf r) → u.pieces base ≡ Some (Leaf r) =
+    λ base r e. subst (λ ps. ps base ≡ Some (Leaf r)) (sym pieces)
+    (changed_at-fixed qs h.root base f (Leaf r) e refl) in
+    let inner : (base : ℕ) (r : InnerRow) → Among base bases → qs base ≡ Some (Inner r) → u.pieces
+    base ≡ Some (Inner r) =
+    λ base r k e. subst (λ ps. ps base ≡ Some (Inner r)) (sym pieces)
+    (changed_at-other qs h.root base f
+    (λ same. no_piece (t.pieces h.root) (Inner h.root_row)
+    (subst (λ b. t.pieces b ≡ None) same (held_free t caller rows h.held sound base k))
+    h.root_published) ∙ e) in
     let under = target_lies t rebuild h.row h.leaves h.published names home free lie h.reached in
-    let led = each_mapped (λ x. LiesIn t (key_of_leaf x) h.row.parent h.row.index) (λ x. LiesIn u (key_of_leaf x) h.row.parent h.row.index) h.leaves (λ x lies. on (key_of_leaf x) h.row.parent h.row.index lies) under.0 in
+    let led = each_mapped (λ x. LiesIn t (key_of_leaf x) h.row.parent h.row.index)
+    (λ x. LiesIn u (key_of_leaf x) h.row.parent h.row.index) h.leaves
+    (λ x lies. on (key_of_leaf x) h.row.parent h.row.index lies) under.0 in
     let root = inner_there t.pieces u.pieces grows h.root h.root_row h.root_published in
-    let same = same_leaves t.pieces (Some (InnerAt h.row.target)) cut.leaves h.leaves cut.reached h.reached in
+    let same = same_leaves t.pieces (Some (InnerAt h.row.target)) cut.leaves h.leaves cut.reached
+    h.reached in
     let two = subst (λ xs. 2 ≤ length xs) same cut.two in
-    let keys = root.2.keys ∙ cut.keys ∙ ap (λ xs. first_keys key_of_leaf (drop 1 (parts xs))) same in
-    let named : Mentions u h.row.parent h.row.index (InnerAt h.root) = stay h.row.parent h.row.index (inr (rebuild, Rebuild h.row, h.published, (refl, refl, inr h.root_is))) in
-    let here = parts_lie key_of_leaf qs u leaf h.leaves h.row.parent h.row.index h.root root.0 root.1 named two keys under.1 led i h.part h.part_is in
-    let slot = slot_mentions u h.root i word h.ref (place_writes t caller rebuild i word rows h sound free).now h.ref_is in
-    let built = split_lies key_of_leaf qs u leaf h.ref h.part bases (ideal_splits qs h.ref h.part h.root bases h.ideal) inner (part_rises key_of_leaf (parts h.leaves) i h.part (parts_rise key_of_leaf h.leaves two under.1) h.part_is) h.root i slot here in
-    let all = came_added LeafAt t New t.pieces qs (λ base p. Among base bases) adds (came_old LeafAt t New)
-    (λ base p k e. tree_says t u qs bases (tree_rows qs h.ref h.root bases tree) built.0 inner base p k e) in
-    let written = word_new LeafAt t New h.root i (ref_of word) (λ x e. built.1 x (same_ref (ref_of word) h.ref (LeafAt x) h.ref_is e)) in
+    let keys = root.2.keys ∙ cut.keys ∙ ap (λ xs. first_keys key_of_leaf (drop 1 (parts xs))) same
+    in
+    let named : Mentions u h.row.parent h.row.index (InnerAt h.root) = stay h.row.parent h.row.index
+    (inr (rebuild, Rebuild h.row, h.published, (refl, refl, inr h.root_is))) in
+    let here = parts_lie key_of_leaf qs u leaf h.leaves h.row.parent h.row.index h.root root.0
+    root.1 named two keys under.1 led i h.part h.part_is in
+    let slot = slot_mentions u h.root i word h.ref
+    (place_writes t caller rebuild i word rows h sound free).now h.ref_is in
+    let built = split_lies key_of_leaf qs u leaf h.ref h.part bases
+    (ideal_splits qs h.ref h.part h.root bases h.ideal) inner
+    (part_rises key_of_leaf (parts h.leaves) i h.part
+    (parts_rise key_of_leaf h.leaves two under.1) h.part_is) h.root i slot here in
+    let all = came_added LeafAt t New t.pieces qs (λ base p. Among base bases) adds
+    (came_old LeafAt t New)
+    (λ base p k e. tree_says t u qs bases (tree_rows qs h.ref h.root bases tree) built.0 inner base
+    p k e) in
+    let written = word_new LeafAt t New h.root i (ref_of word)
+    (λ x e. built.1 x (same_ref (ref_of word) h.ref (LeafAt x) h.ref_is e)) in
     lies_from t u grows on names lie
     (subst (λ ps. AllCame LeafAt t New ps) (sym pieces)
-    (came-changed_at LeafAt t New qs h.root f all (λ p _ old. came-with_slot LeafAt t New h.root i word p written old)))
+    (came-changed_at LeafAt t New qs h.root f all
+    (λ p _ old. came-with_slot LeafAt t New h.root i word p written old)))
     (anchor_old LeafAt t u New refl)

@@ -12,8 +12,10 @@ use Rattle.ist_core.specs.Leaves.{PlacedLeaf, pair_of, HasLeaves, SlotsHaveLeave
 -- what it takes to have these leaves, by the reference
 abbrev pub Reached : Pieces → Option Ref → List PlacedLeaf → Type 0
 Reached ps (Some Empty) leaves = leaves ≡ []
-Reached ps (Some (LeafAt base)) leaves = (r : LeafRow) × (ps base ≡ Some (Leaf r)) × (leaves ≡ record { base = base; row = r } ∷ [])
-Reached ps (Some (InnerAt base)) leaves = (r : InnerRow) × (ps base ≡ Some (Inner r)) × SlotsHaveLeaves ps r.slots leaves
+Reached ps (Some (LeafAt base)) leaves = (r : LeafRow) × (ps base ≡ Some (Leaf r)) ×
+    (leaves ≡ record { base = base; row = r } ∷ [])
+Reached ps (Some (InnerAt base)) leaves = (r : InnerRow) × (ps base ≡ Some (Inner r)) ×
+    SlotsHaveLeaves ps r.slots leaves
 Reached ps _ leaves = ⊥
 
 pub reached : (ps : Pieces) (ref : Option Ref) (leaves : List PlacedLeaf) → HasLeaves ps ref leaves
@@ -26,7 +28,8 @@ reached ps _ _ (row_here r e below) = (r, e, below)
 abbrev pub SlotsReached : Pieces → List ℕ → List PlacedLeaf → Type 0
 SlotsReached ps [] leaves = leaves ≡ []
 SlotsReached ps (word ∷ words) leaves =
-    (here : List PlacedLeaf) × (rest : List PlacedLeaf) × HasLeaves ps (logical ps word) here × SlotsHaveLeaves ps words rest × (leaves ≡ here ++ rest)
+    (here : List PlacedLeaf) × (rest : List PlacedLeaf) × HasLeaves ps (logical ps word) here ×
+    SlotsHaveLeaves ps words rest × (leaves ≡ here ++ rest)
 
 pub slots_reached : (ps : Pieces) (words : List ℕ) (leaves : List PlacedLeaf)
     → SlotsHaveLeaves ps words leaves → SlotsReached ps words leaves
@@ -65,4 +68,6 @@ mutual
 pub contents_are_one : (t : Snapshot) (xs ys : List Pair) → HasContents t xs → HasContents t ys
     → xs ≡ ys
 contents_are_one t xs ys x y =
-    x.pairs_are ∙ ap (map pair_of) (same_leaves t.pieces (logical t.pieces t.anchor) x.leaves y.leaves x.reached y.reached) ∙ sym y.pairs_are
+    x.pairs_are ∙ ap (map pair_of)
+    (same_leaves t.pieces (logical t.pieces t.anchor) x.leaves y.leaves x.reached y.reached) ∙
+    sym y.pairs_are

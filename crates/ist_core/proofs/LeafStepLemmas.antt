@@ -34,14 +34,19 @@ abbrev pub LiesOn : Snapshot → Snapshot → Type 0
 LiesOn t u = (key node i : ℕ) → LiesIn t key node i → LiesIn u key node i
 
 -- where each leaf that is named was named before, or lies where its key leads, all do
-pub lies_from : (t u : Snapshot) → AllGrow t.pieces u.pieces → LiesOn t u → WordsName t → LeavesLie t
-    → AllCame LeafAt t (LeafLies u) u.pieces → WordCame LeafAt t (LeafLies u) anchor 0 (ref_of u.anchor)
+pub lies_from : (t u : Snapshot) → AllGrow t.pieces u.pieces → LiesOn t u → WordsName t → LeavesLie
+    t
+    → AllCame LeafAt t (LeafLies u) u.pieces → WordCame LeafAt t (LeafLies u) anchor 0
+    (ref_of u.anchor)
     → LeavesLie u
 unfolding AllCame SaysCame WordCame
-lies_from t u grows on names lie all word = record { each = λ node i leaf m. from node i leaf (came node i leaf m) }
+lies_from t u grows on names lie all word = record
+    { each = λ node i leaf m. from node i leaf (came node i leaf m) }
   where
-    came : (node i leaf : ℕ) → Mentions u node i (LeafAt leaf) → Came LeafAt t (LeafLies u) node i leaf
-    came node i leaf (inl h) = subst (λ n. Came LeafAt t (LeafLies u) n i leaf) (sym h.0) (subst (λ j. Came LeafAt t (LeafLies u) anchor j leaf) (sym h.1) (word leaf h.2))
+    came : (node i leaf : ℕ) → Mentions u node i (LeafAt leaf) → Came LeafAt t (LeafLies u) node i
+        leaf
+    came node i leaf (inl h) = subst (λ n. Came LeafAt t (LeafLies u) n i leaf) (sym h.0)
+        (subst (λ j. Came LeafAt t (LeafLies u) anchor j leaf) (sym h.1) (word leaf h.2))
     came node i leaf (inr h) = all h.0 h.1 h.2 node i leaf h.3
 
     same_leaf : (o : Option Piece) (r s : LeafRow) → o ≡ Some (Leaf r) → o ≡ Some (Leaf s) → r ≡ s
@@ -50,24 +55,32 @@ lies_from t u grows on names lie all word = record { each = λ node i leaf m. fr
     from : (node i leaf : ℕ) → Came LeafAt t (LeafLies u) node i leaf → LeafLies u node i leaf
     from node i leaf (inl m) r e =
         let old = mentioned_leaf t node i leaf names m in
-        let same = same_leaf (u.pieces leaf) old.0 r (leaf_there t.pieces u.pieces grows leaf old.0 old.1) e in
-        subst (λ x. LiesIn u x.key node i) same (on old.0.key node i (lie.each node i leaf m old.0 old.1))
+        let same = same_leaf (u.pieces leaf) old.0 r
+        (leaf_there t.pieces u.pieces grows leaf old.0 old.1) e in
+        subst (λ x. LiesIn u x.key node i) same
+        (on old.0.key node i (lie.each node i leaf m old.0 old.1))
     from node i leaf (inr new) r e = new r e
 
 -- an event that leaves the rows and the anchor
-pub lies_same : (t u : Snapshot) → AllGrow t.pieces u.pieces → LiesOn t u → WordsName t → LeavesLie t
+pub lies_same : (t u : Snapshot) → AllGrow t.pieces u.pieces → LiesOn t u → WordsName t → LeavesLie
+    t
     → u.anchor ≡ t.anchor → u.pieces ≡ t.pieces → LeavesLie u
 lies_same t u grows on names lie word pieces =
-    lies_from t u grows on names lie (subst (λ ps. AllCame LeafAt t (LeafLies u) ps) (sym pieces) (came_old LeafAt t (LeafLies u))) (anchor_old LeafAt t u (LeafLies u) word)
+    lies_from t u grows on names lie
+    (subst (λ ps. AllCame LeafAt t (LeafLies u) ps) (sym pieces)
+    (came_old LeafAt t (LeafLies u))) (anchor_old LeafAt t u (LeafLies u) word)
 
 -- an event that changes one row, and no word that names a leaf
-pub lies_changed : (t u : Snapshot) (at : ℕ) (f : Piece → Piece) → AllGrow t.pieces u.pieces → LiesOn t u
+pub lies_changed : (t u : Snapshot) (at : ℕ) (f : Piece → Piece) → AllGrow t.pieces u.pieces →
+    LiesOn t u
     → WordsName t → LeavesLie t → u.anchor ≡ t.anchor → u.pieces ≡ changed_at t.pieces at f
     → ((p : Piece) → SaysCame LeafAt t (LeafLies u) at p → SaysCame LeafAt t (LeafLies u) at (f p))
     → LeavesLie u
 lies_changed t u at f grows on names lie word pieces keeps =
     lies_from t u grows on names lie
-    (subst (λ ps. AllCame LeafAt t (LeafLies u) ps) (sym pieces) (came-changed_at LeafAt t (LeafLies u) t.pieces at f (came_old LeafAt t (LeafLies u)) (λ p _ old. keeps p old)))
+    (subst (λ ps. AllCame LeafAt t (LeafLies u) ps) (sym pieces)
+    (came-changed_at LeafAt t (LeafLies u) t.pieces at f (came_old LeafAt t (LeafLies u))
+    (λ p _ old. keeps p old)))
     (anchor_old LeafAt t u (LeafLies u) word)
 
 -- ---- Resolve
@@ -80,17 +93,24 @@ lies_resolve t caller base h free names grows on lie =
     let change = h.change in
     let u = resolved t (Some change) in
     let New = LeafLies u in
-    let side = word_mentioned LeafAt t New change.node change.index (ref_of (side_of change)) (λ leaf e. inr (base, Change change, h.published, (refl, refl, either leaf e))) in
+    let side = word_mentioned LeafAt t New change.node change.index (ref_of (side_of change))
+    (λ leaf e. inr (base, Change change, h.published, (refl, refl, either leaf e))) in
     let is = rows_resolved t caller base h in
     subst LeavesLie (sym is)
-    (lies_from t u (subst (λ x. AllGrow t.pieces x.pieces) is grows) (subst (λ x. LiesOn t x) is on) names lie
-    (came-changed_at LeafAt t New t.pieces change.node (with_slot change.index (side_of change)) (came_old LeafAt t New) (λ p _ old. came-with_slot LeafAt t New change.node change.index (side_of change) p side old))
-    (anchor_came LeafAt t u New change.node change.index (side_of change) refl (anchor_slot t change.node change.index (word_of (ChangeAt base)) free h.in_slot) side))
+    (lies_from t u (subst (λ x. AllGrow t.pieces x.pieces) is grows) (subst (λ x. LiesOn t x) is on)
+    names lie
+    (came-changed_at LeafAt t New t.pieces change.node (with_slot change.index (side_of change))
+    (came_old LeafAt t New) (λ p _ old. came-with_slot LeafAt t New change.node change.index
+    (side_of change) p side old))
+    (anchor_came LeafAt t u New change.node change.index (side_of change) refl
+    (anchor_slot t change.node change.index (word_of (ChangeAt base)) free h.in_slot) side))
   where
     either : (leaf : ℕ) → ref_of (side_of h.change) ≡ Some (LeafAt leaf)
         → (ref_of h.change.from ≡ Some (LeafAt leaf)) ⊎ (ref_of h.change.to ≡ Some (LeafAt leaf))
     either leaf =
-        elim (h.change.decision == decided_yes) as (λ v. ref_of (if v then h.change.to else h.change.from) ≡ Some (LeafAt leaf) → (ref_of h.change.from ≡ Some (LeafAt leaf)) ⊎ (ref_of h.change.to ≡ Some (LeafAt leaf))) [
+        elim (h.change.decision == decided_yes) as
+        (λ v. ref_of (if v then h.change.to else h.change.from) ≡ Some (LeafAt leaf) →
+        (ref_of h.change.from ≡ Some (LeafAt leaf)) ⊎ (ref_of h.change.to ≡ Some (LeafAt leaf))) [
           | true ↦ λ e. inr e
           | false ↦ λ e. inl e
         ]
@@ -104,20 +124,27 @@ same_ref o a b e f = cc
 -- what a row of the tree names lies where its key leads
 pub tree_says : (t u : Snapshot) (ps : Pieces) (rows : List ℕ) → Each (IsTreeRow ps) rows
     → Each (RowLies u) rows
-    → ((base : ℕ) (r : InnerRow) → Among base rows → ps base ≡ Some (Inner r) → u.pieces base ≡ Some (Inner r))
-    → (base : ℕ) (p : Piece) → Among base rows → ps base ≡ Some p → SaysCame LeafAt t (LeafLies u) base p
+    → ((base : ℕ) (r : InnerRow) → Among base rows → ps base ≡ Some (Inner r) → u.pieces base ≡ Some
+    (Inner r))
+    → (base : ℕ) (p : Piece) → Among base rows → ps base ≡ Some p → SaysCame LeafAt t (LeafLies u)
+    base p
 unfolding SaysCame
 tree_says t u ps rows all lie stand base p i e =
     let it = each-among (IsTreeRow ps) base rows all i in
-    known (λ x. (node j leaf : ℕ) → Says base x node j (LeafAt leaf) → Came LeafAt t (LeafLies u) node j leaf) (ps base) p (Inner it.row) e it.published
+    known (λ x. (node j leaf : ℕ) → Says base x node j (LeafAt leaf) → Came LeafAt t (LeafLies u)
+    node j leaf) (ps base) p (Inner it.row) e it.published
     (λ node j leaf says.
-    inr (subst (λ n. LeafLies u n j leaf) (sym says.0) (each-among (RowLies u) base rows lie i it.row (stand base it.row i it.published) j says.1 leaf says.2 says.3)))
+    inr (subst (λ n. LeafLies u n j leaf) (sym says.0)
+    (each-among (RowLies u) base rows lie i it.row (stand base it.row i it.published) j says.1
+    leaf says.2 says.3)))
 
 -- slots that aren't set name no leaf
 unset_lies : (n i word leaf : ℕ) → slice_get (replicate n unset_word) i ≡ Some word
     → ref_of word ≡ Some (LeafAt leaf) → ⊥
 unset_lies zero i word leaf e f = cc
-unset_lies (suc n) zero word leaf e f = clash (same_ref (ref_of word) Unset (LeafAt leaf) (let same : unset_word ≡ word = cc in ap ref_of (sym same) ∙ ref_of-unset) f)
+unset_lies (suc n) zero word leaf e f = clash
+    (same_ref (ref_of word) Unset (LeafAt leaf)
+    (let same : unset_word ≡ word = cc in ap ref_of (sym same) ∙ ref_of-unset) f)
   where
     clash : Unset ≡ LeafAt leaf → ⊥
     clash e = cc
@@ -127,25 +154,32 @@ unset_lies (suc n) (suc i) word leaf e f = unset_lies n i word leaf e f
 pub root_lies : (u : Snapshot) (ps : Pieces) (word k : ℕ) (leaves : List PlacedLeaf) (target : ℕ)
     (rows : List ℕ)
     → ((base : ℕ) (r : LeafRow) → ps base ≡ Some (Leaf r) → u.pieces base ≡ Some (Leaf r))
-    → ((base : ℕ) (r : InnerRow) → Among base rows → ps base ≡ Some (Inner r) → u.pieces base ≡ Some (Inner r))
+    → ((base : ℕ) (r : InnerRow) → Among base rows → ps base ≡ Some (Inner r) → u.pieces base ≡ Some
+    (Inner r))
     → Rises key_of_leaf leaves → (node i : ℕ)
     → ((ref : Ref) → ref_of word ≡ Some ref → Mentions u node i ref)
     → Each (λ leaf. LiesIn u (key_of_leaf leaf) node i) leaves
     → IsRoot ps word k leaves target rows
-    → Each (RowLies u) rows × ((leaf : ℕ) → ref_of word ≡ Some (LeafAt leaf) → LeafLies u node i leaf)
-root_lies u ps word k leaves target rows leaf_stands stand rise node i named lie (root_whole ref few e ideal) =
-    let it = split_lies key_of_leaf ps u leaf_stands ref leaves rows (ideal_splits ps ref leaves target rows ideal) stand rise node i (named ref e) lie in
+    → Each (RowLies u) rows × ((leaf : ℕ) → ref_of word ≡ Some (LeafAt leaf) → LeafLies u node i
+    leaf)
+root_lies u ps word k leaves target rows leaf_stands stand rise node i named lie
+    (root_whole ref few e ideal) =
+    let it = split_lies key_of_leaf ps u leaf_stands ref leaves rows
+    (ideal_splits ps ref leaves target rows ideal) stand rise node i (named ref e) lie in
     (it.0, λ leaf f. it.1 leaf (same_ref (ref_of word) ref (LeafAt leaf) e f))
-root_lies u ps word k leaves target rows leaf_stands stand rise node i named lie (root_top base row many e top unset one) = (
-  subst (λ bs. Each (RowLies u) bs) (sym one) (
-    λ r f j w leaf at reads.
-        let there = stand base row (subst (λ bs. Among base bs) (sym one) (inl refl)) top.published in
-        let same = same_inner (u.pieces base) r row f there in
-        absurd (unset_lies (degree (length leaves)) j w leaf (subst (λ ws. slice_get ws j ≡ Some w) (ap (λ x. x.slots) same ∙ unset) at) reads),
-    tt,
-  ),
-  λ leaf f. absurd (clash leaf (same_ref (ref_of word) (InnerAt base) (LeafAt leaf) e f)),
-)
+root_lies u ps word k leaves target rows leaf_stands stand rise node i named lie
+    (root_top base row many e top unset one) = (
+      subst (λ bs. Each (RowLies u) bs) (sym one) (
+        λ r f j w leaf at reads.
+            let there = stand base row (subst (λ bs. Among base bs) (sym one) (inl refl)) top.published
+            in
+            let same = same_inner (u.pieces base) r row f there in
+            absurd (unset_lies (degree (length leaves)) j w leaf
+            (subst (λ ws. slice_get ws j ≡ Some w) (ap (λ x. x.slots) same ∙ unset) at) reads),
+        tt,
+      ),
+      λ leaf f. absurd (clash leaf (same_ref (ref_of word) (InnerAt base) (LeafAt leaf) e f)),
+    )
   where
     clash : (leaf : ℕ) → InnerAt base ≡ LeafAt leaf → ⊥
     clash leaf e = cc

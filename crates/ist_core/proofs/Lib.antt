@@ -29,6 +29,8 @@ pub mod FreshLemmas
 pub mod AddingLemmas
 pub mod StepLemmas
 pub mod FateLemmas
+pub mod PrefixLemmas
+pub mod CallerLemmas
 pub mod RoomLemmas
 pub mod SlotLemmas
 pub mod NamingLemmas
@@ -75,3 +77,4 @@ pub mod StartExampleLemmas
 pub mod RebuildExampleLemmas
 pub mod FinishExampleLemmas
 pub mod LateExampleLemmas
+pub mod ShownLemmas

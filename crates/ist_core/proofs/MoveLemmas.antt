@@ -1,4 +1,5 @@
--- What one event does to rows: none vanishes, and what is held stays held, is published or is lost. Serves `laws.rows_are_known`.
+-- What one event does to rows: none vanishes, and what is held stays held, is published or is lost.
+-- Serves `laws.rows_are_known`.
 use Rattle.std.proofs.Common.{◌≡◌, ℕ, ◌<◌, ◌⊎◌, ◌==◌, Bool, true, false, not, if◌then◌else◌, List, Some, None, option_map, refl, sym, ap, subst, inl, inr, ⊎_elim}
 use Rattle.std.specs.List.{list_any}
 use Rattle.ist_core.specs.declared.lists.HeldRow.{HeldRow}
@@ -39,8 +40,11 @@ pub record Moves (t u : Snapshot) (event : Event) : Type 0 where
 pub without-kept : (bases : List ℕ) (held : List HeldRow) (h : HeldRow)
     → Among h (without bases held) → Among h held × ¬ (Among h.base bases)
 without-kept bases held h i =
-    let it = among-filter (λ x. not (list_any (λ base. base == x.base) bases)) h held i in
-    (it.0, λ k. let named = tests_base h.base bases k in clash (list_any (λ base. base == h.base) bases) it.1 named)
+    let it = among-filter (λ x. not (list_any (λ base. base == x.base) bases)) h held i in (
+      it.0,
+      λ k. let named = tests_base h.base bases k in clash
+          (list_any (λ base. base == h.base) bases) it.1 named,
+    )
   where
     clash : (b : Bool) → not b ≡ true → b ≡ true → ⊥
     clash true e f = cc
@@ -54,7 +58,8 @@ without-fate bases held h i = at (list_any (λ base. base == h.base) bases) refl
     at : (b : Bool) → list_any (λ base. base == h.base) bases ≡ b
         → Among h (without bases held) ⊎ Among h.base bases
     at true e = inr (among_bases h.base bases e)
-    at false e = inl (among_filter (λ x. not (list_any (λ base. base == x.base) bases)) h held i (ap not e))
+    at false e = inl (among_filter (λ x. not (list_any (λ base. base == x.base) bases)) h held i
+        (ap not e))
 
 -- ---- the shapes of events
 
@@ -88,10 +93,13 @@ pub moves_changed : (t u : Snapshot) (event : Event) (at : ℕ) (f : Piece → P
 moves_changed t u event at f same next held pieces =
     record {
       next = next;
-      from = λ base p e. let it = changed_at-some t.pieces at base f p (subst (λ ps. ps base ≡ Some p) pieces e) in inl (it.0, it.1);
+      from = λ base p e. let it = changed_at-some t.pieces at base f p
+          (subst (λ ps. ps base ≡ Some p) pieces e) in inl (it.0, it.1);
       kept = λ h i. subst (λ hs. Among h hs) held i;
-      unpublished = λ h i e. subst (λ ps. ps h.base ≡ None) (sym pieces) (changed_at-none t.pieces at h.base f e);
-      stays = λ base p e. subst (λ ps. StandsWith ps base (size_of p)) (sym pieces) (stays-changed_at t.pieces at f same base p e);
+      unpublished = λ h i e. subst (λ ps. ps h.base ≡ None) (sym pieces)
+          (changed_at-none t.pieces at h.base f e);
+      stays = λ base p e. subst (λ ps. StandsWith ps base (size_of p)) (sym pieces)
+          (stays-changed_at t.pieces at f same base p e);
       fate = λ h i. inl (inl (subst (λ hs. Among h hs) (sym held) i));
     }
 
@@ -107,5 +115,6 @@ moves_lost t u event bases loses next held pieces =
       kept = λ h i. (without-kept bases t.held h (subst (λ hs. Among h hs) held i)).0;
       unpublished = λ h i e. subst (λ ps. ps h.base ≡ None) (sym pieces) e;
       stays = λ base p e. (p, subst (λ ps. ps base ≡ Some p) (sym pieces) e, refl);
-      fate = λ h i. ⊎_elim (λ k. inl (inl (subst (λ hs. Among h hs) (sym held) k))) (λ k. inr (loses h.base k)) (without-fate bases t.held h i);
+      fate = λ h i. ⊎_elim (λ k. inl (inl (subst (λ hs. Among h hs) (sym held) k)))
+          (λ k. inr (loses h.base k)) (without-fate bases t.held h i);
     }

@@ -1,4 +1,5 @@
--- The conjunct `names`: each word that names a row names a published one of its kind, and an inner row above its node.
+-- The conjunct `names`: each word that names a row names a published one of its kind, and an inner
+-- row above its node.
 -- Serves the order law, and each law that follows a word.
 use Rattle.std.proofs.Common.{◌≡◌, ℕ, ◌<◌, slice_get, Option, Some, None, sym, ap, ◌∙◌, subst, ⊎_elim}
 use Rattle.ist_core.specs.declared.states.LeafRow.{LeafRow}
@@ -65,9 +66,12 @@ RootNames ps target _ = ⊥
 -- each word of the row names what it may
 abbrev pub RowNames : Pieces → ℕ → Piece → Type 0
 RowNames ps base (Leaf r) = Unit {0}
-RowNames ps base (Inner r) = (i word : ℕ) → slice_get r.slots i ≡ Some word → SlotNames ps base i (ref_of word)
-RowNames ps base (Change r) = SideNames ps r.node r.index (ref_of r.from) × SideNames ps r.node r.index (ref_of r.to)
-RowNames ps base (Rebuild r) = (r.parent < r.target) × InnerHere ps r.target × RootNames ps r.target (ref_of r.root)
+RowNames ps base (Inner r) = (i word : ℕ) → slice_get r.slots i ≡ Some word → SlotNames ps base i
+    (ref_of word)
+RowNames ps base (Change r) = SideNames ps r.node r.index (ref_of r.from) × SideNames ps r.node
+    r.index (ref_of r.to)
+RowNames ps base (Rebuild r) = (r.parent < r.target) × InnerHere ps r.target × RootNames ps r.target
+    (ref_of r.root)
 
 -- the words of each row of the second name rows of the first
 unfoldable pub AllName : Pieces → Pieces → Type 0
@@ -92,13 +96,24 @@ pub rebuild_for_grows : (ps qs : Pieces) → AllGrow ps qs → (node i base : �
     → IsRebuildFor ps node i base → IsRebuildFor qs node i base
 rebuild_for_grows ps qs g node i base h =
     let it = rebuild_there ps qs g base h.row h.published in
-    record { row = it.0; published = it.1; parent = it.2.parent ∙ h.parent; index = it.2.index ∙ h.index }
+    record {
+      row = it.0;
+      published = it.1;
+      parent = it.2.parent ∙ h.parent;
+      index = it.2.index ∙
+          h.index;
+    }
 
 pub change_for_grows : (ps qs : Pieces) → AllGrow ps qs → (node i base : ℕ)
     → IsChangeFor ps node i base → IsChangeFor qs node i base
 change_for_grows ps qs g node i base h =
     let it = change_there ps qs g base h.row h.published in
-    record { row = it.0; published = it.1; node_is = ap (λ c. c.node) it.2.others ∙ h.node_is; index = ap (λ c. c.index) it.2.others ∙ h.index }
+    record {
+      row = it.0;
+      published = it.1;
+      node_is = ap (λ c. c.node) it.2.others ∙ h.node_is;
+      index = ap (λ c. c.index) it.2.others ∙ h.index;
+    }
 
 pub side_grows : (ps qs : Pieces) → AllGrow ps qs → (node i : ℕ) (ref : Option Ref)
     → SideNames ps node i ref → SideNames qs node i ref
@@ -133,9 +148,15 @@ root_grows ps qs g target None h = absurd h
 pub row_grows : (ps qs : Pieces) → AllGrow ps qs → (base : ℕ) (p : Piece) → RowNames ps base p
     → RowNames qs base p
 row_grows ps qs g base (Leaf r) h = tt
-row_grows ps qs g base (Inner r) h = λ i word e. slot_grows ps qs g base i (ref_of word) (h i word e)
-row_grows ps qs g base (Change r) h = (side_grows ps qs g r.node r.index (ref_of r.from) h.0, side_grows ps qs g r.node r.index (ref_of r.to) h.1)
-row_grows ps qs g base (Rebuild r) h = (h.0, inner_here_grows ps qs g r.target h.1, root_grows ps qs g r.target (ref_of r.root) h.2)
+row_grows ps qs g base (Inner r) h = λ i word e. slot_grows ps qs g base i (ref_of word)
+    (h i word e)
+row_grows ps qs g base (Change r) h = (
+  side_grows ps qs g r.node r.index (ref_of r.from) h.0,
+  side_grows ps qs g r.node r.index
+      (ref_of r.to) h.1,
+)
+row_grows ps qs g base (Rebuild r) h =
+    (h.0, inner_here_grows ps qs g r.target h.1, root_grows ps qs g r.target (ref_of r.root) h.2)
 
 -- ---- writes keep names
 
@@ -144,12 +165,15 @@ pub all_name_added : (ps qs : Pieces) (Born : ℕ → Piece → Type 0) → AllG
     → AllName ps ps
     → ((base : ℕ) (p : Piece) → Born base p → qs base ≡ Some p → RowNames qs base p) → AllName qs qs
 unfolding AllName
-all_name_added ps qs Born g adds all born base p e = ⊎_elim (λ old. row_grows ps qs g base p (all base p old)) (λ new. born base p new e) (adds.from base p e)
+all_name_added ps qs Born g adds all born base p e = ⊎_elim
+    (λ old. row_grows ps qs g base p (all base p old)) (λ new. born base p new e)
+    (adds.from base p e)
 
 -- where one row is changed
 pub all_name-changed_at : (ps : Pieces) (at : ℕ) (f : Piece → Piece)
     → AllGrow ps (changed_at ps at f) → AllName ps ps
-    → ((p : Piece) → ps at ≡ Some p → RowNames (changed_at ps at f) at p → RowNames (changed_at ps at f) at (f p))
+    → ((p : Piece) → ps at ≡ Some p → RowNames (changed_at ps at f) at p → RowNames
+    (changed_at ps at f) at (f p))
     → AllName (changed_at ps at f) (changed_at ps at f)
 unfolding AllName
 all_name-changed_at ps at f g all keeps base q e =
@@ -160,7 +184,8 @@ all_name-changed_at ps at f g all keeps base q e =
     (λ new.
     subst (λ x. RowNames (changed_at ps at f) base x) (sym new.1)
     (subst (λ b. RowNames (changed_at ps at f) b (f it.0)) (sym new.0)
-    (keeps it.0 (subst (λ b. ps b ≡ Some it.0) new.0 it.1) (subst (λ b. RowNames (changed_at ps at f) b it.0) new.0 old))))
+    (keeps it.0 (subst (λ b. ps b ≡ Some it.0) new.0 it.1)
+    (subst (λ b. RowNames (changed_at ps at f) b it.0) new.0 old))))
     it.2
 
 pub names-with_slot : (ps : Pieces) (node i word : ℕ) (p : Piece)
@@ -168,7 +193,8 @@ pub names-with_slot : (ps : Pieces) (node i word : ℕ) (p : Piece)
 names-with_slot ps node i word (Inner r) k h =
     λ j w e.
     ⊎_elim
-    (λ x. subst (λ y. SlotNames ps node y (ref_of w)) (sym x.0) (subst (λ y. SlotNames ps node i (ref_of y)) (sym x.1) k))
+    (λ x. subst (λ y. SlotNames ps node y (ref_of w)) (sym x.0)
+    (subst (λ y. SlotNames ps node i (ref_of y)) (sym x.1) k))
     (λ x. h j w x)
     (get-set_some r.slots i j word w e)
 names-with_slot ps node i word (Leaf r) k h = h
@@ -210,7 +236,8 @@ pub slot_names : (t : Snapshot) (node i word : ℕ) → WordsName t → SlotHold
     → SlotNames t.pieces node i (ref_of word)
 slot_names t node i word h (in_anchor a b e) =
     subst (λ x. SlotNames t.pieces node i (ref_of x)) e
-    (subst (λ j. SlotNames t.pieces node j (ref_of t.anchor)) (sym b) (subst (λ n. SlotNames t.pieces n 0 (ref_of t.anchor)) (sym a) h.anchor_slot))
+    (subst (λ j. SlotNames t.pieces node j (ref_of t.anchor)) (sym b)
+    (subst (λ n. SlotNames t.pieces n 0 (ref_of t.anchor)) (sym a) h.anchor_slot))
 slot_names t node i word h (in_row r p e) = h.rows node (Inner r) p i word e
 
 -- what a change may put into a slot may stand in it

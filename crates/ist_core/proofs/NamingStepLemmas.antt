@@ -50,9 +50,12 @@ names_changed : (t u : Snapshot) (at : ℕ) (f : Piece → Piece) → AllGrow t.
 unfolding AllName
 names_changed t u at f g pieces word keeps o =
     record {
-      rows = subst (λ qs. (base : ℕ) (p : Piece) → qs base ≡ Some p → RowNames qs base p) (sym pieces)
-          (all_name-changed_at t.pieces at f (subst (λ qs. AllGrow t.pieces qs) pieces g) o.rows (λ p _ h. keeps (changed_at t.pieces at f) p h));
-      anchor_slot = subst (λ x. SlotNames u.pieces anchor 0 (ref_of x)) (sym word) (slot_grows t.pieces u.pieces g anchor 0 (ref_of t.anchor) o.anchor_slot);
+      rows = subst (λ qs. (base : ℕ) (p : Piece) → qs base ≡ Some p → RowNames qs base p)
+          (sym pieces)
+          (all_name-changed_at t.pieces at f (subst (λ qs. AllGrow t.pieces qs) pieces g) o.rows
+          (λ p _ h. keeps (changed_at t.pieces at f) p h));
+      anchor_slot = subst (λ x. SlotNames u.pieces anchor 0 (ref_of x)) (sym word)
+          (slot_grows t.pieces u.pieces g anchor 0 (ref_of t.anchor) o.anchor_slot);
     }
 
 -- an event that writes a slot, behind rows that name what they may
@@ -65,10 +68,13 @@ unfolding AllName
 names_written t u ps node i word all g pieces is zero_there h o =
     let here = subst (λ qs. SlotNames qs node i (ref_of word)) (sym pieces) h in
     record {
-      rows = subst (λ qs. (base : ℕ) (p : Piece) → qs base ≡ Some p → RowNames qs base p) (sym pieces)
-          (all_name-changed_at ps node (with_slot i word) (all_grow-changed_at ps node (with_slot i word) (λ p _. grows-with_slot i word p)) all
+      rows = subst (λ qs. (base : ℕ) (p : Piece) → qs base ≡ Some p → RowNames qs base p)
+          (sym pieces)
+          (all_name-changed_at ps node (with_slot i word)
+          (all_grow-changed_at ps node (with_slot i word) (λ p _. grows-with_slot i word p)) all
           (λ p _ k. names-with_slot (changed_at ps node (with_slot i word)) node i word p h k));
-      anchor_slot = subst (λ x. SlotNames u.pieces anchor 0 (ref_of x)) (sym is) (at here (node == anchor) (eqb_tells node anchor));
+      anchor_slot = subst (λ x. SlotNames u.pieces anchor 0 (ref_of x)) (sym is)
+          (at here (node == anchor) (eqb_tells node anchor));
     }
   where
     at : SlotNames u.pieces node i (ref_of word) → (v : Bool)
@@ -77,16 +83,19 @@ names_written t u ps node i word all g pieces is zero_there h o =
         → SlotNames u.pieces anchor 0 (ref_of (if node == anchor then word else t.anchor))
     at here v (inl k) =
         subst (λ b. SlotNames u.pieces anchor 0 (ref_of (if b then word else t.anchor))) (sym k.0)
-        (subst (λ j. SlotNames u.pieces anchor j (ref_of word)) (zero_there k.1) (subst (λ n. SlotNames u.pieces n i (ref_of word)) k.1 here))
+        (subst (λ j. SlotNames u.pieces anchor j (ref_of word)) (zero_there k.1)
+        (subst (λ n. SlotNames u.pieces n i (ref_of word)) k.1 here))
     at here v (inr k) =
-        subst (λ b. SlotNames u.pieces anchor 0 (ref_of (if b then word else t.anchor))) (sym k.0) (slot_grows t.pieces u.pieces g anchor 0 (ref_of t.anchor) o.anchor_slot)
+        subst (λ b. SlotNames u.pieces anchor 0 (ref_of (if b then word else t.anchor))) (sym k.0)
+        (slot_grows t.pieces u.pieces g anchor 0 (ref_of t.anchor) o.anchor_slot)
 
 -- ---- the events that do something
 
 -- the change of an Install stands behind it
 pub installed_stands : (ps : Pieces) (base : ℕ) (change : ChangeRow) (fresh : List Row)
     → with_installed ps base change fresh base ≡ Some (Change change)
-installed_stands ps base change fresh = with_row-same (with_fresh ps change fresh) base (Change change)
+installed_stands ps base change fresh = with_row-same (with_fresh ps change fresh) base
+    (Change change)
 
 -- all rows of a table name what they may
 pub all_name : (t : Snapshot) → WordsName t → AllName t.pieces t.pieces
@@ -97,7 +106,8 @@ names_install : (first : Snapshot) (log : Log) (caller base : ℕ) (rows : List 
     → (h : CanInstall first log caller base rows) → IsSound (state first log)
     → (state first log).pieces anchor ≡ None
     → IsGoodBase base
-    → ((at : ℕ) (p : Piece) → with_installed (state first log).pieces base h.change h.fresh at ≡ Some p → IsGoodBase at)
+    → ((at : ℕ) (p : Piece) → with_installed (state first log).pieces base h.change h.fresh at ≡
+    Some p → IsGoodBase at)
     → WordsName (state first log) → WordsName (after (state first log) (Install caller base rows))
 names_install first log caller base rows h sound free good_here good o =
     let t = state first log in
@@ -108,27 +118,36 @@ names_install first log caller base rows h sound free good_here good o =
     let slot = slot_names t h.change.node h.change.index h.change.from o h.in_slot in
     let word = word_of (ChangeAt base) in
     let rs = changed_at qs h.change.node (with_slot h.change.index word) in
-    let stands : qs base ≡ Some (Change h.change) = installed_stands t.pieces base h.change h.fresh in
+    let stands : qs base ≡ Some (Change h.change) = installed_stands t.pieces base h.change h.fresh
+    in
     let there : IsChangeFor rs h.change.node h.change.index base = record {
       row = h.change;
-      published = changed_at-fixed qs h.change.node base (with_slot h.change.index word) (Change h.change) stands refl;
+      published = changed_at-fixed qs h.change.node base (with_slot h.change.index word)
+          (Change h.change) stands refl;
       node_is = refl;
       index = refl;
     } in
     subst (λ xs. WordsName (after t (Install caller base xs))) (sym h.rows_are)
-    (names_written t (after t (Install caller base (row_at base (Change h.change) ∷ h.fresh))) qs h.change.node h.change.index word
-    (all_name_added t.pieces qs (IsInstalled first log base h.change h.fresh h.fits) grows adds (all_name t o)
-    (λ at p born _. installed_names first log caller base h.change h.fresh sound holds h.in_slot o slot qs refl grows h.fits good at p born))
-    (subst (λ xs. AllGrow t.pieces (after t (Install caller base xs)).pieces) h.rows_are (grow_step first log (Install caller base rows) h sound)) refl refl
+    (names_written t (after t (Install caller base (row_at base (Change h.change) ∷ h.fresh))) qs
+    h.change.node h.change.index word
+    (all_name_added t.pieces qs (IsInstalled first log base h.change h.fresh h.fits) grows adds
+    (all_name t o)
+    (λ at p born _. installed_names first log caller base h.change h.fresh sound holds h.in_slot o
+    slot qs refl grows h.fits good at p born))
+    (subst (λ xs. AllGrow t.pieces (after t (Install caller base xs)).pieces) h.rows_are
+    (grow_step first log (Install caller base rows) h sound)) refl refl
     (anchor_slot t h.change.node h.change.index h.change.from free h.in_slot)
-    (subst (λ ref. SlotNames rs h.change.node h.change.index ref) (sym (ref_of-change base good_here)) there) o)
+    (subst (λ ref. SlotNames rs h.change.node h.change.index ref)
+    (sym (ref_of-change base good_here)) there) o)
 
 -- the side that a change leaves in its slot is one of its two
 pub side_names : (ps : Pieces) (node i : ℕ) (change : ChangeRow)
     → SideNames ps node i (ref_of change.from) → SideNames ps node i (ref_of change.to)
     → SideNames ps node i (ref_of (side_of change))
 side_names ps node i change from to =
-    elim (change.decision == decided_yes) as (λ v. SideNames ps node i (ref_of (if v then change.to else change.from))) [ true ↦ to | false ↦ from ]
+    elim (change.decision == decided_yes) as
+    (λ v. SideNames ps node i (ref_of (if v then change.to else change.from)))
+    [ true ↦ to | false ↦ from ]
 
 names_resolve : (first : Snapshot) (log : Log) (caller base : ℕ)
     → (h : CanResolve (state first log) caller base) → IsSound (state first log)
@@ -140,11 +159,14 @@ names_resolve first log caller base h sound free o =
     let rs = changed_at t.pieces h.change.node (with_slot h.change.index word) in
     let row = o.rows base (Change h.change) h.published in
     let side = side_names t.pieces h.change.node h.change.index h.change row.0 row.1 in
-    let grows = all_grow-changed_at t.pieces h.change.node (with_slot h.change.index word) (λ p _. grows-with_slot h.change.index word p) in
+    let grows = all_grow-changed_at t.pieces h.change.node (with_slot h.change.index word)
+    (λ p _. grows-with_slot h.change.index word p) in
     subst WordsName (sym (rows_resolved t caller base h))
-    (names_written t (resolved t (Some h.change)) t.pieces h.change.node h.change.index word (all_name t o) grows refl refl
+    (names_written t (resolved t (Some h.change)) t.pieces h.change.node h.change.index word
+    (all_name t o) grows refl refl
     (anchor_slot t h.change.node h.change.index (word_of (ChangeAt base)) free h.in_slot)
-    (slot_grows t.pieces rs grows h.change.node h.change.index (ref_of word) (side_slot t.pieces h.change.node h.change.index (ref_of word) side)) o)
+    (slot_grows t.pieces rs grows h.change.node h.change.index (ref_of word)
+    (side_slot t.pieces h.change.node h.change.index (ref_of word) side)) o)
 
 -- the rows of a tree name what they may
 tree_born : (ps : Pieces) (rows : List ℕ) → Each (IsTreeRow ps) rows → (base : ℕ) (p : Piece)
@@ -166,17 +188,24 @@ names_root first log caller rebuild word rows h sound o =
     let adds = adds-with_inners t caller rows h.held sound in
     let grows = all_grow_added t.pieces qs adds.keeps in
     let tree = root_tree qs word h.k h.leaves h.row.target (bases_of rows) h.root in
-    let all = all_name_added t.pieces qs (λ base p. Among base (bases_of rows)) grows adds (all_name t o)
-    (λ base p i e. tree_born qs (bases_of rows) (tree_rows qs tree.0 h.row.target (bases_of rows) tree.2) base p i e) in
+    let all = all_name_added t.pieces qs (λ base p. Among base (bases_of rows)) grows adds
+    (all_name t o)
+    (λ base p i e. tree_born qs (bases_of rows)
+    (tree_rows qs tree.0 h.row.target (bases_of rows) tree.2) base p i e) in
     let stands = adds.keeps rebuild (Rebuild h.row) h.published in
     let on : AllGrow qs rs = all_grow-changed_at qs rebuild (with_root word)
-    (λ p e. known (λ x. Grows x (with_root word x)) (qs rebuild) p (Rebuild h.row) e stands (grows-with_root h.row word h.rootless)) in
-    let root = subst (λ ref. RootNames qs h.row.target ref) (sym tree.1) (tree_root qs tree.0 h.row.target (bases_of rows) tree.2) in
+    (λ p e. known (λ x. Grows x (with_root word x)) (qs rebuild) p (Rebuild h.row) e stands
+    (grows-with_root h.row word h.rootless)) in
+    let root = subst (λ ref. RootNames qs h.row.target ref) (sym tree.1)
+    (tree_root qs tree.0 h.row.target (bases_of rows) tree.2) in
     record {
       rows = all_name-changed_at qs rebuild (with_root word) on all
-          (λ p e k. known (λ x. RowNames rs rebuild x → RowNames rs rebuild (with_root word x)) (qs rebuild) p (Rebuild h.row) e stands
+          (λ p e k. known (λ x. RowNames rs rebuild x → RowNames rs rebuild (with_root word x))
+          (qs rebuild) p (Rebuild h.row) e stands
           (λ old. (old.0, old.1, root_grows qs rs on h.row.target (ref_of word) root)) k);
-      anchor_slot = slot_grows t.pieces u.pieces (grow_step first log (Root caller rebuild word rows) h sound) anchor 0 (ref_of t.anchor) o.anchor_slot;
+      anchor_slot = slot_grows t.pieces u.pieces
+          (grow_step first log (Root caller rebuild word rows) h sound) anchor 0 (ref_of t.anchor)
+          o.anchor_slot;
     }
 
 names_place : (first : Snapshot) (log : Log) (caller rebuild i word : ℕ) (rows : List Row)
@@ -192,15 +221,22 @@ names_place first log caller rebuild i word rows h sound o =
     let adds = adds-with_inners t caller rows h.held sound in
     let grows = all_grow_added t.pieces qs adds.keeps in
     let tree = tree_of_ideal qs h.ref h.part h.root (bases_of rows) h.ideal in
-    let all = all_name_added t.pieces qs (λ base p. Among base (bases_of rows)) grows adds (all_name t o)
-    (λ base p i e. tree_born qs (bases_of rows) (tree_rows qs h.ref h.root (bases_of rows) tree) base p i e) in
-    let on : AllGrow qs rs = all_grow-changed_at qs h.root (with_slot i word) (λ p _. grows-with_slot i word p) in
-    let slot = subst (λ ref. SlotNames qs h.root i ref) (sym h.ref_is) (tree_slot qs h.ref h.root (bases_of rows) i tree) in
+    let all = all_name_added t.pieces qs (λ base p. Among base (bases_of rows)) grows adds
+    (all_name t o)
+    (λ base p i e. tree_born qs (bases_of rows) (tree_rows qs h.ref h.root (bases_of rows) tree)
+    base p i e) in
+    let on : AllGrow qs rs = all_grow-changed_at qs h.root (with_slot i word)
+    (λ p _. grows-with_slot i word p) in
+    let slot = subst (λ ref. SlotNames qs h.root i ref) (sym h.ref_is)
+    (tree_slot qs h.ref h.root (bases_of rows) i tree) in
     let names = all_name-changed_at qs h.root (with_slot i word) on all
-    (λ p _ k. names-with_slot rs h.root i word p (slot_grows qs rs on h.root i (ref_of word) slot) k) in
+    (λ p _ k. names-with_slot rs h.root i word p (slot_grows qs rs on h.root i (ref_of word) slot)
+    k) in
     record {
       rows = subst (λ xs. AllName xs xs) (sym (rows_placed t caller rebuild i word rows h)) names;
-      anchor_slot = slot_grows t.pieces u.pieces (grow_step first log (Place caller rebuild i word rows) h sound) anchor 0 (ref_of t.anchor) o.anchor_slot;
+      anchor_slot = slot_grows t.pieces u.pieces
+          (grow_step first log (Place caller rebuild i word rows) h sound) anchor 0
+          (ref_of t.anchor) o.anchor_slot;
     }
 
 -- ---- all events
@@ -208,24 +244,40 @@ names_place first log caller rebuild i word rows h sound o =
 -- an enabled event keeps what words name, where bases are good
 pub names_step : (first : Snapshot) (log : Log) (event : Event) → Enabled first log event
     → IsSound (state first log) → (state first log).pieces anchor ≡ None
-    → ((caller base : ℕ) (rows : List Row) (h : CanInstall first log caller base rows) → IsGoodBase base × ((at : ℕ) (p : Piece) → with_installed (state first log).pieces base h.change h.fresh at ≡ Some p → IsGoodBase at))
+    → ((caller base : ℕ) (rows : List Row) (h : CanInstall first log caller base rows) → IsGoodBase
+    base × ((at : ℕ) (p : Piece) → with_installed (state first log).pieces base h.change h.fresh
+    at ≡ Some p → IsGoodBase at))
     → WordsName (state first log) → WordsName (state first (event ∷ log))
-names_step first log (Install caller base rows) h s free good o = let ok = good caller base rows h in names_install first log caller base rows h s free ok.0 ok.1 o
-names_step first log (Resolve caller change) h s free good o = names_resolve first log caller change h s free o
-names_step first log (Root caller rebuild word rows) h s free good o = names_root first log caller rebuild word rows h s o
-names_step first log (Place caller rebuild i word rows) h s free good o = names_place first log caller rebuild i word rows h s o
+names_step first log (Install caller base rows) h s free good o = let ok = good caller base rows h
+    in names_install first log caller base rows h s free ok.0 ok.1 o
+names_step first log (Resolve caller change) h s free good o = names_resolve first log caller change
+    h s free o
+names_step first log (Root caller rebuild word rows) h s free good o = names_root first log caller
+    rebuild word rows h s o
+names_step first log (Place caller rebuild i word rows) h s free good o = names_place first log
+    caller rebuild i word rows h s o
 names_step first log (Decide caller base said) h s free good o =
-    names_changed _ _ base (with_decision (decision_word said)) (grow_step first log (Decide caller base said) h s) refl refl (λ ps p k. names-with_decision ps base (decision_word said) p k) o
+    names_changed _ _ base (with_decision (decision_word said))
+    (grow_step first log (Decide caller base said) h s) refl refl
+    (λ ps p k. names-with_decision ps base (decision_word said) p k) o
 names_step first log (Count caller node) h s free good o =
-    names_changed _ _ node counted (grow_step first log (Count caller node) h s) refl refl (λ ps p k. names-counted ps node p k) o
+    names_changed _ _ node counted (grow_step first log (Count caller node) h s) refl refl
+    (λ ps p k. names-counted ps node p k) o
 names_step first log (Mark caller node) h s free good o =
-    names_changed _ _ node (with_status marked_word) (grow_step first log (Mark caller node) h s) refl refl (λ ps p k. names-with_status ps node marked_word p k) o
+    names_changed _ _ node (with_status marked_word) (grow_step first log (Mark caller node) h s)
+    refl refl (λ ps p k. names-with_status ps node marked_word p k) o
 names_step first log (Finish caller node keys) h s free good o =
-    names_changed _ _ node (with_status (finished_word keys)) (grow_step first log (Finish caller node keys) h s) refl refl (λ ps p k. names-with_status ps node (finished_word keys) p k) o
+    names_changed _ _ node (with_status (finished_word keys))
+    (grow_step first log (Finish caller node keys) h s) refl refl
+    (λ ps p k. names-with_status ps node (finished_word keys) p k) o
 names_step first log (Draw caller rebuild part) h s free good o =
-    names_changed _ _ rebuild drawn (grow_step first log (Draw caller rebuild part) h s) refl refl (λ ps p k. names-drawn ps rebuild p k) o
-names_step first log (Enter caller) h s free good o = record { rows = o.rows; anchor_slot = o.anchor_slot }
-names_step first log (Reserve caller base size) h s free good o = record { rows = o.rows; anchor_slot = o.anchor_slot }
+    names_changed _ _ rebuild drawn (grow_step first log (Draw caller rebuild part) h s) refl refl
+    (λ ps p k. names-drawn ps rebuild p k) o
+names_step first log (Enter caller) h s free good o = record
+    { rows = o.rows; anchor_slot = o.anchor_slot }
+names_step first log (Reserve caller base size) h s free good o = record
+    { rows = o.rows; anchor_slot = o.anchor_slot }
 names_step first log (Okay caller change) h s free good o = o
 names_step first log (Pass caller node i word) h s free good o = o
-names_step first log (Lose caller bases) h s free good o = record { rows = o.rows; anchor_slot = o.anchor_slot }
+names_step first log (Lose caller bases) h s free good o = record
+    { rows = o.rows; anchor_slot = o.anchor_slot }

@@ -50,34 +50,58 @@ module _ (pairs : List Pair) (words : ℕ) (opens : CanOpen pairs words) where
       let qs = with_installed t.pieces base h.change h.fresh in
       let word = word_of (ChangeAt base) in
       let New = NewPair first log h.change h.fresh h.fits in
-      let slot = word_of_other InnerAt t New h.change.node h.change.index (ref_of word) (ChangeAt base) (ref_of-change base good.0) (λ child k. cc) in
+      let slot = word_of_other InnerAt t New h.change.node h.change.index (ref_of word)
+      (ChangeAt base) (ref_of-change base good.0) (λ child k. cc) in
       let u = after t (Install caller base (row_at base (Change h.change) ∷ h.fresh)) in
       subst (λ xs. HasOneHome (after t (Install caller base xs))) (sym h.rows_are)
-      (one_home_from t u New home (names pairs words opens log e) (pair_new first log caller base h.change h.fresh s holds h.in_slot h.fits)
+      (one_home_from t u New home (names pairs words opens log e)
+      (pair_new first log caller base h.change h.fresh s holds h.in_slot h.fits)
       (came-changed_at InnerAt t New qs h.change.node (with_slot h.change.index word)
-      (came_added InnerAt t New t.pieces qs (IsInstalled first log base h.change h.fresh h.fits) (adds_install first log caller base h.change h.fresh h.fits holds s) (came_old InnerAt t New)
+      (came_added InnerAt t New t.pieces qs (IsInstalled first log base h.change h.fresh h.fits)
+      (adds_install first log caller base h.change h.fresh h.fits holds s)
+      (came_old InnerAt t New)
       (λ at p born _. installed_says first log caller base h.change h.fresh s holds h.in_slot h.fits
-      (λ leaf f. good.1 leaf (new_leaf h.change) (fresh_stands first log caller base h.change h.fresh s t.pieces h.fits holds leaf (new_leaf h.change) f))
+      (λ leaf f. good.1 leaf (new_leaf h.change)
+      (fresh_stands first log caller base h.change h.fresh s t.pieces h.fits holds leaf
+      (new_leaf h.change) f))
       (λ other r there. published_good pairs words opens log other r e there) at p born))
       (λ p _ old. came-with_slot InnerAt t New h.change.node h.change.index word p slot old))
-      (anchor_came InnerAt t u New h.change.node h.change.index word refl (anchor_slot t h.change.node h.change.index h.change.from (anchor_free pairs words log e) h.in_slot) slot))
+      (anchor_came InnerAt t u New h.change.node h.change.index word refl
+      (anchor_slot t h.change.node h.change.index h.change.from (anchor_free pairs words log e)
+      h.in_slot) slot))
 
   one_home_step : (log : Log) (event : Event) → EachEnabled (start pairs words) (event ∷ log)
       → HasOneHome (state_of pairs words log) → HasOneHome (state_of pairs words (event ∷ log))
-  one_home_step log (Install caller base rows) h home = one_home_install log h.0 caller base rows h.1 home
-  one_home_step log (Resolve caller base) h home = one_home_resolve (state_of pairs words log) caller base h.1 (anchor_free pairs words log h.0) (names pairs words opens log h.0) home
+  one_home_step log (Install caller base rows) h home = one_home_install log h.0 caller base rows
+      h.1 home
+  one_home_step log (Resolve caller base) h home = one_home_resolve (state_of pairs words log)
+      caller base h.1 (anchor_free pairs words log h.0) (names pairs words opens log h.0) home
   one_home_step log (Root caller rebuild word rows) h home =
-      one_home_root (state_of pairs words log) caller rebuild word rows h.1 (sound (start pairs words) log (sound_start pairs words) h.0) (names pairs words opens log h.0) home
+      one_home_root (state_of pairs words log) caller rebuild word rows h.1
+      (sound (start pairs words) log (sound_start pairs words) h.0)
+      (names pairs words opens log h.0) home
   one_home_step log (Place caller rebuild i word rows) h home =
-      one_home_place (state_of pairs words log) caller rebuild i word rows h.1 (sound (start pairs words) log (sound_start pairs words) h.0) (names pairs words opens log h.0) home
+      one_home_place (state_of pairs words log) caller rebuild i word rows h.1
+      (sound (start pairs words) log (sound_start pairs words) h.0)
+      (names pairs words opens log h.0) home
   one_home_step log (Decide caller base said) h home =
-      one_home_changed _ _ base (with_decision (decision_word said)) refl refl (λ New p k. came-with_decision InnerAt (state_of pairs words log) New base (decision_word said) p k) (names pairs words opens log h.0) home
-  one_home_step log (Count caller node) h home = one_home_changed _ _ node counted refl refl (λ New p k. came-counted InnerAt (state_of pairs words log) New node p k) (names pairs words opens log h.0) home
+      one_home_changed _ _ base (with_decision (decision_word said)) refl refl
+      (λ New p k. came-with_decision InnerAt (state_of pairs words log) New base
+      (decision_word said) p k) (names pairs words opens log h.0) home
+  one_home_step log (Count caller node) h home = one_home_changed _ _ node counted refl refl
+      (λ New p k. came-counted InnerAt (state_of pairs words log) New node p k)
+      (names pairs words opens log h.0) home
   one_home_step log (Mark caller node) h home =
-      one_home_changed _ _ node (with_status marked_word) refl refl (λ New p k. came-with_status InnerAt (state_of pairs words log) New node marked_word p k) (names pairs words opens log h.0) home
+      one_home_changed _ _ node (with_status marked_word) refl refl
+      (λ New p k. came-with_status InnerAt (state_of pairs words log) New node marked_word p k)
+      (names pairs words opens log h.0) home
   one_home_step log (Finish caller node keys) h home =
-      one_home_changed _ _ node (with_status (finished_word keys)) refl refl (λ New p k. came-with_status InnerAt (state_of pairs words log) New node (finished_word keys) p k) (names pairs words opens log h.0) home
-  one_home_step log (Draw caller rebuild part) h home = one_home_changed _ _ rebuild drawn refl refl (λ New p k. came-drawn InnerAt (state_of pairs words log) New rebuild p k) (names pairs words opens log h.0) home
+      one_home_changed _ _ node (with_status (finished_word keys)) refl refl
+      (λ New p k. came-with_status InnerAt (state_of pairs words log) New node
+      (finished_word keys) p k) (names pairs words opens log h.0) home
+  one_home_step log (Draw caller rebuild part) h home = one_home_changed _ _ rebuild drawn refl refl
+      (λ New p k. came-drawn InnerAt (state_of pairs words log) New rebuild p k)
+      (names pairs words opens log h.0) home
   one_home_step log (Enter caller) h home = one_home_same _ _ home refl refl
   one_home_step log (Reserve caller base size) h home = one_home_same _ _ home refl refl
   one_home_step log (Okay caller change) h home = home
@@ -95,7 +119,8 @@ module _ (pairs : List Pair) (words : ℕ) (opens : CanOpen pairs words) where
   start_says rows all base p e (inr k) node i child says =
       let ps = (start pairs words).pieces in
       let it = each-among (IsTreeRow ps) base rows all k in
-      known (λ x. Says base x node i (InnerAt child) → HangsIn ps anchor 0 (tree_at first_row pairs) rows node i child) (ps base) p (Inner it.row) e it.published
+      known (λ x. Says base x node i (InnerAt child) → HangsIn ps anchor 0 (tree_at first_row pairs)
+      rows node i child) (ps base) p (Inner it.row) e it.published
       (λ s. inr record {
         among = subst (λ b. Among b rows) (sym s.0) k;
         row = it.row;
@@ -106,12 +131,17 @@ module _ (pairs : List Pair) (words : ℕ) (opens : CanOpen pairs words) where
       }) says
 
   one_home_start : HasOneHome (start pairs words)
-  one_home_start = record { one = λ n i k j child x y. hangs_once ps anchor 0 (tree_at first_row pairs) anchor hang.rows n i k j child hang.tree once (came n i child x) (came k j child y) }
+  one_home_start = record {
+    one = λ n i k j child x y. hangs_once ps anchor 0
+        (tree_at first_row pairs) anchor hang.rows n i k j child hang.tree once (came n i child x)
+        (came k j child y);
+  }
     where
       ps : Pieces
       ps = (start pairs words).pieces
 
-      hang : HangsAs (start pairs words).pieces (tree_at first_row pairs) pairs anchor (rows_from first_row pairs) first_row (first_row + ideal_words (length pairs))
+      hang : HangsAs (start pairs words).pieces (tree_at first_row pairs) pairs anchor
+          (rows_from first_row pairs) first_row (first_row + ideal_words (length pairs))
       hang = start_hangs pairs words opens anchor (omega arith)
 
       once : Distinct hang.rows
@@ -123,10 +153,17 @@ module _ (pairs : List Pair) (words : ℕ) (opens : CanOpen pairs words) where
       came : (node i child : ℕ) → Mentions (start pairs words) node i (InnerAt child)
           → HangsIn (start pairs words).pieces anchor 0
           (tree_at first_row pairs) hang.rows node i child
-      came node i child (inl h) = inl (h.0, h.1, same_ref (ref_of (start pairs words).anchor) (tree_at first_row pairs) (InnerAt child) (start_anchor pairs words opens) h.2)
+      came node i child (inl h) = inl (
+        h.0,
+        h.1,
+        same_ref (ref_of (start pairs words).anchor) (tree_at first_row pairs)
+            (InnerAt child) (start_anchor pairs words opens) h.2,
+      )
       came node i child (inr h) =
-          start_says hang.rows (tree_rows (start pairs words).pieces (tree_at first_row pairs) anchor hang.rows hang.tree) h.0 h.1 h.2
-          (hang.each h.0 h.1 (among-pieces_of (rows_from first_row pairs) h.0 h.1 h.2)) node i child h.3
+          start_says hang.rows (tree_rows (start pairs words).pieces (tree_at first_row pairs)
+          anchor hang.rows hang.tree) h.0 h.1 h.2
+          (hang.each h.0 h.1 (among-pieces_of (rows_from first_row pairs) h.0 h.1 h.2)) node i child
+          h.3
 
   -- each inner row behind a log from a new table has one home
   pub one_home : (log : Log) → EachEnabled (start pairs words) log

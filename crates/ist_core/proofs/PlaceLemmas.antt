@@ -43,16 +43,20 @@ one_piece o p q e h = cc
 module _ (pairs : List Pair) (words : ℕ) where
   -- the same as `IsSetAside`, going back event by event
   abbrev pub Claimed : Log → ℕ → ℕ → Type 0
-  Claimed [] base size = (p : Piece) × ((start pairs words).pieces base ≡ Some p) × (size_of p ≡ size)
-  Claimed (event ∷ log) base size = ((caller : ℕ) × Reserves caller base size event) ⊎ Claimed log base size
+  Claimed [] base size = (p : Piece) × ((start pairs words).pieces base ≡ Some p) ×
+      (size_of p ≡ size)
+  Claimed (event ∷ log) base size = ((caller : ℕ) × Reserves caller base size event) ⊎ Claimed log
+      base size
 
   pub claimed_set_aside : (log : Log) (base size : ℕ) → IsSetAside pairs words log base size
       → Claimed log base size
   claimed_set_aside [] base size (at_start p e f) = (p, e, f)
   claimed_set_aside [] base size (by_caller caller h) = absurd h
-  claimed_set_aside (event ∷ log) base size (at_start p e f) = inr (claimed_set_aside log base size (at_start p e f))
+  claimed_set_aside (event ∷ log) base size (at_start p e f) = inr
+      (claimed_set_aside log base size (at_start p e f))
   claimed_set_aside (event ∷ log) base size (by_caller caller (inl h)) = inl (caller, h)
-  claimed_set_aside (event ∷ log) base size (by_caller caller (inr h)) = inr (claimed_set_aside log base size (by_caller caller h))
+  claimed_set_aside (event ∷ log) base size (by_caller caller (inr h)) = inr
+      (claimed_set_aside log base size (by_caller caller h))
 
   pub set_aside_claimed : (log : Log) (base size : ℕ) → Claimed log base size
       → IsSetAside pairs words log base size
@@ -101,7 +105,9 @@ module _ (pairs : List Pair) (words : ℕ) where
       → Claimed log base size → IsWithin (state_of pairs words log) base size
   claimed_within [] base size h c =
       let rows = fills_rows (length pairs) first_row pairs (omega arith) in
-      let inside = fills_within first_row (first_row + ideal_words (length pairs)) (rows_from first_row pairs) base c.0 rows (among-pieces_of (rows_from first_row pairs) base c.0 c.1) in
+      let inside = fills_within first_row (first_row + ideal_words (length pairs))
+      (rows_from first_row pairs) base c.0 rows
+      (among-pieces_of (rows_from first_row pairs) base c.0 c.1) in
       let low = inside.0 in
       let high = inside.1 in
       let some = size_positive c.0 in
@@ -125,13 +131,23 @@ module _ (pairs : List Pair) (words : ℕ) where
       → ((base ≡ other) × (size ≡ more)) ⊎ ((base ≢ other) × Apart base size other more)
   claimed_apart [] base size other more h c d =
       ⊎_elim
-      (λ e. inl (e.1, sym c.2 ∙ ap size_of (one_piece ((start pairs words).pieces base) c.0 d.0 c.1 (subst (λ b. (start pairs words).pieces b ≡ Some d.0) (sym e.1) d.1)) ∙ d.2))
+      (λ e. inl (
+        e.1,
+        sym c.2 ∙ ap size_of
+            (one_piece ((start pairs words).pieces base) c.0 d.0 c.1
+            (subst (λ b. (start pairs words).pieces b ≡ Some d.0) (sym e.1) d.1)) ∙ d.2,
+      ))
       (λ e.
       let rows = fills_rows (length pairs) first_row pairs (omega arith) in
       let one = among-pieces_of (rows_from first_row pairs) base c.0 c.1 in
       let two = among-pieces_of (rows_from first_row pairs) other d.0 d.1 in
-      let apart = fills_apart first_row (first_row + ideal_words (length pairs)) (rows_from first_row pairs) base other c.0 d.0 rows one two e.1 in
-      inr (e.1, subst (λ z. Apart base z other more) c.2 (subst (λ y. Apart base (size_of c.0) other y) d.2 apart)))
+      let apart = fills_apart first_row (first_row + ideal_words (length pairs))
+      (rows_from first_row pairs) base other c.0 d.0 rows one two e.1 in
+      inr (
+        e.1,
+        subst (λ z. Apart base z other more) c.2
+            (subst (λ y. Apart base (size_of c.0) other y) d.2 apart),
+      ))
       (eqb_tells base other)
   claimed_apart (event ∷ log) base size other more h (inl c) (inl d) =
       let one = reserve_place log event c.0 base size h.1 c.1 in
@@ -155,7 +171,8 @@ module _ (pairs : List Pair) (words : ℕ) where
       let high = before.below_next in
       let some = before.some in
       inr ((λ e. omega arith), inl (omega arith))
-  claimed_apart (event ∷ log) base size other more h (inr c) (inr d) = claimed_apart log base size other more h.0 c d
+  claimed_apart (event ∷ log) base size other more h (inr c) (inr d) = claimed_apart log base size
+      other more h.0 c d
 
   -- ---- published and held rows
 
@@ -201,22 +218,29 @@ module _ (pairs : List Pair) (words : ℕ) where
           → Claimed log base (size_of p)
       stood base p e q =
           let there = m.stays base q.0 q.1 in
-          let same = one_piece ((state_of pairs words (event ∷ log)).pieces base) p there.0 e there.1 in
-          subst (λ z. Claimed log base z) (sym (ap size_of same ∙ there.2)) (k.published base q.0 q.1)
+          let same = one_piece ((state_of pairs words (event ∷ log)).pieces base) p there.0 e
+          there.1 in
+          subst (λ z. Claimed log base z) (sym (ap size_of same ∙ there.2))
+          (k.published base q.0 q.1)
 
       -- a row that was held has the size that was held
       was_held : (base : ℕ) (p : Piece) → (state_of pairs words (event ∷ log)).pieces base ≡ Some p
           → (h : HeldRow) × Among h (state_of pairs words log).held × (h.base ≡ base)
           → Claimed log base (size_of p)
       was_held base p e h =
-          let here : (state_of pairs words (event ∷ log)).pieces h.0.base ≡ Some p = subst (λ b. (state_of pairs words (event ∷ log)).pieces b ≡ Some p) (sym h.2) e in
+          let here : (state_of pairs words (event ∷ log)).pieces h.0.base ≡ Some p = subst
+          (λ b. (state_of pairs words (event ∷ log)).pieces b ≡ Some p) (sym h.2) e in
           subst (λ b. Claimed log b (size_of p)) h.2
           (⊎_elim
           (λ w. ⊎_elim
-          (λ i. absurd (no_piece ((state_of pairs words (event ∷ log)).pieces h.0.base) p (v.unpublished h.0 i) here))
-          (λ there. subst (λ z. Claimed log h.0.base z) (sym (ap size_of (one_piece ((state_of pairs words (event ∷ log)).pieces h.0.base) p there.0 here there.1) ∙ there.2)) (k.held h.0 h.1))
+          (λ i. absurd (no_piece ((state_of pairs words (event ∷ log)).pieces h.0.base) p
+          (v.unpublished h.0 i) here))
+          (λ there. subst (λ z. Claimed log h.0.base z)
+          (sym (ap size_of (one_piece ((state_of pairs words (event ∷ log)).pieces h.0.base) p
+          there.0 here there.1) ∙ there.2)) (k.held h.0 h.1))
           w)
-          (λ l. absurd (no_piece ((state_of pairs words (event ∷ log)).pieces h.0.base) p (lost_free log event h.0.base l (s.unpublished h.0 h.1)) here))
+          (λ l. absurd (no_piece ((state_of pairs words (event ∷ log)).pieces h.0.base) p
+          (lost_free log event h.0.base l (s.unpublished h.0 h.1)) here))
           (m.fate h.0 h.1))
 
   placed_reserve : (log : Log) (c b z : ℕ) → IsPlaced log (state_of pairs words log)
@@ -227,8 +251,10 @@ module _ (pairs : List Pair) (words : ℕ) where
         held = λ h i.
             ⊎_elim
             (λ a. inr (k.held h a))
-            (λ a. ⊎_elim (λ e. inl (c, (refl, ap (λ x. x.base) (sym e), ap (λ x. x.size) (sym e)))) (λ n. absurd n) a)
-            (among-append h (state_of pairs words log).held (record { caller = c; base = b; size = z } ∷ []) i);
+            (λ a. ⊎_elim (λ e. inl (c, (refl, ap (λ x. x.base) (sym e), ap (λ x. x.size) (sym e))))
+            (λ n. absurd n) a)
+            (among-append h (state_of pairs words log).held
+            (record { caller = c; base = b; size = z } ∷ []) i);
       }
 
   -- the rows behind a log from a new table were set aside
@@ -241,7 +267,8 @@ module _ (pairs : List Pair) (words : ℕ) where
       let k = placed log h.0 in
       ⊎_elim
       (λ m. placed_moves log event s v k m)
-      (λ r. subst (λ e. IsPlaced (e ∷ log) (state_of pairs words (e ∷ log))) (sym r.is) (placed_reserve log r.caller r.base r.size k))
+      (λ r. subst (λ e. IsPlaced (e ∷ log) (state_of pairs words (e ∷ log))) (sym r.is)
+      (placed_reserve log r.caller r.base r.size k))
       (moves_or_reserves (start pairs words) log event h.1 s)
 
   -- no row lies at the anchor

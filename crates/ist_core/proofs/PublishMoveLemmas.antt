@@ -11,7 +11,8 @@ use Rattle.ist_core.proofs.RowLemmas.{changed_at-none, changed_at-some}
 use Rattle.ist_core.proofs.PublishingLemmas.{row_among, Publishes}
 use Rattle.ist_core.proofs.MoveLemmas.{IsSound, Moves, StandsWith, without-kept, without-fate, stays-changed_at}
 
-module _ (t : Snapshot) (caller : ℕ) (rows : List Row) (holds : HoldsRows t caller rows) (sound : IsSound t) where
+module _ (t : Snapshot) (caller : ℕ) (rows : List Row) (holds : HoldsRows t caller rows)
+    (sound : IsSound t) where
   -- the held row that is published
   held_row : Row → HeldRow
   held_row row = record { caller = caller; base = row.base; size = length row.words }
@@ -53,20 +54,27 @@ module _ (t : Snapshot) (caller : ℕ) (rows : List Row) (holds : HoldsRows t ca
         next = next;
         from = λ base p e.
             let it = changed_at-some qs at base f p (subst (λ ps. ps base ≡ Some p) pieces e) in
-            ⊎_elim (λ stood. inl (it.0, stood)) (λ w. inr (held_row w.0, is_held w.0 w.1, w.2)) (publishes.from base it.0 it.1);
+            ⊎_elim (λ stood. inl (it.0, stood)) (λ w. inr (held_row w.0, is_held w.0 w.1, w.2))
+            (publishes.from base it.0 it.1);
         kept = λ h i. (without-kept (bases_of rows) t.held h (subst (λ hs. Among h hs) held i)).0;
         unpublished = λ h i e.
             let out = (without-kept (bases_of rows) t.held h (subst (λ hs. Among h hs) held i)).1 in
-            subst (λ ps. ps h.base ≡ None) (sym pieces) (changed_at-none qs at h.base f (publishes.others h.base out ∙ e));
+            subst (λ ps. ps h.base ≡ None) (sym pieces)
+            (changed_at-none qs at h.base f (publishes.others h.base out ∙ e));
         stays = λ base p e.
-            subst (λ ps. StandsWith ps base (size_of p)) (sym pieces) (stays-changed_at qs at f same base p (publishes.others base (stood_elsewhere base p e) ∙ e));
+            subst (λ ps. StandsWith ps base (size_of p)) (sym pieces)
+            (stays-changed_at qs at f same base p
+            (publishes.others base (stood_elsewhere base p e) ∙ e));
         fate = λ h i.
             ⊎_elim
             (λ k. inl (inl (subst (λ hs. Among h hs) (sym held) k)))
             (λ k.
             let row = row_among h.base rows k in
-            let there = subst (λ b. (p : Piece) × (qs b ≡ Some p)) row.2 (publishes.named row.0 row.1) in
+            let there = subst (λ b. (p : Piece) × (qs b ≡ Some p)) row.2
+            (publishes.named row.0 row.1) in
             let size = same_size qs publishes h i there.0 there.1 k in
-            inl (inr (subst (λ ps. StandsWith ps h.base h.size) (sym pieces) (subst (λ n. StandsWith (changed_at qs at f) h.base n) size (stays-changed_at qs at f same h.base there.0 there.1)))))
+            inl (inr (subst (λ ps. StandsWith ps h.base h.size) (sym pieces)
+            (subst (λ n. StandsWith (changed_at qs at f) h.base n) size
+            (stays-changed_at qs at f same h.base there.0 there.1)))))
             (without-fate (bases_of rows) t.held h i);
       }

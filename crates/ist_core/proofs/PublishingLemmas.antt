@@ -56,18 +56,22 @@ pub stands-with_row : (ps : Pieces) (base at : ℕ) (o : Option Piece) → Stand
     → Stands (with_row ps base o) at
 stands-with_row ps base at None h = h
 stands-with_row ps base at (Some p) h =
-    elim (at == base) as (λ v. Stands (λ b. if v then Some p else ps at) at) [ true ↦ (p, refl) | false ↦ h ]
+    elim (at == base) as (λ v. Stands (λ b. if v then Some p else ps at) at)
+    [ true ↦ (p, refl) | false ↦ h ]
 
 pub stands_here : (ps : Pieces) (base : ℕ) (o : Option Piece) (p : Piece) → o ≡ Some p
     → Stands (with_row ps base o) base
-stands_here ps base o p e = subst (λ x. Stands (with_row ps base x) base) (sym e) (p, with_row-same ps base p)
+stands_here ps base o p e = subst (λ x. Stands (with_row ps base x) base) (sym e)
+    (p, with_row-same ps base p)
 
 -- ---- publishing
 
--- the rows are published: what stands behind that stood there or is one of them, and each of them stands there
+-- the rows are published: what stands behind that stood there or is one of them, and each of them
+-- stands there
 pub record Publishes (ps : Pieces) (rows : List Row) (qs : Pieces) : Type 0 where
   pub from : (base : ℕ) (q : Piece) → qs base ≡ Some q
-      → (ps base ≡ Some q) ⊎ ((row : Row) × Among row rows × (row.base ≡ base) × (size_of q ≡ length row.words))
+      → (ps base ≡ Some q) ⊎ ((row : Row) × Among row rows × (row.base ≡ base) ×
+      (size_of q ≡ length row.words))
   pub others : (base : ℕ) → ¬ (Among base (bases_of rows)) → qs base ≡ ps base
   pub named : (row : Row) → Among row rows → Stands qs row.base
 
@@ -78,21 +82,28 @@ pub publishes-with_inners : (ps : Pieces) (rows : List Row)
 publishes-with_inners ps rows all =
     record {
       from = λ base q e.
-          ⊎_elim (λ w. inr (w.0, w.1, w.2, size_of-inner_of w.0.words q w.3)) (λ there. inl there) (with_inners-some ps rows base q e);
+          ⊎_elim (λ w. inr (w.0, w.1, w.2, size_of-inner_of w.0.words q w.3)) (λ there. inl there)
+          (with_inners-some ps rows base q e);
       others = λ base out. with_inners-other ps rows base out;
-      named = λ row i. each-among (λ base. Stands (with_inners ps rows) base) row.base (bases_of rows) all (base_among row rows i);
+      named = λ row i. each-among (λ base. Stands (with_inners ps rows) base) row.base
+          (bases_of rows) all (base_among row rows i);
     }
 
 -- the inner rows of an ideal subtree stand
 mutual
-  pub ideal_stands : (ps : Pieces) (ref : Ref) (leaves : List PlacedLeaf) (above : ℕ) (rows : List ℕ)
+  pub ideal_stands : (ps : Pieces) (ref : Ref) (leaves : List PlacedLeaf) (above : ℕ)
+      (rows : List ℕ)
       → IsIdeal ps ref leaves above rows → Each (λ base. Stands ps base) rows
   ideal_stands ps _ _ _ _ of_none = tt
   ideal_stands ps _ _ _ _ (of_one same e) = tt
-  ideal_stands ps _ _ _ _ (of_more {base = base} {rows = rows} r top below) = ((Inner r, top.published), parts_stand ps r.slots _ base rows below)
+  ideal_stands ps _ _ _ _ (of_more {base = base} {rows = rows} r top below) =
+      ((Inner r, top.published), parts_stand ps r.slots _ base rows below)
 
-  parts_stand : (ps : Pieces) (words : List ℕ) (parts : List (List PlacedLeaf)) (above : ℕ) (rows : List ℕ)
+  parts_stand : (ps : Pieces) (words : List ℕ) (parts : List (List PlacedLeaf)) (above : ℕ)
+      (rows : List ℕ)
       → AreIdeal ps words parts above rows → Each (λ base. Stands ps base) rows
   parts_stand ps _ _ _ _ no_part = tt
-  parts_stand ps _ _ _ _ (one_part {word = word} {above = above} {words = words} {here = here} {rest = rest} {part = part} {behind = behind} ref e first more) =
-      each_append (λ base. Stands ps base) here rest (ideal_stands ps ref part above here first) (parts_stand ps words behind above rest more)
+  parts_stand ps _ _ _ _ (one_part {word = word} {above = above} {words = words} {here = here}
+      {rest = rest} {part = part} {behind = behind} ref e first more) =
+      each_append (λ base. Stands ps base) here rest (ideal_stands ps ref part above here first)
+      (parts_stand ps words behind above rest more)

@@ -19,7 +19,17 @@ use Rattle.ist_core.specs.ExampleLogs.{put_rows, put_reserved, put_installed, pu
 
 -- the change, with a decision
 abbrev the_put : ℕ → ChangeRow
-the_put decision = record { decision = decision; kind = put_kind; node = 2; index = 0; from = 0; to = 33; owner = 0; key = 1; value = 1 }
+the_put decision = record {
+  decision = decision;
+  kind = put_kind;
+  node = 2;
+  index = 0;
+  from = 0;
+  to = 33;
+  owner = 0;
+  key = 1;
+  value = 1;
+}
 
 abbrev empty : Snapshot
 empty = start [] 15
@@ -38,7 +48,14 @@ leaf_reserved =
       known = omega arith;
       base_is = refl;
       room = omega arith;
-      fair = record { building = []; spare = 2 ∷ []; merge = from_right 2 at_end; builds = no_build; few = (inl refl, tt); one_each = ((λ k. k), tt) };
+      fair = record {
+        building = [];
+        spare = 2 ∷ [];
+        merge = from_right 2 at_end;
+        builds = no_build;
+        few = (inl refl, tt);
+        one_each = ((λ k. k), tt);
+      };
     }
 
 change_reserved : CanReserve (state empty (Reserve 0 4 2 ∷ Enter 0 ∷ [])) 0 6 9
@@ -89,16 +106,39 @@ installed =
 
 okayed : CanOkay (state empty put_installed) 0 6
 unfolding rows_within
-okayed = record { known = omega arith; change = the_put 0; pending = record { published = refl; unset = refl }; node_open = anchor_is refl }
+okayed = record {
+  known = omega arith;
+  change = the_put 0;
+  pending = record
+      { published = refl; unset = refl };
+  node_open = anchor_is refl;
+}
 
 decided : CanDecide (state empty (Okay 0 6 ∷ put_installed)) (Okay 0 6 ∷ put_installed) 0 6 true
 unfolding rows_within
-decided = record { known = omega arith; change = the_put 0; pending = record { published = refl; unset = refl }; outcome = inl refl }
+decided = record {
+  known = omega arith;
+  change = the_put 0;
+  pending = record
+      { published = refl; unset = refl };
+  outcome = inl refl;
+}
 
 resolved : CanResolve (state empty put_decided) 0 6
 unfolding rows_within
-resolved = record { known = omega arith; change = the_put 1; published = refl; decided = λ e. omega arith; in_slot = in_anchor refl refl refl }
+resolved = record {
+  known = omega arith;
+  change = the_put 1;
+  published = refl;
+  decided = λ e. omega
+      arith;
+  in_slot = in_anchor refl refl refl;
+}
 
 -- the log is lawful
 pub put_is_lawful : Lawful [] 15 put_resolved
-put_is_lawful = record { opens = opens; enabled = (((((((tt, entered), leaf_reserved), change_reserved), installed), okayed), decided), resolved) }
+put_is_lawful = record {
+  opens = opens;
+  enabled =
+      (((((((tt, entered), leaf_reserved), change_reserved), installed), okayed), decided), resolved);
+}

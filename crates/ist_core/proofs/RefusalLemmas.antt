@@ -29,8 +29,10 @@ pub none_refused-changed_at : (ps : Pieces) (at : ℕ) (f : Piece → Piece)
     → ((p : Piece) → NotRefused p → NotRefused (f p)) → NoneRefused ps
     → NoneRefused (changed_at ps at f)
 none_refused-changed_at ps at f keeps all base q e =
-    elim (base == at) as (λ b. (if b then option_map f (ps base) else ps base) ≡ Some q → NotRefused q) [
-      | true ↦ λ found. let it = mapped f (ps base) q found in subst NotRefused it.2 (keeps it.0 (all base it.0 it.1))
+    elim (base == at) as (λ b. (if b then option_map f (ps base) else ps base) ≡ Some q → NotRefused
+    q) [
+      | true ↦ λ found. let it = mapped f (ps base) q found in subst NotRefused it.2
+          (keeps it.0 (all base it.0 it.1))
       | false ↦ λ found. all base q found
     ] e
 

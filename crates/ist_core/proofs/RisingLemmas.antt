@@ -1,4 +1,5 @@
--- Lists whose keys rise, cut into parts: the child for a key among the first keys of the parts. Serves the order law.
+-- Lists whose keys rise, cut into parts: the child for a key among the first keys of the parts.
+-- Serves the order law.
 use Rattle.std.proofs.Common.{◌≡◌, ℕ, zero, suc, ◌+◌, ◌<◌, ◌≤◌, ◌⊎◌, nat_le, true, false, cond, List, [], ◌∷◌, ◌++◌, length, take, drop, slice_get, Some, refl, sym, ap, ◌∙◌, subst, inl, inr, ⊎_elim, arith, length-drop}
 use Rattle.std.proofs.lemmas.Bool.Decides.{leb_tells}
 use Rattle.std.proofs.lemmas.List.{length-take-le}
@@ -21,7 +22,8 @@ child_count-low k ks x h = at (leb_tells k x) (sum_by-cons (λ key. cond (nat_le
     at : ((nat_le k x ≡ true) × (k ≤ x)) ⊎ ((nat_le k x ≡ false) × (x < k))
         → child_count (k ∷ ks) x ≡ cond (nat_le k x) 1 0 + child_count ks x
         → child_count (k ∷ ks) x ≡ child_count ks x + 1
-    at (inl e) f = let one : child_count (k ∷ ks) x ≡ 1 + child_count ks x = subst (λ b. child_count (k ∷ ks) x ≡ cond b 1 0 + child_count ks x) e.0 f in omega arith
+    at (inl e) f = let one : child_count (k ∷ ks) x ≡ 1 + child_count ks x = subst
+        (λ b. child_count (k ∷ ks) x ≡ cond b 1 0 + child_count ks x) e.0 f in omega arith
     at (inr e) f = let high = e.1 in absurd (omega arith)
 
 -- one above it doesn't
@@ -33,7 +35,8 @@ child_count-high k ks x h = at (leb_tells k x) (sum_by-cons (λ key. cond (nat_l
         → child_count (k ∷ ks) x ≡ cond (nat_le k x) 1 0 + child_count ks x
         → child_count (k ∷ ks) x ≡ child_count ks x
     at (inl e) f = let low = e.1 in absurd (omega arith)
-    at (inr e) f = let none : child_count (k ∷ ks) x ≡ 0 + child_count ks x = subst (λ b. child_count (k ∷ ks) x ≡ cond b 1 0 + child_count ks x) e.0 f in omega arith
+    at (inr e) f = let none : child_count (k ∷ ks) x ≡ 0 + child_count ks x = subst
+        (λ b. child_count (k ∷ ks) x ≡ cond b 1 0 + child_count ks x) e.0 f in omega arith
 
 -- where each key is above it, the child is the first
 pub child_count-none : (ks : List ℕ) (x : ℕ) → Each (λ k. x < k) ks → child_count ks x ≡ 0
@@ -48,15 +51,19 @@ child_count_rises (k ∷ ks) x y h = at (leb_tells k x) (leb_tells k y) (child_c
     at : ((nat_le k x ≡ true) × (k ≤ x)) ⊎ ((nat_le k x ≡ false) × (x < k))
         → ((nat_le k y ≡ true) × (k ≤ y)) ⊎ ((nat_le k y ≡ false) × (y < k))
         → child_count ks x ≤ child_count ks y → child_count (k ∷ ks) x ≤ child_count (k ∷ ks) y
-    at (inl e) (inl f) rest = let one = child_count-low k ks x e.1 in let two = child_count-low k ks y f.1 in omega arith
+    at (inl e) (inl f) rest = let one = child_count-low k ks x e.1 in let two = child_count-low k ks
+        y f.1 in omega arith
     at (inl e) (inr f) rest = let low = e.1 in let high = f.1 in absurd (omega arith)
-    at (inr e) (inl f) rest = let one = child_count-high k ks x e.1 in let two = child_count-low k ks y f.1 in omega arith
-    at (inr e) (inr f) rest = let one = child_count-high k ks x e.1 in let two = child_count-high k ks y f.1 in omega arith
+    at (inr e) (inl f) rest = let one = child_count-high k ks x e.1 in let two = child_count-low k
+        ks y f.1 in omega arith
+    at (inr e) (inr f) rest = let one = child_count-high k ks x e.1 in let two = child_count-high k
+        ks y f.1 in omega arith
 
 -- so a key of an earlier child is smaller
 pub child_count_tells : (ks : List ℕ) (x y : ℕ) → child_count ks x < child_count ks y → x < y
 child_count_tells ks x y h =
-    ⊎_elim (λ e. let more = child_count_rises ks y x e.1 in absurd (omega arith)) (λ e. e.1) (leb_tells y x)
+    ⊎_elim (λ e. let more = child_count_rises ks y x e.1 in absurd (omega arith)) (λ e. e.1)
+    (leb_tells y x)
 
 -- ---- rising lists
 
@@ -108,19 +115,25 @@ module _ {A : Type 0} (key : A → ℕ) where
 
   pub each_of_cut : (P : A → Type 0) (ns : List ℕ) (xs : List A) → Each P xs → EachOf P (cut ns xs)
   each_of_cut P [] xs h = tt
-  each_of_cut P (n ∷ ns) xs h = (each_take P n xs h, each_of_cut P ns (drop n xs) (each_drop P n xs h))
+  each_of_cut P (n ∷ ns) xs h = (
+    each_take P n xs h,
+    each_of_cut P ns (drop n xs)
+        (each_drop P n xs h),
+  )
 
   -- what is true of each element of each part is true of those of one part
   pub part_of_each : (P : A → Type 0) (ps : List (List A)) (j : ℕ) (part : List A) → EachOf P ps
       → slice_get ps j ≡ Some part → Each P part
   part_of_each P [] j part h e = absurd (cc)
-  part_of_each P (p ∷ ps) zero part h e = let same : p ≡ part = cc in subst (λ xs. Each P xs) same h.0
+  part_of_each P (p ∷ ps) zero part h e = let same : p ≡ part = cc in subst (λ xs. Each P xs) same
+      h.0
   part_of_each P (p ∷ ps) (suc j) part h e = part_of_each P ps j part h.1 e
 
   -- the keys of parts rise, none of which is empty
   abbrev pub PartsRise : List (List A) → Type 0
   PartsRise [] = Unit {0}
-  PartsRise (part ∷ ps) = (0 < length part) × Rises part × Each (λ x. EachOf (λ y. key x < key y) ps) part × PartsRise ps
+  PartsRise (part ∷ ps) = (0 < length part) × Rises part × Each
+      (λ x. EachOf (λ y. key x < key y) ps) part × PartsRise ps
 
   each_mapped : (P Q : A → Type 0) (xs : List A) → ((x : A) → P x → Q x) → Each P xs → Each Q xs
   each_mapped P Q [] f h = tt
@@ -136,14 +149,16 @@ module _ {A : Type 0} (key : A → ℕ) where
       let one = some.0 in (
         omega arith,
         rises_take n xs h,
-        each_mapped (λ x. Each (λ y. key x < key y) (drop n xs)) (λ x. EachOf (λ y. key x < key y) (cut ns (drop n xs))) (take n xs)
+        each_mapped (λ x. Each (λ y. key x < key y) (drop n xs))
+            (λ x. EachOf (λ y. key x < key y) (cut ns (drop n xs))) (take n xs)
             (λ x below. each_of_cut (λ y. key x < key y) ns (drop n xs) below) (cut_below n xs h),
         cut_rises ns (drop n xs) some.1 (omega arith) (rises_drop n xs h),
       )
 
   -- the parts of a rising list of two or more
   pub parts_rise : (xs : List A) → 2 ≤ length xs → Rises xs → PartsRise (parts xs)
-  parts_rise xs two h = cut_rises (part_lens (length xs)) xs (part_lens_some (length xs) two) (let whole = sum-part_lens (length xs) in omega arith) h
+  parts_rise xs two h = cut_rises (part_lens (length xs)) xs (part_lens_some (length xs) two)
+      (let whole = sum-part_lens (length xs) in omega arith) h
 
   -- so each of them rises
   pub part_rises : (ps : List (List A)) (j : ℕ) (part : List A) → PartsRise ps
@@ -173,8 +188,10 @@ module _ {A : Type 0} (key : A → ℕ) where
       let same : y ∷ ys ≡ part = cc in
       let here = subst (λ xs. Among x xs) (sym same) i in
       let above = each-among (λ z. EachOf (λ w. key z < key w) ps) x (y ∷ ys) h.2 here in
-      let low : key y ≤ key x = ⊎_elim (λ f. let g = ap key f in omega arith) (λ k. let g = each-among (λ z. key y < key z) x ys h.1.0 k in omega arith) here in
-      child_count-low (key y) (first_keys key ps) (key x) low ∙ ap (λ n. n + 1) (child_count-none (first_keys key ps) (key x) (first_keys_above x ps above)) ∙ omega arith
+      let low : key y ≤ key x = ⊎_elim (λ f. let g = ap key f in omega arith)
+      (λ k. let g = each-among (λ z. key y < key z) x ys h.1.0 k in omega arith) here in
+      child_count-low (key y) (first_keys key ps) (key x) low ∙ ap (λ n. n + 1)
+      (child_count-none (first_keys key ps) (key x) (first_keys_above x ps above)) ∙ omega arith
   child_among ((y ∷ ys) ∷ ps) (suc j) part x h e i =
       let below = part_of_each (λ z. key y < key z) ps j part h.2.0 e in
       let low = each-among (λ z. key y < key z) x part below i in
@@ -190,7 +207,8 @@ module _ {A : Type 0} (key : A → ℕ) where
   child_of_part (p ∷ ps) zero part x h e i =
       let same : p ≡ part = cc in
       child_count-none (first_keys key ps) (key x)
-      (first_keys_above x ps (each-among (λ z. EachOf (λ w. key z < key w) ps) x p h.2 (subst (λ xs. Among x xs) (sym same) i)))
+      (first_keys_above x ps (each-among (λ z. EachOf (λ w. key z < key w) ps) x p h.2
+      (subst (λ xs. Among x xs) (sym same) i)))
   child_of_part (p ∷ ps) (suc j) part x h e i = child_among ps j part x h.3 e i
 
 -- the numbers rise: each is below all behind it
@@ -202,7 +220,8 @@ pub first_keys_rise : {A : Type 0} (key : A → ℕ) (ps : List (List A)) → Pa
     → Rising (first_keys key ps)
 first_keys_rise key [] h = tt
 first_keys_rise key ([] ∷ ps) h = first_keys_rise key ps h.3
-first_keys_rise key ((x ∷ xs) ∷ ps) h = (first_keys_above key x ps h.2.0, first_keys_rise key ps h.3)
+first_keys_rise key ((x ∷ xs) ∷ ps) h =
+    (first_keys_above key x ps h.2.0, first_keys_rise key ps h.3)
 
 -- and so do those of all parts but the first
 pub first_keys_behind_rise : {A : Type 0} (key : A → ℕ) (ps : List (List A)) → PartsRise key ps

@@ -1,4 +1,5 @@
--- A table keeps its number of words, and its rows lie within it. Serves each law that reads a row's word as a reference.
+-- A table keeps its number of words, and its rows lie within it. Serves each law that reads a row's
+-- word as a reference.
 use Rattle.std.proofs.Common.{◌≡◌, ℕ, ◌≤◌, List, [], ◌∷◌, Option, Some, None, refl, ◌∙◌, arith}
 use Rattle.ist_core.specs.declared.pairs.Pair.{Pair}
 use Rattle.ist_core.specs.declared.lists.Row.{Row}
@@ -35,7 +36,8 @@ words-resolved t (Some change) = refl
 pub words-state : (first : Snapshot) (log : Log) (event : Event)
     → (state first (event ∷ log)).words ≡ (state first log).words
 words-state first log (Install caller change rows) = words-installed (state first log) change rows
-words-state first log (Resolve caller change) = words-resolved (state first log) (as_change ((state first log).pieces change))
+words-state first log (Resolve caller change) = words-resolved (state first log)
+    (as_change ((state first log).pieces change))
 words-state first log (Enter caller) = refl
 words-state first log (Reserve caller base size) = refl
 words-state first log (Okay caller change) = refl
@@ -53,12 +55,15 @@ words-state first log (Lose caller bases) = refl
 next_fits : (first : Snapshot) (log : Log) (event : Event) → Enabled first log event
     → (state first log).next ≤ (state first log).words
     → (state first (event ∷ log)).next ≤ (state first log).words
-next_fits first log (Reserve caller base size) h le = let is = h.base_is in let room = h.room in omega arith
+next_fits first log (Reserve caller base size) h le = let is = h.base_is in let room = h.room in
+    omega arith
 next_fits first log (Enter caller) h le = le
-next_fits first log (Install caller change rows) h le = let same = next-state first log (Install caller change rows) h in omega arith
+next_fits first log (Install caller change rows) h le = let same = next-state first log
+    (Install caller change rows) h in omega arith
 next_fits first log (Okay caller change) h le = le
 next_fits first log (Decide caller change said) h le = le
-next_fits first log (Resolve caller change) h le = let same = next-state first log (Resolve caller change) h in omega arith
+next_fits first log (Resolve caller change) h le = let same = next-state first log
+    (Resolve caller change) h in omega arith
 next_fits first log (Count caller node) h le = le
 next_fits first log (Mark caller node) h le = le
 next_fits first log (Pass caller node i word) h le = le
@@ -98,12 +103,14 @@ module _ (pairs : List Pair) (words : ℕ) (opens : CanOpen pairs words) where
   -- so does each published row
   pub published_good : (log : Log) (base : ℕ) (p : Piece) → EachEnabled (start pairs words) log
       → (state_of pairs words log).pieces base ≡ Some p → IsGoodBase base
-  published_good log base p h e = claimed_good log base (size_of p) h ((placed pairs words log h).published base p e)
+  published_good log base p h e = claimed_good log base (size_of p) h
+      ((placed pairs words log h).published base p e)
 
   -- and each held one
   pub held_good : (log : Log) (caller base size : ℕ) → EachEnabled (start pairs words) log
       → HoldsRow (state_of pairs words log) caller base size → IsGoodBase base
-  held_good log caller base size h i = claimed_good log base size h ((placed pairs words log h).held record { caller = caller; base = base; size = size } i)
+  held_good log caller base size h i = claimed_good log base size h
+      ((placed pairs words log h).held record { caller = caller; base = base; size = size } i)
 
 -- the word of a change at a good base is read back
 pub ref_of-change : (base : ℕ) → IsGoodBase base

@@ -52,9 +52,12 @@ root_in _ = unset_word
 pair_rootless : (key base other_key other : ℕ)
     → root_in (pair_row key base other_key other) ≡ unset_word
 pair_rootless key base other_key other =
-    elim (nat_lt other_key key) as (λ v. root_in (if v then pair_over key other base else pair_over other_key base other) ≡ unset_word) [ true ↦ refl | false ↦ refl ]
+    elim (nat_lt other_key key) as
+    (λ v. root_in (if v then pair_over key other base else pair_over other_key base other) ≡
+    unset_word) [ true ↦ refl | false ↦ refl ]
 
-installed_rootless : (first : Snapshot) (log : Log) (at : ℕ) (change : ChangeRow) (fresh : List Row) (fits : FitsKind first log change fresh) (base : ℕ) (p : Piece)
+installed_rootless : (first : Snapshot) (log : Log) (at : ℕ) (change : ChangeRow) (fresh : List Row)
+    (fits : FitsKind first log change fresh) (base : ℕ) (p : Piece)
     → IsInstalled first log at change fresh fits base p → root_in p ≡ unset_word
 installed_rootless first log at change fresh fits base p (inl h) = ap root_in h.1
 installed_rootless first log at change fresh (a_put f) base p (inr h) = ap root_in h.1
@@ -95,7 +98,15 @@ status_same word (Change r) = refl
 status_same word (Rebuild r) = refl
 
 root_rare : IsRare root_in unset_word
-root_rare = record { slot = slot_same; decision = decision_same; count = count_same; draw = draw_same; inner = λ r e. refl; install = installed_rootless }
+root_rare = record {
+  slot = slot_same;
+  decision = decision_same;
+  count = count_same;
+  draw =
+      draw_same;
+  inner = λ r e. refl;
+  install = installed_rootless;
+}
 
 start_rootless : (fuel base : ℕ) (pairs : List Pair)
     → Each (λ row. root_in row.1 ≡ unset_word) (rows_within fuel base pairs)
@@ -103,8 +114,12 @@ unfolding rows_within
 start_rootless fuel base [] = tt
 start_rootless fuel base (pair ∷ []) = (refl, tt)
 start_rootless zero base (pair ∷ more ∷ pairs) = tt
-start_rootless (suc fuel) base (pair ∷ more ∷ pairs) =
-    (refl, each-flat_map (λ row. root_in row.1 ≡ unset_word) (λ part. rows_within fuel part.0 part.1) (placed_parts base (pair ∷ more ∷ pairs)) (λ part. start_rootless fuel part.0 part.1))
+start_rootless (suc fuel) base (pair ∷ more ∷ pairs) = (
+  refl,
+  each-flat_map (λ row. root_in row.1 ≡ unset_word)
+      (λ part. rows_within fuel part.0 part.1) (placed_parts base (pair ∷ more ∷ pairs))
+      (λ part. start_rootless fuel part.0 part.1),
+)
 
 -- ---- the keys of a root
 
@@ -143,7 +158,8 @@ top_of ps word k leaves target rows (root_whole ref few e ideal) root is = at re
     at _ _ _ of_none e = absurd (cc)
     at _ _ _ (of_one f g) e = absurd (cc)
     at _ leaves _ (of_more {base = base} r top below) e = let here : base ≡ root = cc in (r, subst (λ b. IsTop ps b r leaves target) here top)
-top_of ps word k leaves target rows (root_top base row many e top unset one) root is = (row, subst (λ b. IsTop ps b row leaves target) (same (ref_of word) base root e is) top)
+top_of ps word k leaves target rows (root_top base row many e top unset one) root is =
+    (row, subst (λ b. IsTop ps b row leaves target) (same (ref_of word) base root e is) top)
   where
     same : (o : Option Ref) (a b : ℕ) → o ≡ Some (InnerAt a) → o ≡ Some (InnerAt b) → a ≡ b
     same o a b h k = cc
@@ -160,7 +176,12 @@ module _ (pairs : List Pair) (words : ℕ) (opens : CanOpen pairs words) where
       → IsCutBy (state_of pairs words (event ∷ log)) target s
   cut_stays log event h target r s keys cut =
       record {
-        finished = (cut.finished.0, finished_grows (state_of pairs words log) (state_of pairs words (event ∷ log)) target cut.finished.0 (step_grows log event h) cut.finished.1);
+        finished = (
+          cut.finished.0,
+          finished_grows (state_of pairs words log)
+              (state_of pairs words (event ∷ log)) target cut.finished.0 (step_grows log event h)
+              cut.finished.1,
+        );
         leaves = cut.leaves;
         reached = leaves_kept pairs words opens log event h target cut.leaves cut.finished cut.reached;
         two = cut.two;
@@ -224,16 +245,22 @@ module _ (pairs : List Pair) (words : ℕ) (opens : CanOpen pairs words) where
       → RootsAreCut (state_of pairs words (event ∷ log))
   by_step log event h plain cut base row root r there is published =
       old_root log event h cut base row root r there is published
-      (has_step root_in unset_word root_rare (start pairs words) log event h.1 (sound (start pairs words) log (sound_start pairs words) h.0) plain base row.root (root_set row.root root is) (Rebuild row, there, refl))
+      (has_step root_in unset_word root_rare (start pairs words) log event h.1
+      (sound (start pairs words) log (sound_start pairs words) h.0) plain base row.root
+      (root_set row.root root is) (Rebuild row, there, refl))
 
   cut_step : (log : Log) (event : Event) → EachEnabled (start pairs words) (event ∷ log)
       → RootsAreCut (state_of pairs words log) → RootsAreCut (state_of pairs words (event ∷ log))
   cut_step log (Mark caller node) h cut base row root r there is published =
       old_root log (Mark caller node) h cut base row root r there is published
-      (has_changed root_in unset_word root_rare (state_of pairs words log).pieces node (with_status marked_word) (status_same marked_word) base row.root (Rebuild row, there, refl))
+      (has_changed root_in unset_word root_rare (state_of pairs words log).pieces node
+      (with_status marked_word) (status_same marked_word) base row.root
+      (Rebuild row, there, refl))
   cut_step log (Finish caller node keys) h cut base row root r there is published =
       old_root log (Finish caller node keys) h cut base row root r there is published
-      (has_changed root_in unset_word root_rare (state_of pairs words log).pieces node (with_status (finished_word keys)) (status_same (finished_word keys)) base row.root (Rebuild row, there, refl))
+      (has_changed root_in unset_word root_rare (state_of pairs words log).pieces node
+      (with_status (finished_word keys)) (status_same (finished_word keys)) base row.root
+      (Rebuild row, there, refl))
   cut_step log (Root caller rebuild word rows) h cut base row root r there is published =
       let t = state_of pairs words log in
       let qs = with_inners t.pieces rows in
@@ -242,7 +269,8 @@ module _ (pairs : List Pair) (words : ℕ) (opens : CanOpen pairs words) where
       ⊎_elim
       (λ same.
       old_root log (Root caller rebuild word rows) h cut base row root r there is published
-      (has_rooted root_in unset_word root_rare t caller rebuild word rows h.1 s base row.root (root_set row.root root is) (it.0, it.1, ap root_in (sym same))))
+      (has_rooted root_in unset_word root_rare t caller rebuild word rows h.1 s base row.root
+      (root_set row.root root is) (it.0, it.1, ap root_in (sym same))))
       (λ new.
       let stood = (adds-with_inners t caller rows h.1.held s).keeps rebuild (Rebuild h.1.row) h.1.published in
       let old = one_piece (qs rebuild) it.0 (Rebuild h.1.row) (subst (λ b. qs b ≡ Some it.0) new.0 it.1) stood in
@@ -253,22 +281,32 @@ module _ (pairs : List Pair) (words : ℕ) (opens : CanOpen pairs words) where
     where
       rebuild_is : (x y : RebuildRow) → Rebuild x ≡ Rebuild y → x ≡ y
       rebuild_is x y e = cc
-  cut_step log (Install caller change rows) h cut base row root r there is published = by_step log (Install caller change rows) h tt cut base row root r there is published
-  cut_step log (Decide caller change said) h cut base row root r there is published = by_step log (Decide caller change said) h tt cut base row root r there is published
-  cut_step log (Resolve caller change) h cut base row root r there is published = by_step log (Resolve caller change) h tt cut base row root r there is published
+  cut_step log (Install caller change rows) h cut base row root r there is published = by_step log
+      (Install caller change rows) h tt cut base row root r there is published
+  cut_step log (Decide caller change said) h cut base row root r there is published = by_step log
+      (Decide caller change said) h tt cut base row root r there is published
+  cut_step log (Resolve caller change) h cut base row root r there is published = by_step log
+      (Resolve caller change) h tt cut base row root r there is published
   cut_step log (Count caller node) h cut base row root r there is published = by_step log (Count caller node) h tt cut base row root r there is published
-  cut_step log (Draw caller rebuild part) h cut base row root r there is published = by_step log (Draw caller rebuild part) h tt cut base row root r there is published
-  cut_step log (Place caller rebuild i word rows) h cut base row root r there is published = by_step log (Place caller rebuild i word rows) h tt cut base row root r there is published
+  cut_step log (Draw caller rebuild part) h cut base row root r there is published = by_step log
+      (Draw caller rebuild part) h tt cut base row root r there is published
+  cut_step log (Place caller rebuild i word rows) h cut base row root r there is published = by_step
+      log (Place caller rebuild i word rows) h tt cut base row root r there is published
   cut_step log (Enter caller) h cut base row root r there is published = by_step log (Enter caller) h tt cut base row root r there is published
-  cut_step log (Reserve caller b size) h cut base row root r there is published = by_step log (Reserve caller b size) h tt cut base row root r there is published
-  cut_step log (Okay caller change) h cut base row root r there is published = by_step log (Okay caller change) h tt cut base row root r there is published
-  cut_step log (Pass caller node i word) h cut base row root r there is published = by_step log (Pass caller node i word) h tt cut base row root r there is published
+  cut_step log (Reserve caller b size) h cut base row root r there is published = by_step log
+      (Reserve caller b size) h tt cut base row root r there is published
+  cut_step log (Okay caller change) h cut base row root r there is published = by_step log
+      (Okay caller change) h tt cut base row root r there is published
+  cut_step log (Pass caller node i word) h cut base row root r there is published = by_step log
+      (Pass caller node i word) h tt cut base row root r there is published
   cut_step log (Lose caller bases) h cut base row root r there is published = by_step log (Lose caller bases) h tt cut base row root r there is published
 
   -- the keys of each root are the first keys of the parts of its target's leaves
   pub roots_are_cut : (log : Log) → EachEnabled (start pairs words) log
       → RootsAreCut (state_of pairs words log)
   roots_are_cut [] h base row root r there is published =
-      let none = each-among (λ x. root_in x.1 ≡ unset_word) (base, Rebuild row) (rows_from first_row pairs) (start_rootless (length pairs) first_row pairs) (among-pieces_of (rows_from first_row pairs) base (Rebuild row) there) in
+      let none = each-among (λ x. root_in x.1 ≡ unset_word) (base, Rebuild row)
+      (rows_from first_row pairs) (start_rootless (length pairs) first_row pairs)
+      (among-pieces_of (rows_from first_row pairs) base (Rebuild row) there) in
       absurd (root_set row.root root is none)
   roots_are_cut (event ∷ log) h base row root r there is published = cut_step log event h (roots_are_cut log h.0) base row root r there is published

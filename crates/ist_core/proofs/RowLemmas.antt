@@ -46,12 +46,14 @@ changed_at-some ps base at f q e = grind (arith, nat_tests)
 -- where inner rows are published, what stands somewhere is one of them, or stood there
 pub with_inners-some : (ps : Pieces) (rows : List Row) (at : ℕ) (q : Piece)
     → with_inners ps rows at ≡ Some q
-    → ((row : Row) × Among row rows × (row.base ≡ at) × (inner_of row.words ≡ Some q)) ⊎ (ps at ≡ Some q)
+    → ((row : Row) × Among row rows × (row.base ≡ at) × (inner_of row.words ≡ Some q)) ⊎
+    (ps at ≡ Some q)
 with_inners-some ps [] at q e = inr e
 with_inners-some ps (row ∷ rows) at q e =
     ⊎_elim
     (λ here. inl (row, inl refl, sym here.0, here.1))
-    (λ there. ⊎_elim (λ w. inl (w.0, inr w.1, w.2, w.3)) (λ w. inr w) (with_inners-some ps rows at q there))
+    (λ there. ⊎_elim (λ w. inl (w.0, inr w.1, w.2, w.3)) (λ w. inr w)
+    (with_inners-some ps rows at q there))
     (with_row-some (with_inners ps rows) row.base at (inner_of row.words) q e)
 
 -- and where none of them lies, what stood there stands there
@@ -59,4 +61,5 @@ pub with_inners-other : (ps : Pieces) (rows : List Row) (at : ℕ) → ¬ (Among
     → with_inners ps rows at ≡ ps at
 with_inners-other ps [] at out = refl
 with_inners-other ps (row ∷ rows) at out =
-    with_row-other (with_inners ps rows) row.base at (inner_of row.words) (λ e. out (inl e)) ∙ with_inners-other ps rows at (λ i. out (inr i))
+    with_row-other (with_inners ps rows) row.base at (inner_of row.words) (λ e. out (inl e)) ∙
+    with_inners-other ps rows at (λ i. out (inr i))

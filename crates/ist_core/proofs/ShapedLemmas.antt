@@ -1,4 +1,5 @@
--- The conjunct `shaped`: an inner row has as many slots as its degree says, and one key less. Serves the image law.
+-- The conjunct `shaped`: an inner row has as many slots as its degree says, and one key less.
+-- Serves the image law.
 use Rattle.std.proofs.Common.{◌≡◌, ℕ, zero, suc, ◌+◌, nat_lt, if◌then◌else◌, true, false, List, [], ◌∷◌, length, replicate, Some, refl, sym, ap, ◌∙◌, subst, inl, inr, arith}
 use Rattle.std.specs.List.{flat_map}
 use Rattle.ist_core.specs.declared.pairs.Pair.{Pair}
@@ -41,7 +42,11 @@ IsShaped _ = Unit {0}
 -- growing keeps the shape
 pub grows_shaped : (p q : Piece) → Grows p q → IsShaped p → IsShaped q
 grows_shaped _ _ leaf_stays h = tt
-grows_shaped _ _ (inner_grows {old = r} {new = s} g) h = record { keys = ap (λ ks. length ks + 1) g.keys ∙ h.keys ∙ sym g.degree; slots = g.slots ∙ h.slots ∙ sym g.degree }
+grows_shaped _ _ (inner_grows {old = r} {new = s} g) h = record {
+  keys = ap (λ ks. length ks + 1) g.keys ∙ h.keys ∙ sym g.degree;
+  slots = g.slots ∙ h.slots ∙
+      sym g.degree;
+}
 grows_shaped _ _ (change_grows g) h = tt
 grows_shaped _ _ (rebuild_grows g) h = tt
 
@@ -50,7 +55,8 @@ grows_shaped _ _ (rebuild_grows g) h = tt
 -- a pair row has two slots and one key
 pair_shaped : (key base other_key other : ℕ) → IsShaped (pair_row key base other_key other)
 pair_shaped key base other_key other =
-    elim (nat_lt other_key key) as (λ v. IsShaped (if v then pair_over key other base else pair_over other_key base other)) [
+    elim (nat_lt other_key key) as
+    (λ v. IsShaped (if v then pair_over key other base else pair_over other_key base other)) [
       | true ↦ record { keys = refl; slots = refl }
       | false ↦ record { keys = refl; slots = refl }
     ]
@@ -60,8 +66,10 @@ installed_shaped : (first : Snapshot) (log : Log) (at : ℕ) (change : ChangeRow
     → IsInstalled first log at change fresh fits base p → IsShaped p
 installed_shaped first log at change fresh fits base p (inl h) = subst IsShaped (sym h.1) tt
 installed_shaped first log at change fresh (a_put f) base p (inr h) = subst IsShaped (sym h.1) tt
-installed_shaped first log at change fresh (a_pair f) base p (inr (inl h)) = subst IsShaped (sym h.1) (pair_shaped change.key f.leaf f.other_key f.other)
-installed_shaped first log at change fresh (a_pair f) base p (inr (inr h)) = subst IsShaped (sym h.1) tt
+installed_shaped first log at change fresh (a_pair f) base p (inr (inl h)) = subst IsShaped
+    (sym h.1) (pair_shaped change.key f.leaf f.other_key f.other)
+installed_shaped first log at change fresh (a_pair f) base p (inr (inr h)) = subst IsShaped
+    (sym h.1) tt
 installed_shaped first log at change fresh (a_remove f) base p (inr h) = absurd h
 installed_shaped first log at change fresh (a_start f) base p (inr h) = subst IsShaped (sym h.1) tt
 installed_shaped first log at change fresh (a_finish f) base p (inr h) = absurd h
@@ -78,24 +86,33 @@ slots_of_parts : (ps : Pieces) (words : List ℕ) (behind : List (List PlacedLea
     (rows : List ℕ)
     → AreIdeal ps words behind above rows → length words ≡ length behind
 slots_of_parts ps _ _ above _ no_part = refl
-slots_of_parts ps _ _ above _ (one_part {words = words} {rest = rest} {behind = behind} ref e first more) = let rest_same = slots_of_parts ps words behind above rest more in omega arith
+slots_of_parts ps _ _ above _ (one_part {words = words} {rest = rest} {behind = behind} ref e first
+    more) = let rest_same = slots_of_parts ps words behind above rest more in omega arith
 
 -- the top row of an ideal subtree with as many slots as it has parts
 top_shaped : (ps : Pieces) (base : ℕ) (r : InnerRow) (leaves : List PlacedLeaf) (above : ℕ)
     → IsTop ps base r leaves above → length r.slots ≡ degree (length leaves) → HasDegree r
 top_shaped ps base r leaves above top slots =
     record {
-      keys = ap (λ ks. length ks + 1) top.keys ∙ keys_of_parts (λ leaf. leaf.row.key) leaves top.two ∙ sym top.degree;
+      keys = ap (λ ks. length ks + 1) top.keys ∙ keys_of_parts (λ leaf. leaf.row.key) leaves top.two
+          ∙ sym top.degree;
       slots = slots ∙ sym top.degree;
     }
 
 mutual
-  pub ideal_shaped : (ps : Pieces) (ref : Ref) (leaves : List PlacedLeaf) (above : ℕ) (rows : List ℕ)
+  pub ideal_shaped : (ps : Pieces) (ref : Ref) (leaves : List PlacedLeaf) (above : ℕ)
+      (rows : List ℕ)
       → IsIdeal ps ref leaves above rows → Each (StandsShaped ps) rows
   ideal_shaped ps _ _ _ _ of_none = tt
   ideal_shaped ps _ _ _ _ (of_one same e) = tt
   ideal_shaped ps _ _ above _ (of_more {base = base} {leaves = leaves} {rows = rows} r top below) = (
-    record { row = r; published = top.published; shaped = top_shaped ps base r leaves above top (slots_of_parts ps r.slots (parts leaves) base rows below ∙ length-parts leaves); untouched = top.status },
+    record {
+      row = r;
+      published = top.published;
+      shaped = top_shaped ps base r leaves above top
+          (slots_of_parts ps r.slots (parts leaves) base rows below ∙ length-parts leaves);
+      untouched = top.status;
+    },
     parts_shaped ps r.slots (parts leaves) base rows below,
   )
 
@@ -103,8 +120,10 @@ mutual
       (rows : List ℕ)
       → AreIdeal ps words behind above rows → Each (StandsShaped ps) rows
   parts_shaped ps _ _ _ _ no_part = tt
-  parts_shaped ps _ _ above _ (one_part {words = words} {here = here} {rest = rest} {part = part} {behind = behind} ref e first more) =
-      each_append (StandsShaped ps) here rest (ideal_shaped ps ref part above here first) (parts_shaped ps words behind above rest more)
+  parts_shaped ps _ _ above _ (one_part {words = words} {here = here} {rest = rest} {part = part}
+      {behind = behind} ref e first more) =
+      each_append (StandsShaped ps) here rest (ideal_shaped ps ref part above here first)
+      (parts_shaped ps words behind above rest more)
 
 length_unset : (n : ℕ) → length (replicate n unset_word) ≡ n
 length_unset zero = refl
@@ -113,23 +132,38 @@ length_unset (suc n) = let rest = length_unset n in omega arith
 -- so is each inner row of a root
 pub root_shaped : (ps : Pieces) (word k : ℕ) (leaves : List PlacedLeaf) (target : ℕ) (rows : List ℕ)
     → IsRoot ps word k leaves target rows → Each (StandsShaped ps) rows
-root_shaped ps word k leaves target rows (root_whole ref few e ideal) = ideal_shaped ps ref leaves target rows ideal
+root_shaped ps word k leaves target rows (root_whole ref few e ideal) = ideal_shaped ps ref leaves
+    target rows ideal
 root_shaped ps word k leaves target rows (root_top base row many e top unset one) =
-    subst (λ bs. Each (StandsShaped ps) bs) (sym one)
-    (record { row = row; published = top.published; shaped = top_shaped ps base row leaves target top (ap length unset ∙ length_unset (degree (length leaves))); untouched = top.status }, tt)
+    subst (λ bs. Each (StandsShaped ps) bs) (sym one) (
+      record {
+        row = row;
+        published = top.published;
+        shaped = top_shaped ps base row leaves target
+            top (ap length unset ∙ length_unset (degree (length leaves)));
+        untouched = top.status;
+      },
+      tt,
+    )
 
 tree_shaped : (ps : Pieces) (rows : List ℕ) (base : ℕ) (p : Piece) → Each (StandsShaped ps) rows
     → Among base rows → ps base ≡ Some p → IsShaped p
-tree_shaped ps rows base p all i e = let it = each-among (StandsShaped ps) base rows all i in known IsShaped (ps base) p (Inner it.row) e it.published it.shaped
+tree_shaped ps rows base p all i e = let it = each-among (StandsShaped ps) base rows all i in known
+    IsShaped (ps base) p (Inner it.row) e it.published it.shaped
 
 -- each row that an event publishes has its shape
 born_shaped : (first : Snapshot) (log : Log) (event : Event) (base : ℕ) (p : Piece)
     → Enabled first log event → Born first log base p event → IsShaped p
-born_shaped first log _ base p can (by_install {change = at} h born) = installed_shaped first log at h.change h.fresh h.fits base p born
+born_shaped first log _ base p can (by_install {change = at} h born) = installed_shaped first log at
+    h.change h.fresh h.fits base p born
 born_shaped first log _ base p can (by_root {word = word} {rows = rows} i e) =
-    tree_shaped (with_inners (state first log).pieces rows) (bases_of rows) base p (root_shaped (with_inners (state first log).pieces rows) word can.k can.leaves can.row.target (bases_of rows) can.root) i e
+    tree_shaped (with_inners (state first log).pieces rows) (bases_of rows) base p
+    (root_shaped (with_inners (state first log).pieces rows) word can.k can.leaves
+    can.row.target (bases_of rows) can.root) i e
 born_shaped first log _ base p can (by_place {rows = rows} i e) =
-    tree_shaped (with_inners (state first log).pieces rows) (bases_of rows) base p (ideal_shaped (with_inners (state first log).pieces rows) can.ref can.part can.root (bases_of rows) can.ideal) i e
+    tree_shaped (with_inners (state first log).pieces rows) (bases_of rows) base p
+    (ideal_shaped (with_inners (state first log).pieces rows) can.ref can.part can.root
+    (bases_of rows) can.ideal) i e
 
 -- ---- a new table
 
@@ -138,7 +172,8 @@ module _ {A B : Type 0} where
   pub each-flat_map : (P : B → Type 0) (f : A → List B) (xs : List A) → ((x : A) → Each P (f x))
       → Each P (flat_map f xs)
   each-flat_map P f [] all = tt
-  each-flat_map P f (x ∷ xs) all = each_append P (f x) (flat_map f xs) (all x) (each-flat_map P f xs all)
+  each-flat_map P f (x ∷ xs) all = each_append P (f x) (flat_map f xs) (all x)
+      (each-flat_map P f xs all)
 
 rows_shaped : (fuel base : ℕ) (pairs : List Pair)
     → Each (λ row. IsShaped row.1) (rows_within fuel base pairs)
@@ -148,19 +183,29 @@ rows_shaped fuel base (pair ∷ []) = (tt, tt)
 rows_shaped zero base (pair ∷ more ∷ pairs) = tt
 rows_shaped (suc fuel) base (pair ∷ more ∷ pairs) =
     let all = pair ∷ more ∷ pairs in (
-      record { keys = keys_of_parts (λ p. p.key) all (omega arith); slots = slots_of-top_row base all },
-      each-flat_map (λ row. IsShaped row.1) (λ part. rows_within fuel part.0 part.1) (placed_parts base all) (λ part. rows_shaped fuel part.0 part.1),
+      record {
+        keys = keys_of_parts (λ p. p.key) all (omega arith);
+        slots = slots_of-top_row base
+            all;
+      },
+      each-flat_map (λ row. IsShaped row.1) (λ part. rows_within fuel part.0 part.1)
+          (placed_parts base all) (λ part. rows_shaped fuel part.0 part.1),
     )
 
 -- each row behind a log from a new table has its shape
 pub shaped : (pairs : List Pair) (words : ℕ) (log : Log) → EachEnabled (start pairs words) log
     → (base : ℕ) (p : Piece) → (state_of pairs words log).pieces base ≡ Some p → IsShaped p
 shaped pairs words [] h base p e =
-    each-among (λ row. IsShaped row.1) (base, p) (rows_from first_row pairs) (rows_shaped (length pairs) first_row pairs) (among-pieces_of (rows_from first_row pairs) base p e)
+    each-among (λ row. IsShaped row.1) (base, p) (rows_from first_row pairs)
+    (rows_shaped (length pairs) first_row pairs)
+    (among-pieces_of (rows_from first_row pairs) base p e)
 shaped pairs words (event ∷ log) h base q e =
-    at (λ p there. shaped pairs words log h.0 base p there) (comes (start pairs words) log event h.1 (sound (start pairs words) log (sound_start pairs words) h.0) base q e)
+    at (λ p there. shaped pairs words log h.0 base p there)
+    (comes (start pairs words) log event h.1
+    (sound (start pairs words) log (sound_start pairs words) h.0) base q e)
   where
     at : ((p : Piece) → (state_of pairs words log).pieces base ≡ Some p → IsShaped p)
         → Comes (start pairs words) log event base q → IsShaped q
     at before (from_old p there g) = grows_shaped p q g (before p there)
-    at before (from_born p born g) = grows_shaped p q g (born_shaped (start pairs words) log event base p h.1 born)
+    at before (from_born p born g) = grows_shaped p q g
+        (born_shaped (start pairs words) log event base p h.1 born)

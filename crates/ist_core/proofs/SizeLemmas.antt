@@ -15,7 +15,12 @@ use Rattle.ist_core.proofs.ElementLemmas.{each_append, each-append, each-among}
 pub size_of-with_slot : (i word : ℕ) (p : Piece) → size_of (with_slot i word p) ≡ size_of p
 size_of-with_slot i word (Leaf r) = refl
 size_of-with_slot i word (Inner r) =
-    omega (arith, length-append r.keys (slice_set r.slots i word), length-append r.keys r.slots, length-set r.slots i word)
+    omega (
+      arith,
+      length-append r.keys (slice_set r.slots i word),
+      length-append r.keys r.slots,
+      length-set r.slots i word,
+    )
 size_of-with_slot i word (Change r) = refl
 size_of-with_slot i word (Rebuild r) = refl
 
@@ -78,14 +83,19 @@ Positive sizes = Each (λ size. 0 < size) sizes
 flat_positive : (f : ℕ → List ℕ) → ((n : ℕ) → Positive (f n)) → (ns : List ℕ)
     → Positive (flat_map f ns)
 flat_positive f h [] = tt
-flat_positive f h (n ∷ ns) = each_append (λ size. 0 < size) (f n) (flat_map f ns) (h n) (flat_positive f h ns)
+flat_positive f h (n ∷ ns) = each_append (λ size. 0 < size) (f n) (flat_map f ns) (h n)
+    (flat_positive f h ns)
 
 shape_positive : (fuel n : ℕ) → Positive (shape_within fuel n)
 unfolding shape_within
 shape_positive fuel zero = tt
 shape_positive fuel (suc zero) = tt
 shape_positive zero (suc (suc n)) = tt
-shape_positive (suc fuel) (suc (suc n)) = (omega arith, flat_positive (shape_within fuel) (λ k. shape_positive fuel k) (part_lens (suc (suc n))))
+shape_positive (suc fuel) (suc (suc n)) = (
+  omega arith,
+  flat_positive (shape_within fuel) (λ k. shape_positive fuel k)
+      (part_lens (suc (suc n))),
+)
 
 build_positive : (k : ℕ) (sizes : List ℕ) → IsBuild k sizes → Positive sizes
 unfolding shape
@@ -99,19 +109,28 @@ builds_positive t _ (last_build {sizes = sizes} rest h) =
     (each-append (λ size. 0 < size) sizes rest (build_positive h.k (sizes ++ rest) h.build)).0
 builds_positive t _ (stuck_build {sizes = sizes} {more = more} s h) =
     let whole = build_positive s.building.k (sizes ++ s.next_size ∷ s.rest) s.building.build in
-    each_append (λ size. 0 < size) sizes more (each-append (λ size. 0 < size) sizes (s.next_size ∷ s.rest) whole).0 (builds_positive t more h)
+    each_append (λ size. 0 < size) sizes more
+    (each-append (λ size. 0 < size) sizes (s.next_size ∷ s.rest) whole).0
+    (builds_positive t more h)
 
 merge_positive : (sizes left right : List ℕ) → IsMerge sizes left right → Positive left
     → Positive right → Positive sizes
 merge_positive _ _ _ at_end l r = tt
-merge_positive _ _ _ (from_left {sizes = s} {left = a} {right = b} size h) l r = (l.0, merge_positive s a b h l.1 r)
-merge_positive _ _ _ (from_right {sizes = s} {left = a} {right = b} size h) l r = (r.0, merge_positive s a b h l r.1)
+merge_positive _ _ _ (from_left {sizes = s} {left = a} {right = b} size h) l r =
+    (l.0, merge_positive s a b h l.1 r)
+merge_positive _ _ _ (from_right {sizes = s} {left = a} {right = b} size h) l r =
+    (r.0, merge_positive s a b h l r.1)
 
 spare_positive : (sizes : List ℕ) → Each (λ size. Among size spare_sizes) sizes → Positive sizes
 spare_positive [] h = tt
-spare_positive (size ∷ sizes) h =
-    (each-among (λ n. 0 < n) size spare_sizes (omega arith, (omega arith, (omega arith, (omega arith, tt)))) h.0, spare_positive sizes h.1)
+spare_positive (size ∷ sizes) h = (
+  each-among (λ n. 0 < n) size spare_sizes
+      (omega arith, (omega arith, (omega arith, (omega arith, tt)))) h.0,
+  spare_positive sizes
+      h.1,
+)
 
 -- fair sizes are above 0
 pub fair_positive : (t : Snapshot) (sizes : List ℕ) → IsFair t sizes → Positive sizes
-fair_positive t sizes f = merge_positive sizes f.building f.spare f.merge (builds_positive t f.building f.builds) (spare_positive f.spare f.few)
+fair_positive t sizes f = merge_positive sizes f.building f.spare f.merge
+    (builds_positive t f.building f.builds) (spare_positive f.spare f.few)

@@ -33,7 +33,8 @@ get-set_some [] i j x word e = inr e
 get-set_some (y ∷ xs) zero zero x word e = inl (refl, (cc))
 get-set_some (y ∷ xs) zero (suc j) x word e = inr e
 get-set_some (y ∷ xs) (suc i) zero x word e = inr e
-get-set_some (y ∷ xs) (suc i) (suc j) x word e = ⊎_elim (λ w. inl (ap suc w.0, w.1)) (λ w. inr w) (get-set_some xs i j x word e)
+get-set_some (y ∷ xs) (suc i) (suc j) x word e = ⊎_elim (λ w. inl (ap suc w.0, w.1)) (λ w. inr w)
+    (get-set_some xs i j x word e)
 
 -- ---- one word a slot
 
@@ -57,8 +58,10 @@ same_word xs ys i w v e h k = cc
 pub slot_once : (t : Snapshot) (node i w v : ℕ) → t.pieces anchor ≡ None → SlotHolds t node i w
     → SlotHolds t node i v → w ≡ v
 slot_once t node i w v none (in_anchor a b e) (in_anchor c d f) = sym e ∙ f
-slot_once t node i w v none (in_anchor a b e) (in_row r p g) = absurd (no_row t.pieces node r none a p)
-slot_once t node i w v none (in_row r p g) (in_anchor a b e) = absurd (no_row t.pieces node r none a p)
+slot_once t node i w v none (in_anchor a b e) (in_row r p g) = absurd
+    (no_row t.pieces node r none a p)
+slot_once t node i w v none (in_row r p g) (in_anchor a b e) = absurd
+    (no_row t.pieces node r none a p)
 slot_once t node i w v none (in_row r p g) (in_row s q h) =
     same_word r.slots s.slots i w v (ap (λ x. x.slots) (same_inner (t.pieces node) r s p q)) g h
 
@@ -70,19 +73,24 @@ anchor_slot t node i w none (in_row r p g) here = absurd (no_row t.pieces node r
 
 -- ---- a write to a slot
 
-module _ (t u : Snapshot) (ps : Pieces) (node i new old : ℕ) (none : t.pieces anchor ≡ None) (keeps : (base : ℕ) (p : Piece) → t.pieces base ≡ Some p → ps base ≡ Some p)
-    (pieces : u.pieces ≡ changed_at ps node (with_slot i new)) (word : u.anchor ≡ (if node == anchor then new else t.anchor)) (here : SlotHolds t node i old) where
+module _ (t u : Snapshot) (ps : Pieces) (node i new old : ℕ) (none : t.pieces anchor ≡ None)
+    (keeps : (base : ℕ) (p : Piece) → t.pieces base ≡ Some p → ps base ≡ Some p)
+    (pieces : u.pieces ≡ changed_at ps node (with_slot i new))
+    (word : u.anchor ≡ (if node == anchor then new else t.anchor))
+    (here : SlotHolds t node i old) where
   -- the row whose slot is written
   row_now : (r : InnerRow) → t.pieces node ≡ Some (Inner r)
       → u.pieces node ≡ Some (Inner record r { slots = slice_set r.slots i new })
   row_now r e =
       subst (λ qs. qs node ≡ Some (Inner record r { slots = slice_set r.slots i new })) (sym pieces)
-      (changed_at-same ps node (with_slot i new) ∙ ap (option_map (with_slot i new)) (keeps node (Inner r) e))
+      (changed_at-same ps node (with_slot i new) ∙ ap (option_map (with_slot i new))
+      (keeps node (Inner r) e))
 
   -- a row elsewhere
   row_still : (at : ℕ) (r : InnerRow) → at ≢ node → t.pieces at ≡ Some (Inner r)
       → u.pieces at ≡ Some (Inner r)
-  row_still at r ne e = subst (λ qs. qs at ≡ Some (Inner r)) (sym pieces) (changed_at-other ps node at (with_slot i new) ne ∙ keeps at (Inner r) e)
+  row_still at r ne e = subst (λ qs. qs at ≡ Some (Inner r)) (sym pieces)
+      (changed_at-other ps node at (with_slot i new) ne ∙ keeps at (Inner r) e)
 
   -- the anchor's word, where it is written and where not
   word_now : node ≡ anchor → u.anchor ≡ new
@@ -101,19 +109,27 @@ module _ (t u : Snapshot) (ps : Pieces) (node i new old : ℕ) (none : t.pieces 
     where
       at : SlotHolds t node i old → SlotHolds u node i new
       at (in_anchor a b e) = in_anchor a b (word_now a)
-      at (in_row r p g) = in_row record r { slots = slice_set r.slots i new } (row_now r p) (get-set_same r.slots i new old g)
+      at (in_row r p g) = in_row record r { slots = slice_set r.slots i new } (row_now r p)
+          (get-set_same r.slots i new old g)
 
   -- each other slot holds what it held
   pub slot_written : (at j w : ℕ) → SlotHolds t at j w
       → ((w ≡ old) × (at ≡ node) × (j ≡ i)) ⊎ SlotHolds u at j w
   slot_written at j w (in_anchor a b e) =
       ⊎_elim
-      (λ k. inl (slot_once t at j w old none (in_anchor a b e) (moved at j (a ∙ sym k.1) (b ∙ sym (anchor_slot t node i old none here k.1))), a ∙ sym k.1, b ∙ sym (anchor_slot t node i old none here k.1)))
+      (λ k. inl (
+        slot_once t at j w old none (in_anchor a b e)
+            (moved at j (a ∙ sym k.1) (b ∙ sym (anchor_slot t node i old none here k.1))),
+        a ∙ sym
+            k.1,
+        b ∙ sym (anchor_slot t node i old none here k.1),
+      ))
       (λ k. inr (in_anchor a b (word_still k.1 ∙ e)))
       (eqb_tells node anchor)
     where
       moved : (at j : ℕ) → at ≡ node → j ≡ i → SlotHolds t at j old
-      moved at j x y = subst (λ k. SlotHolds t at k old) (sym y) (subst (λ n. SlotHolds t n i old) (sym x) here)
+      moved at j x y = subst (λ k. SlotHolds t at k old) (sym y)
+          (subst (λ n. SlotHolds t n i old) (sym x) here)
   slot_written at j w (in_row r p g) = both (eqb_tells at node) (eqb_tells j i)
     where
       both : (((at == node) ≡ true) × (at ≡ node)) ⊎ (((at == node) ≡ false) × (at ≢ node))
@@ -121,17 +137,25 @@ module _ (t u : Snapshot) (ps : Pieces) (node i new old : ℕ) (none : t.pieces 
           → ((w ≡ old) × (at ≡ node) × (j ≡ i)) ⊎ SlotHolds u at j w
       both (inr k) l = inr (in_row r (row_still at r k.1 p) g)
       both (inl k) (inl l) =
-          inl (slot_once t at j w old none (in_row r p g) (subst (λ c. SlotHolds t at c old) (sym l.1) (subst (λ n. SlotHolds t n i old) (sym k.1) here)), k.1, l.1)
+          inl (
+            slot_once t at j w old none (in_row r p g)
+                (subst (λ c. SlotHolds t at c old) (sym l.1)
+                (subst (λ n. SlotHolds t n i old) (sym k.1) here)),
+            k.1,
+            l.1,
+          )
       both (inl k) (inr l) =
           inr (in_row record r { slots = slice_set r.slots i new }
-          (subst (λ b. u.pieces b ≡ Some (Inner record r { slots = slice_set r.slots i new })) (sym k.1) (row_now r (subst (λ b. t.pieces b ≡ Some (Inner r)) k.1 p)))
+          (subst (λ b. u.pieces b ≡ Some (Inner record r { slots = slice_set r.slots i new }))
+          (sym k.1) (row_now r (subst (λ b. t.pieces b ≡ Some (Inner r)) k.1 p)))
           (get-set_other r.slots i j new l.1 ∙ g))
 
 -- ---- no write to a slot
 
 -- slots hold what they held where each row keeps its slots
 pub slot_kept : (t u : Snapshot) → u.anchor ≡ t.anchor
-    → ((base : ℕ) (r : InnerRow) → t.pieces base ≡ Some (Inner r) → (s : InnerRow) × (u.pieces base ≡ Some (Inner s)) × (s.slots ≡ r.slots))
+    → ((base : ℕ) (r : InnerRow) → t.pieces base ≡ Some (Inner r) → (s : InnerRow) ×
+    (u.pieces base ≡ Some (Inner s)) × (s.slots ≡ r.slots))
     → (node i w : ℕ) → SlotHolds t node i w → SlotHolds u node i w
 slot_kept t u word keeps node i w (in_anchor a b e) = in_anchor a b (word ∙ e)
 slot_kept t u word keeps node i w (in_row r p g) =

@@ -1,4 +1,5 @@
--- What each event leaves in the slots and in the rows of changes. Serves the frozen-slot law and the one-parent law.
+-- What each event leaves in the slots and in the rows of changes. Serves the frozen-slot law and
+-- the one-parent law.
 use Rattle.std.proofs.Common.{◌≡◌, ◌≢◌, ℕ, ◌+◌, ◌⊎◌, ◌==◌, if◌then◌else◌, Bool, true, false, List, ◌∷◌, Some, None, option_map, refl, sym, ap, ◌∙◌, subst, arith}
 use Rattle.std.proofs.lemmas.Bool.Decides.{nat_tests}
 use Rattle.ist_core.specs.declared.lists.Row.{Row}
@@ -34,10 +35,13 @@ pub install_stands : (first : Snapshot) (log : Log) (caller base : ℕ) (rows : 
 install_stands first log caller base rows h =
     let t = state first log in
     let qs = with_installed t.pieces base h.change h.fresh in
-    subst (λ xs. (after t (Install caller base xs)).pieces base ≡ Some (Change h.change)) (sym h.rows_are)
-    (changed_at-fixed qs h.change.node base (with_slot h.change.index (word_of (ChangeAt base))) (Change h.change) (installed_stands t.pieces base h.change h.fresh) refl)
+    subst (λ xs. (after t (Install caller base xs)).pieces base ≡ Some (Change h.change))
+    (sym h.rows_are)
+    (changed_at-fixed qs h.change.node base (with_slot h.change.index (word_of (ChangeAt base)))
+    (Change h.change) (installed_stands t.pieces base h.change h.fresh) refl)
 
--- slot i of the node held the old word, and holds the new one behind it; each other slot holds what it held
+-- slot i of the node held the old word, and holds the new one behind it; each other slot holds what
+-- it held
 pub record WritesSlot (t u : Snapshot) (node i new old : ℕ) : Type 0 where
   pub here : SlotHolds t node i old
   pub now : SlotHolds u node i new
@@ -53,14 +57,18 @@ pub install_writes : (first : Snapshot) (log : Log) (caller base : ℕ) (rows : 
 install_writes first log caller base rows h sound free =
     let t = state first log in
     let qs = with_installed t.pieces base h.change h.fresh in
-    let keeps = (adds_install first log caller base h.change h.fresh h.fits (holds_installed first log caller base rows h) sound).keeps in
+    let keeps = (adds_install first log caller base h.change h.fresh h.fits
+    (holds_installed first log caller base rows h) sound).keeps in
     let u = after t (Install caller base (row_at base (Change h.change) ∷ h.fresh)) in
     let word = word_of (ChangeAt base) in
-    subst (λ xs. WritesSlot t (after t (Install caller base xs)) h.change.node h.change.index word h.change.from) (sym h.rows_are)
+    subst (λ xs. WritesSlot t (after t (Install caller base xs)) h.change.node h.change.index word
+    h.change.from) (sym h.rows_are)
     record {
       here = h.in_slot;
-      now = slot_now t u qs h.change.node h.change.index word h.change.from free keeps refl refl h.in_slot;
-      others = slot_written t u qs h.change.node h.change.index word h.change.from free keeps refl refl h.in_slot;
+      now = slot_now t u qs h.change.node h.change.index word h.change.from free keeps refl refl
+          h.in_slot;
+      others = slot_written t u qs h.change.node h.change.index word h.change.from free keeps refl
+          refl h.in_slot;
     }
 
 pub resolve_writes : (t : Snapshot) (caller base : ℕ) → (h : CanResolve t caller base)
@@ -70,11 +78,14 @@ pub resolve_writes : (t : Snapshot) (caller base : ℕ) → (h : CanResolve t ca
 resolve_writes t caller base h free =
     let u = resolved t (Some h.change) in
     let old = word_of (ChangeAt base) in
-    subst (λ x. WritesSlot t x h.change.node h.change.index (side_of h.change) old) (sym (rows_resolved t caller base h))
+    subst (λ x. WritesSlot t x h.change.node h.change.index (side_of h.change) old)
+    (sym (rows_resolved t caller base h))
     record {
       here = h.in_slot;
-      now = slot_now t u t.pieces h.change.node h.change.index (side_of h.change) old free (λ b p e. e) refl refl h.in_slot;
-      others = slot_written t u t.pieces h.change.node h.change.index (side_of h.change) old free (λ b p e. e) refl refl h.in_slot;
+      now = slot_now t u t.pieces h.change.node h.change.index (side_of h.change) old free
+          (λ b p e. e) refl refl h.in_slot;
+      others = slot_written t u t.pieces h.change.node h.change.index (side_of h.change) old free
+          (λ b p e. e) refl refl h.in_slot;
     }
 
 -- a word that isn't the anchor's
@@ -93,11 +104,14 @@ place_writes t caller rebuild i word rows h sound free =
     let qs = with_inners t.pieces rows in
     let keeps = (adds-with_inners t caller rows h.held sound).keeps in
     let here : SlotHolds t h.root i unset_word = in_row h.root_row h.root_published h.free in
-    let same = elsewhere h.root word t.anchor (λ e. no_row t.pieces h.root h.root_row free e h.root_published) in
+    let same = elsewhere h.root word t.anchor
+    (λ e. no_row t.pieces h.root h.root_row free e h.root_published) in
     record {
       here = here;
-      now = slot_now t u qs h.root i word unset_word free keeps (rows_placed t caller rebuild i word rows h) same here;
-      others = slot_written t u qs h.root i word unset_word free keeps (rows_placed t caller rebuild i word rows h) same here;
+      now = slot_now t u qs h.root i word unset_word free keeps
+          (rows_placed t caller rebuild i word rows h) same here;
+      others = slot_written t u qs h.root i word unset_word free keeps
+          (rows_placed t caller rebuild i word rows h) same here;
     }
 
 -- ---- the others
@@ -119,7 +133,8 @@ inner_kept : (ps : Pieces) (at : ℕ) (f : Piece → Piece) → KeepsSlots f →
     → (s : InnerRow) × (changed_at ps at f base ≡ Some (Inner s)) × (s.slots ≡ r.slots)
 unfolding KeepsSlots
 inner_kept ps at f keeps base r e =
-    elim (base == at) as (λ v. (s : InnerRow) × ((if v then option_map f (ps base) else ps base) ≡ Some (Inner s)) × (s.slots ≡ r.slots)) [
+    elim (base == at) as (λ v. (s : InnerRow) ×
+    ((if v then option_map f (ps base) else ps base) ≡ Some (Inner s)) × (s.slots ≡ r.slots)) [
       | true ↦ let it = keeps r in (it.0, ap (option_map f) e ∙ ap (λ x. Some x) it.1, it.2)
       | false ↦ (r, e, refl)
     ]
@@ -128,11 +143,14 @@ slots_changed : (t u : Snapshot) (at : ℕ) (f : Piece → Piece) → u.anchor �
     → u.pieces ≡ changed_at t.pieces at f → KeepsSlots f → (node i w : ℕ) → SlotHolds t node i w
     → SlotHolds u node i w
 slots_changed t u at f word pieces keeps node i w h =
-    slot_kept t u word (λ base r e. subst (λ ps. (s : InnerRow) × (ps base ≡ Some (Inner s)) × (s.slots ≡ r.slots)) (sym pieces) (inner_kept t.pieces at f keeps base r e)) node i w h
+    slot_kept t u word (λ base r e. subst
+    (λ ps. (s : InnerRow) × (ps base ≡ Some (Inner s)) × (s.slots ≡ r.slots)) (sym pieces)
+    (inner_kept t.pieces at f keeps base r e)) node i w h
 
 slots_same : (t u : Snapshot) → u.anchor ≡ t.anchor → u.pieces ≡ t.pieces → (node i w : ℕ)
     → SlotHolds t node i w → SlotHolds u node i w
-slots_same t u word pieces node i w h = slot_kept t u word (λ base r e. (r, subst (λ ps. ps base ≡ Some (Inner r)) (sym pieces) e, refl)) node i w h
+slots_same t u word pieces node i w h = slot_kept t u word
+    (λ base r e. (r, subst (λ ps. ps base ≡ Some (Inner r)) (sym pieces) e, refl)) node i w h
 
 -- an event that writes no slot leaves each as it is
 pub slot_stays : (first : Snapshot) (log : Log) (event : Event) → Enabled first log event
@@ -142,16 +160,23 @@ unfolding KeepsSlots
 slot_stays first log (Install caller change rows) h s none = absurd none
 slot_stays first log (Resolve caller change) h s none = absurd none
 slot_stays first log (Place caller rebuild i word rows) h s none = absurd none
-slot_stays first log (Decide caller base said) h s none = slots_changed _ _ base (with_decision (decision_word said)) refl refl (λ r. (r, refl, refl))
-slot_stays first log (Count caller node) h s none = slots_changed _ _ node counted refl refl (λ r. (record r { count = r.count + 1 }, refl, refl))
-slot_stays first log (Mark caller node) h s none = slots_changed _ _ node (with_status marked_word) refl refl (λ r. (record r { status = marked_word }, refl, refl))
-slot_stays first log (Finish caller node keys) h s none = slots_changed _ _ node (with_status (finished_word keys)) refl refl (λ r. (record r { status = finished_word keys }, refl, refl))
-slot_stays first log (Draw caller rebuild part) h s none = slots_changed _ _ rebuild drawn refl refl (λ r. (r, refl, refl))
+slot_stays first log (Decide caller base said) h s none = slots_changed _ _ base
+    (with_decision (decision_word said)) refl refl (λ r. (r, refl, refl))
+slot_stays first log (Count caller node) h s none = slots_changed _ _ node counted refl refl
+    (λ r. (record r { count = r.count + 1 }, refl, refl))
+slot_stays first log (Mark caller node) h s none = slots_changed _ _ node (with_status marked_word)
+    refl refl (λ r. (record r { status = marked_word }, refl, refl))
+slot_stays first log (Finish caller node keys) h s none = slots_changed _ _ node
+    (with_status (finished_word keys)) refl refl
+    (λ r. (record r { status = finished_word keys }, refl, refl))
+slot_stays first log (Draw caller rebuild part) h s none = slots_changed _ _ rebuild drawn refl refl
+    (λ r. (r, refl, refl))
 slot_stays first log (Root caller rebuild word rows) h s none =
     let t = state first log in
     let keeps = (adds-with_inners t caller rows h.held s).keeps in
     slot_kept t (after t (Root caller rebuild word rows)) refl
-    (λ base r e. inner_kept (with_inners t.pieces rows) rebuild (with_root word) (λ x. (x, refl, refl)) base r (keeps base (Inner r) e))
+    (λ base r e. inner_kept (with_inners t.pieces rows) rebuild (with_root word)
+    (λ x. (x, refl, refl)) base r (keeps base (Inner r) e))
 slot_stays first log (Enter caller) h s none = slots_same _ _ refl refl
 slot_stays first log (Reserve caller base size) h s none = slots_same _ _ refl refl
 slot_stays first log (Okay caller change) h s none = slots_same _ _ refl refl
@@ -173,24 +198,34 @@ pub change_stays : (first : Snapshot) (log : Log) (event : Event) → Enabled fi
 change_stays first log (Install caller base rows) h s none at r e =
     let t = state first log in
     let qs = with_installed t.pieces base h.change h.fresh in
-    let keeps = (adds_install first log caller base h.change h.fresh h.fits (holds_installed first log caller base rows h) s).keeps in
+    let keeps = (adds_install first log caller base h.change h.fresh h.fits
+    (holds_installed first log caller base rows h) s).keeps in
     subst (λ xs. (after t (Install caller base xs)).pieces at ≡ Some (Change r)) (sym h.rows_are)
-    (changed_at-fixed qs h.change.node at (with_slot h.change.index (word_of (ChangeAt base))) (Change r) (keeps at (Change r) e) refl)
+    (changed_at-fixed qs h.change.node at (with_slot h.change.index (word_of (ChangeAt base)))
+    (Change r) (keeps at (Change r) e) refl)
 change_stays first log (Decide caller base said) h s none at r e = absurd none
 change_stays first log (Resolve caller base) h s none at r e =
     let t = state first log in
-    subst (λ u. u.pieces at ≡ Some (Change r)) (sym (rows_resolved t caller base h)) (changed_at-fixed t.pieces h.change.node at (with_slot h.change.index (side_of h.change)) (Change r) e refl)
-change_stays first log (Count caller node) h s none at r e = changed_at-fixed (state first log).pieces node at counted (Change r) e refl
-change_stays first log (Mark caller node) h s none at r e = changed_at-fixed (state first log).pieces node at (with_status marked_word) (Change r) e refl
-change_stays first log (Finish caller node keys) h s none at r e = changed_at-fixed (state first log).pieces node at (with_status (finished_word keys)) (Change r) e refl
-change_stays first log (Draw caller rebuild part) h s none at r e = changed_at-fixed (state first log).pieces rebuild at drawn (Change r) e refl
+    subst (λ u. u.pieces at ≡ Some (Change r)) (sym (rows_resolved t caller base h))
+    (changed_at-fixed t.pieces h.change.node at (with_slot h.change.index (side_of h.change))
+    (Change r) e refl)
+change_stays first log (Count caller node) h s none at r e = changed_at-fixed
+    (state first log).pieces node at counted (Change r) e refl
+change_stays first log (Mark caller node) h s none at r e = changed_at-fixed
+    (state first log).pieces node at (with_status marked_word) (Change r) e refl
+change_stays first log (Finish caller node keys) h s none at r e = changed_at-fixed
+    (state first log).pieces node at (with_status (finished_word keys)) (Change r) e refl
+change_stays first log (Draw caller rebuild part) h s none at r e = changed_at-fixed
+    (state first log).pieces rebuild at drawn (Change r) e refl
 change_stays first log (Root caller rebuild word rows) h s none at r e =
     let t = state first log in
-    changed_at-fixed (with_inners t.pieces rows) rebuild at (with_root word) (Change r) ((adds-with_inners t caller rows h.held s).keeps at (Change r) e) refl
+    changed_at-fixed (with_inners t.pieces rows) rebuild at (with_root word) (Change r)
+    ((adds-with_inners t caller rows h.held s).keeps at (Change r) e) refl
 change_stays first log (Place caller rebuild i word rows) h s none at r e =
     let t = state first log in
     subst (λ ps. ps at ≡ Some (Change r)) (sym (rows_placed t caller rebuild i word rows h))
-    (changed_at-fixed (with_inners t.pieces rows) h.root at (with_slot i word) (Change r) ((adds-with_inners t caller rows h.held s).keeps at (Change r) e) refl)
+    (changed_at-fixed (with_inners t.pieces rows) h.root at (with_slot i word) (Change r)
+    ((adds-with_inners t caller rows h.held s).keeps at (Change r) e) refl)
 change_stays first log (Enter caller) h s none at r e = e
 change_stays first log (Reserve caller base size) h s none at r e = e
 change_stays first log (Okay caller change) h s none at r e = e

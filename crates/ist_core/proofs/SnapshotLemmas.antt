@@ -22,7 +22,8 @@ one_state s u t a b =
     let leaves = same_rows s.leaves u.leaves (λ base. a.leaves base ∙ sym (b.leaves base)) in
     let inners = same_rows s.inners u.inners (λ base. a.inners base ∙ sym (b.inners base)) in
     let changes = same_rows s.changes u.changes (λ base. a.changes base ∙ sym (b.changes base)) in
-    let rebuilds = same_rows s.rebuilds u.rebuilds (λ base. a.rebuilds base ∙ sym (b.rebuilds base)) in
+    let rebuilds = same_rows s.rebuilds u.rebuilds (λ base. a.rebuilds base ∙ sym (b.rebuilds base))
+    in
     let held = a.held ∙ sym b.held in
     λ i. record {
       words = words i;

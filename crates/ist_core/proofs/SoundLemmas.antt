@@ -1,4 +1,5 @@
--- Behind a lawful log rows lie soundly, and each that was reserved is known. Serves `laws.rows_are_known`.
+-- Behind a lawful log rows lie soundly, and each that was reserved is known. Serves
+-- `laws.rows_are_known`.
 use Rattle.std.proofs.Common.{◌≡◌, ℕ, ◌+◌, ◌<◌, ◌⊎◌, [], ◌∷◌, Option, Some, None, refl, sym, ap, ◌∙◌, subst, inl, inr, ⊎_elim, arith}
 use Rattle.ist_core.specs.declared.lists.HeldRow.{HeldRow}
 use Rattle.ist_core.specs.declared.events.Event.{Event}
@@ -18,55 +19,63 @@ sound_moves : (t u : Snapshot) (event : Event) → IsSound t → Moves t u event
 sound_moves t u event s m =
     record {
       below = λ base p e.
-          let under = ⊎_elim (λ w. s.below base w.0 w.1) (λ w. subst (λ b. b < t.next) w.2 (s.held_below w.0 w.1)) (m.from base p e) in
+          let under = ⊎_elim (λ w. s.below base w.0 w.1)
+          (λ w. subst (λ b. b < t.next) w.2 (s.held_below w.0 w.1)) (m.from base p e) in
           subst (λ n. base < n) (sym m.next) under;
       held_below = λ h i. subst (λ n. h.base < n) (sym m.next) (s.held_below h (m.kept h i));
       unpublished = λ h i. m.unpublished h i (s.unpublished h (m.kept h i));
       once = λ g h i j e. s.once g h (m.kept g i) (m.kept h j) e;
     }
 
-module _ (t : Snapshot) (caller base size : ℕ) (h : CanReserve t caller base size) (s : IsSound t) where
-  -- the row that is reserved
-  new_row : HeldRow
-  new_row = record { caller = caller; base = base; size = size }
+module _ (t : Snapshot) (caller base size : ℕ) (h : CanReserve t caller base size) (s : IsSound t)
+  where
+    -- the row that is reserved
+    new_row : HeldRow
+    new_row = record { caller = caller; base = base; size = size }
 
-  positive : 0 < size
-  positive = reserve_positive t caller base size h
+    positive : 0 < size
+    positive = reserve_positive t caller base size h
 
-  -- what is held behind it was held, or is the new row
-  held_or_new : (g : HeldRow) → Among g (after t (Reserve caller base size)).held
-      → Among g t.held ⊎ (g ≡ new_row)
-  unfolding new_row
-  held_or_new g i = ⊎_elim (λ k. inl k) (λ k. ⊎_elim (λ e. inr e) (λ e. absurd e) k) (among-append g t.held (new_row ∷ []) i)
+    -- what is held behind it was held, or is the new row
+    held_or_new : (g : HeldRow) → Among g (after t (Reserve caller base size)).held
+        → Among g t.held ⊎ (g ≡ new_row)
+    unfolding new_row
+    held_or_new g i = ⊎_elim (λ k. inl k) (λ k. ⊎_elim (λ e. inr e) (λ e. absurd e) k)
+        (among-append g t.held (new_row ∷ []) i)
 
-  -- no row lies at the first free word
-  free_there : t.pieces base ≡ None
-  free_there = at (t.pieces base) refl
-    where
-      at : (o : Option Piece) → t.pieces base ≡ o → t.pieces base ≡ None
-      at None e = e
-      at (Some p) e = let low = s.below base p e in let is = h.base_is in absurd (omega arith)
+    -- no row lies at the first free word
+    free_there : t.pieces base ≡ None
+    free_there = at (t.pieces base) refl
+      where
+        at : (o : Option Piece) → t.pieces base ≡ o → t.pieces base ≡ None
+        at None e = e
+        at (Some p) e = let low = s.below base p e in let is = h.base_is in absurd (omega arith)
 
-  sound_reserve : IsSound (after t (Reserve caller base size))
-  unfolding new_row
-  sound_reserve =
-      record {
-        below = λ at p e. let low = s.below at p e in let is = h.base_is in omega arith;
-        held_below = λ g i.
-            ⊎_elim
-            (λ k. let low = s.held_below g k in let is = h.base_is in let lower : g.base < base + size = omega arith in lower)
-            (λ e. let some = positive in let same : g.base ≡ base = ap (λ x. x.base) e in let lower : g.base < base + size = omega arith in lower)
-            (held_or_new g i);
-        unpublished = λ g i. ⊎_elim (λ k. s.unpublished g k) (λ e. subst (λ x. t.pieces x.base ≡ None) (sym e) free_there) (held_or_new g i);
-        once = λ f g i j e. both f g e (held_or_new f i) (held_or_new g j);
-      }
-    where
-      both : (f g : HeldRow) → f.base ≡ g.base → Among f t.held ⊎ (f ≡ new_row)
-          → Among g t.held ⊎ (g ≡ new_row) → f ≡ g
-      both f g e (inl i) (inl j) = s.once f g i j e
-      both f g e (inl i) (inr d) = let low = s.held_below f i in let is = h.base_is in let at : g.base ≡ base = ap (λ x. x.base) d in absurd (omega arith)
-      both f g e (inr d) (inl j) = let low = s.held_below g j in let is = h.base_is in let at : f.base ≡ base = ap (λ x. x.base) d in absurd (omega arith)
-      both f g e (inr c) (inr d) = c ∙ sym d
+    sound_reserve : IsSound (after t (Reserve caller base size))
+    unfolding new_row
+    sound_reserve =
+        record {
+          below = λ at p e. let low = s.below at p e in let is = h.base_is in omega arith;
+          held_below = λ g i.
+              ⊎_elim
+              (λ k. let low = s.held_below g k in let is = h.base_is in let lower : g.base < base +
+              size = omega arith in lower)
+              (λ e. let some = positive in let same : g.base ≡ base = ap (λ x. x.base) e in let
+              lower : g.base < base + size = omega arith in lower)
+              (held_or_new g i);
+          unpublished = λ g i. ⊎_elim (λ k. s.unpublished g k)
+              (λ e. subst (λ x. t.pieces x.base ≡ None) (sym e) free_there) (held_or_new g i);
+          once = λ f g i j e. both f g e (held_or_new f i) (held_or_new g j);
+        }
+      where
+        both : (f g : HeldRow) → f.base ≡ g.base → Among f t.held ⊎ (f ≡ new_row)
+            → Among g t.held ⊎ (g ≡ new_row) → f ≡ g
+        both f g e (inl i) (inl j) = s.once f g i j e
+        both f g e (inl i) (inr d) = let low = s.held_below f i in let is = h.base_is in let at :
+            g.base ≡ base = ap (λ x. x.base) d in absurd (omega arith)
+        both f g e (inr d) (inl j) = let low = s.held_below g j in let is = h.base_is in let at :
+            f.base ≡ base = ap (λ x. x.base) d in absurd (omega arith)
+        both f g e (inr c) (inr d) = c ∙ sym d
 
 -- the event reserves a row
 pub record IsReserve (first : Snapshot) (log : Log) (event : Event) : Type 0 where
@@ -80,20 +89,33 @@ pub record IsReserve (first : Snapshot) (log : Log) (event : Event) : Type 0 whe
 pub moves_or_reserves : (first : Snapshot) (log : Log) (event : Event) → Enabled first log event
     → IsSound (state first log)
     → Moves (state first log) (state first (event ∷ log)) event ⊎ IsReserve first log event
-moves_or_reserves first log (Reserve caller base size) h s = inr record { caller = caller; base = base; size = size; is = refl; can = h }
+moves_or_reserves first log (Reserve caller base size) h s = inr record
+    { caller = caller; base = base; size = size; is = refl; can = h }
 moves_or_reserves first log (Enter caller) h s = inl (moves first log (Enter caller) refl h s)
-moves_or_reserves first log (Install caller change rows) h s = inl (moves first log (Install caller change rows) refl h s)
-moves_or_reserves first log (Okay caller change) h s = inl (moves first log (Okay caller change) refl h s)
-moves_or_reserves first log (Decide caller change said) h s = inl (moves first log (Decide caller change said) refl h s)
-moves_or_reserves first log (Resolve caller change) h s = inl (moves first log (Resolve caller change) refl h s)
-moves_or_reserves first log (Count caller node) h s = inl (moves first log (Count caller node) refl h s)
-moves_or_reserves first log (Mark caller node) h s = inl (moves first log (Mark caller node) refl h s)
-moves_or_reserves first log (Pass caller node i word) h s = inl (moves first log (Pass caller node i word) refl h s)
-moves_or_reserves first log (Finish caller node keys) h s = inl (moves first log (Finish caller node keys) refl h s)
-moves_or_reserves first log (Root caller rebuild word rows) h s = inl (moves first log (Root caller rebuild word rows) refl h s)
-moves_or_reserves first log (Draw caller rebuild part) h s = inl (moves first log (Draw caller rebuild part) refl h s)
-moves_or_reserves first log (Place caller rebuild i word rows) h s = inl (moves first log (Place caller rebuild i word rows) refl h s)
-moves_or_reserves first log (Lose caller bases) h s = inl (moves first log (Lose caller bases) refl h s)
+moves_or_reserves first log (Install caller change rows) h s = inl
+    (moves first log (Install caller change rows) refl h s)
+moves_or_reserves first log (Okay caller change) h s = inl
+    (moves first log (Okay caller change) refl h s)
+moves_or_reserves first log (Decide caller change said) h s = inl
+    (moves first log (Decide caller change said) refl h s)
+moves_or_reserves first log (Resolve caller change) h s = inl
+    (moves first log (Resolve caller change) refl h s)
+moves_or_reserves first log (Count caller node) h s = inl
+    (moves first log (Count caller node) refl h s)
+moves_or_reserves first log (Mark caller node) h s = inl
+    (moves first log (Mark caller node) refl h s)
+moves_or_reserves first log (Pass caller node i word) h s = inl
+    (moves first log (Pass caller node i word) refl h s)
+moves_or_reserves first log (Finish caller node keys) h s = inl
+    (moves first log (Finish caller node keys) refl h s)
+moves_or_reserves first log (Root caller rebuild word rows) h s = inl
+    (moves first log (Root caller rebuild word rows) refl h s)
+moves_or_reserves first log (Draw caller rebuild part) h s = inl
+    (moves first log (Draw caller rebuild part) refl h s)
+moves_or_reserves first log (Place caller rebuild i word rows) h s = inl
+    (moves first log (Place caller rebuild i word rows) refl h s)
+moves_or_reserves first log (Lose caller bases) h s = inl
+    (moves first log (Lose caller bases) refl h s)
 
 -- an enabled event leaves rows sound
 sound_step : (first : Snapshot) (log : Log) (event : Event) → Enabled first log event
@@ -101,7 +123,8 @@ sound_step : (first : Snapshot) (log : Log) (event : Event) → Enabled first lo
 sound_step first log event h s =
     ⊎_elim
     (λ m. sound_moves (state first log) (state first (event ∷ log)) event s m)
-    (λ r. subst (λ e. IsSound (after (state first log) e)) (sym r.is) (sound_reserve (state first log) r.caller r.base r.size r.can s))
+    (λ r. subst (λ e. IsSound (after (state first log) e)) (sym r.is)
+    (sound_reserve (state first log) r.caller r.base r.size r.can s))
     (moves_or_reserves first log event h s)
 
 -- rows lie soundly behind a log from a sound state
@@ -114,21 +137,25 @@ sound first (event ∷ log) s h = sound_step first log event h.1 (sound first lo
 
 -- the row is held by the caller, or stands published, or was lost
 abbrev pub Known : Snapshot → Log → ℕ → ℕ → ℕ → Type 0
-Known t log caller base size = (HoldsRow t caller base size ⊎ StandsWith t.pieces base size) ⊎ Happened (Loses base) log
+Known t log caller base size = (HoldsRow t caller base size ⊎ StandsWith t.pieces base size) ⊎
+    Happened (Loses base) log
 
 -- a known row stays known
 known_moves : (t u : Snapshot) (log : Log) (event : Event) (caller base size : ℕ) → Moves t u event
     → Known t log caller base size → Known u (event ∷ log) caller base size
 known_moves t u log event caller base size m (inl (inl held)) =
-    ⊎_elim (λ k. inl k) (λ lost. inr (inl lost)) (m.fate record { caller = caller; base = base; size = size } held)
-known_moves t u log event caller base size m (inl (inr stands)) = inl (inr (subst (λ n. StandsWith u.pieces base n) stands.2 (m.stays base stands.0 stands.1)))
+    ⊎_elim (λ k. inl k) (λ lost. inr (inl lost))
+    (m.fate record { caller = caller; base = base; size = size } held)
+known_moves t u log event caller base size m (inl (inr stands)) = inl
+    (inr (subst (λ n. StandsWith u.pieces base n) stands.2 (m.stays base stands.0 stands.1)))
 known_moves t u log event caller base size m (inr lost) = inr (inr lost)
 
 known_reserve : (t : Snapshot) (log : Log) (c b z caller base size : ℕ)
     → Known t log caller base size
     → Known (after t (Reserve c b z)) (Reserve c b z ∷ log) caller base size
 known_reserve t log c b z caller base size (inl (inl held)) =
-    inl (inl (among_left record { caller = caller; base = base; size = size } t.held (record { caller = c; base = b; size = z } ∷ []) held))
+    inl (inl (among_left record { caller = caller; base = base; size = size } t.held
+    (record { caller = c; base = b; size = z } ∷ []) held))
 known_reserve t log c b z caller base size (inl (inr stands)) = inl (inr stands)
 known_reserve t log c b z caller base size (inr lost) = inr (inr lost)
 
@@ -139,15 +166,18 @@ known_step : (first : Snapshot) (log : Log) (event : Event) (caller base size : 
 known_step first log event caller base size h s k =
     ⊎_elim
     (λ m. known_moves (state first log) (state first (event ∷ log)) log event caller base size m k)
-    (λ r. subst (λ e. Known (after (state first log) e) (e ∷ log) caller base size) (sym r.is) (known_reserve (state first log) log r.caller r.base r.size caller base size k))
+    (λ r. subst (λ e. Known (after (state first log) e) (e ∷ log) caller base size) (sym r.is)
+    (known_reserve (state first log) log r.caller r.base r.size caller base size k))
     (moves_or_reserves first log event h s)
 
 -- the row that an event reserves is held behind it
 held_now : (t : Snapshot) (event : Event) (caller base size : ℕ) → Reserves caller base size event
     → HoldsRow (after t event) caller base size
 held_now t (Reserve c b z) caller base size h =
-    let it = among_right record { caller = c; base = b; size = z } t.held (record { caller = c; base = b; size = z } ∷ []) (inl refl) in
-    subst (λ x. Among x (after t (Reserve c b z)).held) (λ i. record { caller = h.0 i; base = h.1 i; size = h.2 i }) it
+    let it = among_right record { caller = c; base = b; size = z } t.held
+    (record { caller = c; base = b; size = z } ∷ []) (inl refl) in
+    subst (λ x. Among x (after t (Reserve c b z)).held)
+    (λ i. record { caller = h.0 i; base = h.1 i; size = h.2 i }) it
 held_now t (Enter caller) c b z h = absurd h
 held_now t (Install caller change rows) c b z h = absurd h
 held_now t (Okay caller change) c b z h = absurd h
@@ -167,6 +197,8 @@ pub known : (first : Snapshot) (log : Log) (caller base size : ℕ) → IsSound 
     → EachEnabled first log → Happened (Reserves caller base size) log
     → Known (state first log) log caller base size
 known first [] caller base size s h r = absurd r
-known first (event ∷ log) caller base size s h (inl now) = inl (inl (held_now (state first log) event caller base size now))
+known first (event ∷ log) caller base size s h (inl now) = inl
+    (inl (held_now (state first log) event caller base size now))
 known first (event ∷ log) caller base size s h (inr before) =
-    known_step first log event caller base size h.1 (sound first log s h.0) (known first log caller base size s h.0 before)
+    known_step first log event caller base size h.1 (sound first log s h.0)
+    (known first log caller base size s h.0 before)

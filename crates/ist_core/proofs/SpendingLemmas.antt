@@ -32,10 +32,12 @@ pub next-state : (first : Snapshot) (log : Log) (event : Event) → Enabled firs
     → (state first (event ∷ log)).next ≡ (state first log).next + reserved_by event
 next-state first log (Enter caller) h = omega arith
 next-state first log (Reserve caller base size) h = ap (λ n. n + size) h.base_is
-next-state first log (Install caller change rows) h = let same = next-installed (state first log) change rows in omega (arith, same)
+next-state first log (Install caller change rows) h = let same = next-installed (state first log)
+    change rows in omega (arith, same)
 next-state first log (Okay caller change) h = omega arith
 next-state first log (Decide caller change said) h = omega arith
-next-state first log (Resolve caller change) h = let same = next-resolved (state first log) (as_change ((state first log).pieces change)) in omega (arith, same)
+next-state first log (Resolve caller change) h = let same = next-resolved (state first log)
+    (as_change ((state first log).pieces change)) in omega (arith, same)
 next-state first log (Count caller node) h = omega arith
 next-state first log (Mark caller node) h = omega arith
 next-state first log (Pass caller node i word) h = omega arith
@@ -49,7 +51,8 @@ spent-state : (pairs : List Pair) (words : ℕ) (log : Log) → EachEnabled (sta
     → (state_of pairs words log).next ≡ spent pairs log
 spent-state pairs words [] h = refl
 spent-state pairs words (event ∷ log) h =
-    next-state (start pairs words) log event h.1 ∙ ap (λ n. n + reserved_by event) (spent-state pairs words log h.0)
+    next-state (start pairs words) log event h.1 ∙ ap (λ n. n + reserved_by event)
+    (spent-state pairs words log h.0)
 
 -- next is what was spent
 pub words_are_spent : (pairs : List Pair) (words : ℕ) (log : Log) → Lawful pairs words log

@@ -1,4 +1,5 @@
--- Trees over lists of keys: each inner row splits its list into parts by their first keys. Ideal subtrees are such, and so is
+-- Trees over lists of keys: each inner row splits its list into parts by their first keys. Ideal
+-- subtrees are such, and so is
 -- the start layout. Serves the order law.
 use Rattle.std.proofs.Common.{◌≡◌, ℕ, ◌≤◌, List, [], ◌∷◌, ◌++◌, length, drop, Some, refl, sym, subst}
 use Rattle.ist_core.specs.declared.states.LeafRow.{LeafRow}
@@ -17,7 +18,8 @@ abbrev pub key_of_leaf : PlacedLeaf → ℕ
 key_of_leaf leaf = leaf.row.key
 
 mutual
-  -- the reference leads to a tree over these elements, each of which has a key; `rows` are its inner rows
+  -- the reference leads to a tree over these elements, each of which has a key; `rows` are its
+  -- inner rows
   pub data Splits {A : Type 0} (key : A → ℕ) (ps : Pieces) : Ref → List A → List ℕ → Type 0 where
     split_none : Splits key ps Empty [] []
     split_leaf : {base : ℕ} {x : A} (r : LeafRow) → ps base ≡ Some (Leaf r) → r.key ≡ key x
@@ -28,7 +30,8 @@ mutual
         → Splits key ps (InnerAt base) xs (base ∷ rows)
 
   -- each word leads to a tree over its part
-  pub data SplitAll {A : Type 0} (key : A → ℕ) (ps : Pieces) : List ℕ → List (List A) → List ℕ → Type 0 where
+  pub data SplitAll {A : Type 0} (key : A → ℕ) (ps : Pieces) : List ℕ → List (List A) → List ℕ →
+      Type 0 where
     no_split : SplitAll key ps [] [] []
     one_split : {word : ℕ} {words here rest : List ℕ} {part : List A} {behind : List (List A)}
         (ref : Ref)
@@ -43,14 +46,18 @@ mutual
   ideal_splits ps _ _ _ _ of_none = split_none
   ideal_splits ps _ _ _ _ (of_one {leaf = leaf} same e) = split_leaf leaf.row e refl
   ideal_splits ps _ _ _ _ (of_more {base = base} {leaves = leaves} {rows = rows} r top below) =
-      split_row r top.published top.two top.keys (ideal_split_all ps r.slots (parts leaves) base rows below)
+      split_row r top.published top.two top.keys
+      (ideal_split_all ps r.slots (parts leaves) base rows below)
 
   ideal_split_all : (ps : Pieces) (words : List ℕ) (behind : List (List PlacedLeaf)) (above : ℕ)
       (rows : List ℕ)
       → AreIdeal ps words behind above rows → SplitAll key_of_leaf ps words behind rows
   ideal_split_all ps _ _ _ _ no_part = no_split
-  ideal_split_all ps _ _ above _ (one_part {words = words} {here = here} {rest = rest} {part = part} {behind = behind} ref e first more) =
-      one_split ref e (ideal_splits ps ref part above here first) (ideal_split_all ps words behind above rest more)
+  ideal_split_all ps _ _ above _
+      (one_part {words = words} {here = here} {rest = rest} {part = part} {behind = behind} ref e
+      first more) =
+      one_split ref e (ideal_splits ps ref part above here first)
+      (ideal_split_all ps words behind above rest more)
 
 -- ---- keys rise
 
@@ -68,12 +75,19 @@ module _ {A : Type 0} (key : A → ℕ) (ps : Pieces) where
     split_rises _ _ _ split_none rise = tt
     split_rises _ _ _ (split_leaf r e is) rise = tt
     split_rises _ xs _ (split_row {rows = rows} r e two keys below) rise = (
-      record { row = r; published = e; keys = subst Rising (sym keys) (first_keys_behind_rise key (parts xs) (parts_rise key xs two rise)) },
+      record {
+        row = r;
+        published = e;
+        keys = subst Rising (sym keys)
+            (first_keys_behind_rise key (parts xs) (parts_rise key xs two rise));
+      },
       split_all_rises r.slots (parts xs) rows below (parts_rise key xs two rise),
     )
 
     split_all_rises : (words : List ℕ) (behind : List (List A)) (rows : List ℕ)
         → SplitAll key ps words behind rows → PartsRise key behind → Each (StandsRising ps) rows
     split_all_rises _ _ _ no_split rise = tt
-    split_all_rises _ _ _ (one_split {words = words} {here = here} {rest = rest} {part = part} {behind = behind} ref e first more) rise =
-        each_append (StandsRising ps) here rest (split_rises ref part here first rise.1) (split_all_rises words behind rest more rise.3)
+    split_all_rises _ _ _ (one_split {words = words} {here = here} {rest = rest} {part = part}
+        {behind = behind} ref e first more) rise =
+        each_append (StandsRising ps) here rest (split_rises ref part here first rise.1)
+        (split_all_rises words behind rest more rise.3)

@@ -28,10 +28,14 @@ use Rattle.ist_core.proofs.PieceLemmas.{among-pieces_of, slice_get-drop, stands_
 -- each row of the new table stands among its words
 rows_stand : (base : ℕ) (p : Piece) → Among (base, p) (rows_from first_row two_pairs)
     → StandsAt two_pairs_words base p
-unfolding ideal_words ideal_words_within rows_within degree square_root root_up_to part_len part_lens
-rows_stand base p (inl e) = subst (λ row. StandsAt two_pairs_words row.0 row.1) (sym e) (stands_by two_pairs_words 4 (top_row first_row two_pairs) refl)
-rows_stand base p (inr (inl e)) = subst (λ row. StandsAt two_pairs_words row.0 row.1) (sym e) (stands_by two_pairs_words 11 (Leaf record { key = 5; value = 7 }) refl)
-rows_stand base p (inr (inr (inl e))) = subst (λ row. StandsAt two_pairs_words row.0 row.1) (sym e) (stands_by two_pairs_words 13 (Leaf record { key = 9; value = 1 }) refl)
+unfolding ideal_words ideal_words_within rows_within degree square_root root_up_to part_len
+    part_lens
+rows_stand base p (inl e) = subst (λ row. StandsAt two_pairs_words row.0 row.1) (sym e)
+    (stands_by two_pairs_words 4 (top_row first_row two_pairs) refl)
+rows_stand base p (inr (inl e)) = subst (λ row. StandsAt two_pairs_words row.0 row.1) (sym e)
+    (stands_by two_pairs_words 11 (Leaf record { key = 5; value = 7 }) refl)
+rows_stand base p (inr (inr (inl e))) = subst (λ row. StandsAt two_pairs_words row.0 row.1) (sym e)
+    (stands_by two_pairs_words 13 (Leaf record { key = 9; value = 1 }) refl)
 rows_stand base p (inr (inr (inr e))) = absurd e
 
 five_zeros : (k : ℕ) → k < 5 → slice_get (drop 15 two_pairs_words) k ≡ Some 0
@@ -45,7 +49,9 @@ five_zeros (suc (suc (suc (suc (suc k))))) h = absurd (omega arith)
 behind_rows : (place : ℕ) → 15 ≤ place → place < 20 → slice_get two_pairs_words place ≡ Some 0
 behind_rows place low high =
     let same : 15 + (place - 15) ≡ place = omega arith in
-    subst (λ n. slice_get two_pairs_words n ≡ Some 0) same (sym (slice_get-drop 15 two_pairs_words (place - 15)) ∙ five_zeros (place - 15) (omega arith))
+    subst (λ n. slice_get two_pairs_words n ≡ Some 0) same
+    (sym (slice_get-drop 15 two_pairs_words (place - 15)) ∙ five_zeros (place - 15)
+    (omega arith))
 
 -- the words of a new table
 pub two_pairs_open : IsImage (start two_pairs 20) two_pairs_words
@@ -57,13 +63,15 @@ two_pairs_open =
       callers = refl;
       anchor_status = refl;
       anchor_slot = refl;
-      rows = λ base p e. rows_stand base p (among-pieces_of (rows_from first_row two_pairs) base p e);
+      rows = λ base p e. rows_stand base p
+          (among-pieces_of (rows_from first_row two_pairs) base p e);
       free = λ place low high. behind_rows place low high;
     }
 
 -- the rows of a larger one
 pub ten_laid : rows_from first_row ten_pairs ≡ ten_rows
-unfolding ideal_words ideal_words_within rows_within degree square_root root_up_to part_len part_lens
+unfolding ideal_words ideal_words_within rows_within degree square_root root_up_to part_len
+    part_lens
 ten_laid = refl
 
 abbrev pub two : Snapshot
@@ -71,11 +79,29 @@ two = start start_pairs 100
 
 -- the start, with a decision
 abbrev the_start : ChangeRow
-the_start = record { decision = 0; kind = start_kind; node = 2; index = 0; from = 34; to = 124; owner = 0; key = 0; value = 0 }
+the_start = record {
+  decision = 0;
+  kind = start_kind;
+  node = 2;
+  index = 0;
+  from = 34;
+  to = 124;
+  owner = 0;
+  key = 0;
+  value = 0;
+}
 
 -- the row over the two pairs
 abbrev the_row : InnerRow
-the_row = record { status = 0; count = 0; degree = 2; size = 2; keys = 20 ∷ []; slots = 89 ∷ 105 ∷ [] }
+the_row = record {
+  status = 0;
+  count = 0;
+  degree = 2;
+  size = 2;
+  keys = 20 ∷ [];
+  slots = 89 ∷ 105 ∷
+      [];
+}
 
 rising : IsStrictlyIncreasing (map (λ pair. pair.key) start_pairs)
 rising zero h = omega arith
@@ -95,7 +121,14 @@ rebuild_reserved =
       known = omega arith;
       base_is = refl;
       room = omega arith;
-      fair = record { building = []; spare = 5 ∷ []; merge = from_right 5 at_end; builds = no_build; few = (inr (inl refl), tt); one_each = ((λ k. k), tt) };
+      fair = record {
+        building = [];
+        spare = 5 ∷ [];
+        merge = from_right 5 at_end;
+        builds = no_build;
+        few = (inr (inl refl), tt);
+        one_each = ((λ k. k), tt);
+      };
     }
 
 change_reserved : CanReserve (state two (Reserve 0 15 5 ∷ Enter 0 ∷ [])) 0 20 9
@@ -130,14 +163,16 @@ NoChange _ = Unit {0}
 -- no change lies in the new table
 unchanged : (base : ℕ) (change : ChangeRow)
     → Among (base, Change change) (rows_from first_row start_pairs) → ⊥
-unfolding NoChange ideal_words ideal_words_within rows_within degree square_root root_up_to part_len part_lens
+unfolding NoChange ideal_words ideal_words_within rows_within degree square_root root_up_to part_len
+    part_lens
 unchanged base change (inl e) = subst (λ row. NoChange row.1) (sym e) tt
 unchanged base change (inr (inl e)) = subst (λ row. NoChange row.1) (sym e) tt
 unchanged base change (inr (inr (inl e))) = subst (λ row. NoChange row.1) (sym e) tt
 unchanged base change (inr (inr (inr e))) = e
 
 installed : CanInstall two reserved 0 20 start_rows
-unfolding rows_within ref_of ideal_words ideal_words_within degree square_root root_up_to part_len part_lens
+unfolding rows_within ref_of ideal_words ideal_words_within degree square_root root_up_to part_len
+    part_lens
 installed =
     record {
       known = omega arith;
@@ -149,7 +184,9 @@ installed =
       unset = refl;
       in_slot = in_anchor refl refl refl;
       linked = inr (inr (inr at_anchor));
-      unrefused = λ base earlier e _ _ _. absurd (unchanged base earlier (among-pieces_of (rows_from first_row start_pairs) base (Change earlier) e));
+      unrefused = λ base earlier e _ _ _. absurd
+          (unchanged base earlier (among-pieces_of (rows_from first_row start_pairs) base
+          (Change earlier) e));
       fits =
           a_start record {
             kind = refl;
@@ -168,4 +205,8 @@ installed =
 
 -- the log is lawful
 pub start_is_lawful : Lawful start_pairs 100 start_installed
-start_is_lawful = record { opens = opens; enabled = ((((tt, entered), rebuild_reserved), change_reserved), installed) }
+start_is_lawful = record {
+  opens = opens;
+  enabled =
+      ((((tt, entered), rebuild_reserved), change_reserved), installed);
+}

@@ -23,7 +23,9 @@ among-flat_map : {A B : Type 0} (f : A → List B) (y : B) (xs : List A) → Amo
     → (x : A) × Among x xs × Among y (f x)
 among-flat_map f y [] i = absurd i
 among-flat_map f y (x ∷ xs) i =
-    ⊎_elim (λ here. (x, inl refl, here)) (λ there. let it = among-flat_map f y xs there in (it.0, inr it.1, it.2)) (among-append y (f x) (flat_map f xs) i)
+    ⊎_elim (λ here. (x, inl refl, here))
+    (λ there. let it = among-flat_map f y xs there in (it.0, inr it.1, it.2))
+    (among-append y (f x) (flat_map f xs) i)
 
 -- the trees of the parts lie one behind another, and end where their words end
 placed_low : (lens : List ℕ) (from : ℕ) (xs : List Pair) (base : ℕ) (part : List Pair)
@@ -35,7 +37,8 @@ placed_low (n ∷ ns) from xs base part fits (inl e) =
     let words = sum_by-cons ideal_words n ns in
     let here : base ≡ from = ap (λ x. x.0) e in
     let is : part ≡ take n xs = ap (λ x. x.1) e in
-    let long : length part ≡ n = subst (λ p. length p ≡ n) (sym is) (length-take-le n xs (omega arith)) in
+    let long : length part ≡ n = subst (λ p. length p ≡ n) (sym is)
+    (length-take-le n xs (omega arith)) in
     let same = ap ideal_words long in
     omega arith
 placed_low (n ∷ ns) from xs base part fits (inr i) =
@@ -50,7 +53,8 @@ low_rows : (fuel base : ℕ) (pairs : List Pair) (at : ℕ) (p : Piece)
     → Among (at, p) (rows_within fuel base pairs) → at < base + ideal_words (length pairs)
 unfolding rows_within
 low_rows fuel base [] at p i = absurd i
-low_rows fuel base (pair ∷ []) at p (inl e) = let here : at ≡ base = ap (λ x. x.0) e in let two = ideal_words_one in omega arith
+low_rows fuel base (pair ∷ []) at p (inl e) = let here : at ≡ base = ap (λ x. x.0) e in let two =
+    ideal_words_one in omega arith
 low_rows fuel base (pair ∷ []) at p (inr i) = absurd i
 low_rows zero base (pair ∷ more ∷ pairs) at p i = absurd i
 low_rows (suc fuel) base (pair ∷ more ∷ pairs) at p (inl e) =
@@ -58,18 +62,22 @@ low_rows (suc fuel) base (pair ∷ more ∷ pairs) at p (inl e) =
     let words = ideal_words_many (length (pair ∷ more ∷ pairs)) (omega arith) in
     omega arith
 low_rows (suc fuel) base (pair ∷ more ∷ pairs) at p (inr i) =
-    let it = among-flat_map (λ part. rows_within fuel part.0 part.1) (at, p) (placed_parts base (pair ∷ more ∷ pairs)) i in
+    let it = among-flat_map (λ part. rows_within fuel part.0 part.1) (at, p)
+    (placed_parts base (pair ∷ more ∷ pairs)) i in
     let inside = low_rows fuel it.0.0 it.0.1 at p it.2 in
     let words = ideal_words_many (length (pair ∷ more ∷ pairs)) (omega arith) in
     let fits = sum-part_lens (length (pair ∷ more ∷ pairs)) in
-    let low = placed_low (part_lens (length (pair ∷ more ∷ pairs))) (base + inner_words (degree (length (pair ∷ more ∷ pairs)))) (pair ∷ more ∷ pairs) it.0.0 it.0.1 (omega arith) it.1 in
+    let low = placed_low (part_lens (length (pair ∷ more ∷ pairs)))
+    (base + inner_words (degree (length (pair ∷ more ∷ pairs)))) (pair ∷ more ∷ pairs) it.0.0
+    it.0.1 (omega arith) it.1 in
     omega arith
 
 -- a new table is sound
 pub sound_start : (pairs : List Pair) (words : ℕ) → IsSound (start pairs words)
 sound_start pairs words =
     record {
-      below = λ base p e. low_rows (length pairs) first_row pairs base p (among-pieces_of (rows_from first_row pairs) base p e);
+      below = λ base p e. low_rows (length pairs) first_row pairs base p
+          (among-pieces_of (rows_from first_row pairs) base p e);
       held_below = λ h i. absurd i;
       unpublished = λ h i. absurd i;
       once = λ g h i j e. absurd i;

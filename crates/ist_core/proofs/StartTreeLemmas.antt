@@ -35,13 +35,15 @@ pieces_of-among from to [] base p h i = absurd i
 pieces_of-among from to (row ∷ rows) base p h (inl e) =
     let here : base ≡ row.0 = ap (λ x. x.0) e in
     let is : p ≡ row.1 = ap (λ x. x.1) e in
-    subst (λ b. with_row (pieces_of rows) row.0 (Some row.1) b ≡ Some p) (sym here) (with_row-same (pieces_of rows) row.0 row.1 ∙ ap (λ x. Some x) (sym is))
+    subst (λ b. with_row (pieces_of rows) row.0 (Some row.1) b ≡ Some p) (sym here)
+    (with_row-same (pieces_of rows) row.0 row.1 ∙ ap (λ x. Some x) (sym is))
 pieces_of-among from to (row ∷ rows) base p h (inr i) =
     let behind = fills_within (from + size_of row.1) to rows base p h.1 i in
     let low = behind.0 in
     let first = h.0 in
     let some = size_positive row.1 in
-    with_row-other (pieces_of rows) row.0 base (Some row.1) (λ e. omega arith) ∙ pieces_of-among (from + size_of row.1) to rows base p h.1 i
+    with_row-other (pieces_of rows) row.0 base (Some row.1) (λ e. omega arith) ∙ pieces_of-among
+    (from + size_of row.1) to rows base p h.1 i
 
 -- the row is a leaf
 pub data IsLeafRow : Piece → Type 0 where
@@ -70,15 +72,21 @@ between_above : (from to base : ℕ) (bases : List ℕ) → Between from bases t
     → from ≤ base
 between_above from to base [] h i = absurd i
 between_above from to base (b ∷ bases) h (inl e) = let first = h.0 in omega arith
-between_above from to base (b ∷ bases) h (inr i) = let first = h.0 in let rest = between_above (b + 1) to base bases h.1 i in omega arith
+between_above from to base (b ∷ bases) h (inr i) = let first = h.0 in let rest = between_above
+    (b + 1) to base bases h.1 i in omega arith
 
 -- no base stands twice among rising ones
 pub between_once : (from to : ℕ) (bases : List ℕ) → Between from bases to → Distinct bases
 between_once from to [] h = tt
-between_once from to (base ∷ bases) h = ((λ i. let low = between_above (base + 1) to base bases h.1 i in omega arith), between_once (base + 1) to bases h.1)
+between_once from to (base ∷ bases) h = (
+  (λ i. let low = between_above (base + 1) to base bases h.1 i in omega arith),
+  between_once
+      (base + 1) to bases h.1,
+)
 
 -- a tree of these rows, which lie between the two places, hangs at the reference
-pub record HangsAs (ps : Pieces) (ref : Ref) (pairs : List Pair) (above : ℕ) (listed : List (ℕ × Piece)) (from to : ℕ) : Type 0 where
+pub record HangsAs (ps : Pieces) (ref : Ref) (pairs : List Pair) (above : ℕ)
+    (listed : List (ℕ × Piece)) (from to : ℕ) : Type 0 where
   pub rows : List ℕ
   pub tree : IsTree ps ref above rows
   pub between : Between from rows to
@@ -86,7 +94,8 @@ pub record HangsAs (ps : Pieces) (ref : Ref) (pairs : List Pair) (above : ℕ) (
   pub splits : Splits (λ pair. pair.key) ps ref pairs rows
 
 -- trees of these rows hang at the words
-record HangAs (ps : Pieces) (words : List ℕ) (behind : List (List Pair)) (above : ℕ) (listed : List (ℕ × Piece)) (from to : ℕ) : Type 0 where
+record HangAs (ps : Pieces) (words : List ℕ) (behind : List (List Pair)) (above : ℕ)
+    (listed : List (ℕ × Piece)) (from to : ℕ) : Type 0 where
   rows : List ℕ
   trees : AreTrees ps words above rows
   between : Between from rows to
@@ -97,7 +106,8 @@ record HangAs (ps : Pieces) (words : List ℕ) (behind : List (List Pair)) (abov
 tree_good : (base : ℕ) (pairs : List Pair) → GoodFrom base (ideal_words (length pairs))
     → IsGoodRef (tree_at base pairs)
 tree_good base [] good = tt
-tree_good base (pair ∷ []) good = let low = good.0 in let high = good.1 in let two = ideal_words_one in record { behind_fixed = low; below_limit = omega arith }
+tree_good base (pair ∷ []) good = let low = good.0 in let high = good.1 in let two = ideal_words_one
+    in record { behind_fixed = low; below_limit = omega arith }
 tree_good base (pair ∷ more ∷ pairs) good =
     let low = good.0 in
     let high = good.1 in
@@ -112,12 +122,24 @@ module _ (ps : Pieces) where
   -- trees of parts, where each part is one
   parts_hang : (fuel from above : ℕ) (ns : List ℕ) (xs : List Pair) → sum ns ≤ length xs
       → above < from → GoodFrom from (sum_by ideal_words ns)
-      → Stand (flat_map (λ part. rows_within fuel part.0 part.1) (zip (bases_from from ns) (cut ns xs)))
-      → ((n base : ℕ) (part : List Pair) → Among n ns → length part ≡ n → above < base → GoodFrom base (ideal_words n) → Stand (rows_within fuel base part) → HangsAs ps (tree_at base part) part above (rows_within fuel base part) base (base + ideal_words n))
+      → Stand (flat_map (λ part. rows_within fuel part.0 part.1)
+      (zip (bases_from from ns) (cut ns xs)))
+      → ((n base : ℕ) (part : List Pair) → Among n ns → length part ≡ n → above < base → GoodFrom
+      base (ideal_words n) → Stand (rows_within fuel base part) → HangsAs ps (tree_at base part)
+      part above (rows_within fuel base part) base (base + ideal_words n))
       → HangAs ps
-      (map (λ part. word_of (tree_at part.0 part.1)) (zip (bases_from from ns) (cut ns xs))) (cut ns xs) above
-      (flat_map (λ part. rows_within fuel part.0 part.1) (zip (bases_from from ns) (cut ns xs))) from (from + sum_by ideal_words ns)
-  parts_hang fuel from above [] xs fits higher good stand each = record { rows = []; trees = no_tree; between = omega arith; each = λ base p i. absurd i; splits = no_split }
+      (map (λ part. word_of (tree_at part.0 part.1)) (zip (bases_from from ns) (cut ns xs)))
+      (cut ns xs) above
+      (flat_map (λ part. rows_within fuel part.0 part.1) (zip (bases_from from ns) (cut ns xs)))
+      from (from + sum_by ideal_words ns)
+  parts_hang fuel from above [] xs fits higher good stand each = record {
+    rows = [];
+    trees = no_tree;
+    between = omega arith;
+    each = λ base p i. absurd i;
+    splits =
+        no_split;
+  }
   parts_hang fuel from above (n ∷ ns) xs fits higher good stand each =
       let all = sum_by-cons (λ x. x) n ns in
       let words = sum_by-cons ideal_words n ns in
@@ -127,21 +149,34 @@ module _ (ps : Pieces) where
       let long = length-take-le n xs (omega arith) in
       let same = ap ideal_words long in
       let here = rows_within fuel from (take n xs) in
-      let more = flat_map (λ part. rows_within fuel part.0 part.1) (zip (bases_from (from + ideal_words n) ns) (cut ns (drop n xs))) in
-      let first = each n from (take n xs) (inl refl) long higher (low, omega arith) (λ base p i. stand base p (among_left (base, p) here more i)) in
-      let rest = parts_hang fuel (from + ideal_words n) above ns (drop n xs) (omega arith) (omega arith) (omega arith, omega arith)
-      (λ base p i. stand base p (among_right (base, p) here more i)) (λ m base part i e. each m base part (inr i) e) in
+      let more = flat_map (λ part. rows_within fuel part.0 part.1)
+      (zip (bases_from (from + ideal_words n) ns) (cut ns (drop n xs))) in
+      let first = each n from (take n xs) (inl refl) long higher (low, omega arith)
+      (λ base p i. stand base p (among_left (base, p) here more i)) in
+      let rest = parts_hang fuel (from + ideal_words n) above ns (drop n xs) (omega arith)
+      (omega arith) (omega arith, omega arith)
+      (λ base p i. stand base p (among_right (base, p) here more i))
+      (λ m base part i e. each m base part (inr i) e) in
       record {
         rows = first.rows ++ rest.rows;
-        trees = one_tree (tree_at from (take n xs)) (ref_of-word_of (tree_at from (take n xs)) (tree_good from (take n xs) (low, omega arith))) first.tree rest.trees;
-        between = between_append from (from + ideal_words n) (from + sum_by ideal_words (n ∷ ns)) first.rows rest.rows first.between
-            (subst (λ to. Between (from + ideal_words n) rest.rows to) (let end : from + ideal_words n + sum_by ideal_words ns ≡ from + sum_by ideal_words (n ∷ ns) = omega arith in end) rest.between);
+        trees = one_tree (tree_at from (take n xs))
+            (ref_of-word_of (tree_at from (take n xs))
+            (tree_good from (take n xs) (low, omega arith))) first.tree rest.trees;
+        between = between_append from (from + ideal_words n) (from + sum_by ideal_words (n ∷ ns))
+            first.rows rest.rows first.between
+            (subst (λ to. Between (from + ideal_words n) rest.rows to)
+            (let end : from + ideal_words n + sum_by ideal_words ns ≡ from + sum_by ideal_words
+            (n ∷ ns) = omega arith in end) rest.between);
         each = λ base p i.
             ⊎_elim
-            (λ k. ⊎_elim (λ l. inl l) (λ l. inr (among_left base first.rows rest.rows l)) (first.each base p k))
-            (λ k. ⊎_elim (λ l. inl l) (λ l. inr (among_right base first.rows rest.rows l)) (rest.each base p k))
+            (λ k. ⊎_elim (λ l. inl l) (λ l. inr (among_left base first.rows rest.rows l))
+            (first.each base p k))
+            (λ k. ⊎_elim (λ l. inl l) (λ l. inr (among_right base first.rows rest.rows l))
+            (rest.each base p k))
             (among-append (base, p) here more i);
-        splits = one_split (tree_at from (take n xs)) (ref_of-word_of (tree_at from (take n xs)) (tree_good from (take n xs) (low, omega arith))) first.splits rest.splits;
+        splits = one_split (tree_at from (take n xs))
+            (ref_of-word_of (tree_at from (take n xs))
+            (tree_good from (take n xs) (low, omega arith))) first.splits rest.splits;
       }
 
   -- the rows of a tree are one
@@ -150,14 +185,24 @@ module _ (ps : Pieces) where
       → HangsAs ps (tree_at base pairs) pairs above (rows_within fuel base pairs) base
       (base + ideal_words (length pairs))
   unfolding rows_within
-  rows_hang fuel base above [] h higher good stand = record { rows = []; tree = tree_none; between = omega arith; each = λ b p i. absurd i; splits = split_none }
+  rows_hang fuel base above [] h higher good stand = record {
+    rows = [];
+    tree = tree_none;
+    between = omega arith;
+    each = λ b p i. absurd i;
+    splits =
+        split_none;
+  }
   rows_hang fuel base above (pair ∷ []) h higher good stand =
       record {
         rows = [];
-        tree = tree_leaf record { key = pair.key; value = pair.value } (stand base (Leaf record { key = pair.key; value = pair.value }) (inl refl));
+        tree = tree_leaf record { key = pair.key; value = pair.value }
+            (stand base (Leaf record { key = pair.key; value = pair.value }) (inl refl));
         between = omega arith;
-        each = λ b p i. ⊎_elim (λ e. inl (subst IsLeafRow (sym (ap (λ x. x.1) e)) (leaf_row _))) (λ n. absurd n) i;
-        splits = split_leaf record { key = pair.key; value = pair.value } (stand base (Leaf record { key = pair.key; value = pair.value }) (inl refl)) refl;
+        each = λ b p i. ⊎_elim (λ e. inl (subst IsLeafRow (sym (ap (λ x. x.1) e)) (leaf_row _)))
+            (λ n. absurd n) i;
+        splits = split_leaf record { key = pair.key; value = pair.value }
+            (stand base (Leaf record { key = pair.key; value = pair.value }) (inl refl)) refl;
       }
   rows_hang zero base above (pair ∷ more ∷ pairs) h higher good stand = absurd (omega arith)
   rows_hang (suc fuel) base above (pair ∷ more ∷ pairs) h higher good stand =
@@ -169,29 +214,37 @@ module _ (ps : Pieces) where
       let low = good.0 in
       let high = good.1 in
       let below = flat_map (λ part. rows_within fuel part.0 part.1) (placed_parts base all) in
-      let hang = parts_hang fuel from base (part_lens n) all (omega arith) (omega arith) (omega arith, omega arith) (λ b p i. stand b p (inr i))
+      let hang = parts_hang fuel from base (part_lens n) all (omega arith) (omega arith)
+      (omega arith, omega arith) (λ b p i. stand b p (inr i))
       (λ m at part i e deeper ok stands.
       let it = among_part_lens n m i in
       let less = part_len-lt n it.0 (omega arith) in
       let is = it.1 in
-      subst (λ k. HangsAs ps (tree_at at part) part base (rows_within fuel at part) at (at + ideal_words k)) e
-      (rows_hang fuel at base part (omega arith) deeper (subst (λ k. GoodFrom at (ideal_words k)) (sym e) ok) stands)) in
+      subst (λ k. HangsAs ps (tree_at at part) part base (rows_within fuel at part) at
+      (at + ideal_words k)) e
+      (rows_hang fuel at base part (omega arith) deeper
+      (subst (λ k. GoodFrom at (ideal_words k)) (sym e) ok) stands)) in
       let end : from + sum_by ideal_words (part_lens n) ≡ base + ideal_words n = omega arith in
-      top_hangs base above all (omega arith) higher below (stand base (top_row base all) (inl refl)) from (base + ideal_words n) (omega arith)
-      (subst (λ to. HangAs ps (map (λ part. word_of (tree_at part.0 part.1)) (placed_parts base all)) (parts all) base below from to) end hang)
+      top_hangs base above all (omega arith) higher below (stand base (top_row base all) (inl refl))
+      from (base + ideal_words n) (omega arith)
+      (subst (λ to. HangAs ps (map (λ part. word_of (tree_at part.0 part.1))
+      (placed_parts base all)) (parts all) base below from to) end hang)
     where
-      top_hangs : (base above : ℕ) (all : List Pair) → 2 ≤ length all → above < base → (below : List (ℕ × Piece))
+      top_hangs : (base above : ℕ) (all : List Pair) → 2 ≤ length all → above < base →
+          (below : List (ℕ × Piece))
           → ps base ≡ Some (top_row base all)
           → (from to : ℕ) → base + 1 ≤ from
           → HangAs ps
-          (map (λ part. word_of (tree_at part.0 part.1)) (placed_parts base all)) (parts all) base below from to
+          (map (λ part. word_of (tree_at part.0 part.1)) (placed_parts base all)) (parts all) base
+          below from to
           → HangsAs ps (InnerAt base) all above ((base, top_row base all) ∷ below) base to
       top_hangs base above all two higher below there from to behind hang =
           record {
             rows = base ∷ hang.rows;
             tree = tree_row _ there higher hang.trees;
             between = (omega arith, between_wider (base + 1) from to hang.rows behind hang.between);
-            each = λ b p i. ⊎_elim (λ e. inr (inl (ap (λ x. x.0) e))) (λ k. ⊎_elim (λ l. inl l) (λ l. inr (inr l)) (hang.each b p k)) i;
+            each = λ b p i. ⊎_elim (λ e. inr (inl (ap (λ x. x.0) e)))
+                (λ k. ⊎_elim (λ l. inl l) (λ l. inr (inr l)) (hang.each b p k)) i;
             splits = split_row _ there two refl hang.splits;
           }
 
@@ -200,7 +253,8 @@ module _ (pairs : List Pair) (words : ℕ) (opens : CanOpen pairs words) where
   start_stands : (base : ℕ) (p : Piece) → Among (base, p) (rows_from first_row pairs)
       → (start pairs words).pieces base ≡ Some p
   start_stands base p i =
-      pieces_of-among first_row (first_row + ideal_words (length pairs)) (rows_from first_row pairs) base p (fills_rows (length pairs) first_row pairs (omega arith)) i
+      pieces_of-among first_row (first_row + ideal_words (length pairs)) (rows_from first_row pairs)
+      base p (fills_rows (length pairs) first_row pairs (omega arith)) i
 
   start_good : GoodFrom first_row (ideal_words (length pairs))
   start_good = let room = opens.room in let most = opens.within in (omega arith, omega arith)
@@ -209,7 +263,8 @@ module _ (pairs : List Pair) (words : ℕ) (opens : CanOpen pairs words) where
   pub start_hangs : (above : ℕ) → above < first_row
       → HangsAs (start pairs words).pieces (tree_at first_row pairs) pairs above
       (rows_from first_row pairs) first_row (first_row + ideal_words (length pairs))
-  start_hangs above low = rows_hang (start pairs words).pieces (length pairs) first_row above pairs (omega arith) low start_good start_stands
+  start_hangs above low = rows_hang (start pairs words).pieces (length pairs) first_row above pairs
+      (omega arith) low start_good start_stands
 
   -- the word of the anchor leads to it
   pub start_anchor : ref_of (start pairs words).anchor ≡ Some (tree_at first_row pairs)
@@ -223,10 +278,15 @@ module _ (pairs : List Pair) (words : ℕ) (opens : CanOpen pairs words) where
         rows = λ base p e.
             ⊎_elim
             (λ leaf. leaf_names base p leaf)
-            (λ i. let it = each-among (IsTreeRow (start pairs words).pieces) base hang.rows (tree_rows (start pairs words).pieces (tree_at first_row pairs) anchor hang.rows hang.tree) i in
-            known (λ x. RowNames (start pairs words).pieces base x) ((start pairs words).pieces base) p (Inner it.row) e it.published it.names)
+            (λ i. let it = each-among (IsTreeRow (start pairs words).pieces) base hang.rows
+            (tree_rows (start pairs words).pieces (tree_at first_row pairs) anchor hang.rows
+            hang.tree) i in
+            known (λ x. RowNames (start pairs words).pieces base x)
+            ((start pairs words).pieces base) p (Inner it.row) e it.published it.names)
             (hang.each base p (among-pieces_of (rows_from first_row pairs) base p e));
-        anchor_slot = subst (λ o. SlotNames (start pairs words).pieces anchor 0 o) (sym start_anchor) (tree_slot (start pairs words).pieces (tree_at first_row pairs) anchor hang.rows 0 hang.tree);
+        anchor_slot = subst (λ o. SlotNames (start pairs words).pieces anchor 0 o)
+            (sym start_anchor) (tree_slot (start pairs words).pieces (tree_at first_row pairs)
+            anchor hang.rows 0 hang.tree);
       }
     where
       leaf_names : (base : ℕ) (p : Piece) → IsLeafRow p → RowNames (start pairs words).pieces base p

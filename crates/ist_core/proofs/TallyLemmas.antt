@@ -1,4 +1,5 @@
--- The count of a row is the number of its Counts, and few changes are decided yes. Serves `laws.counts_are_low`.
+-- The count of a row is the number of its Counts, and few changes are decided yes. Serves
+-- `laws.counts_are_low`.
 use Rattle.std.proofs.Common.{◌≡◌, ◌≢◌, ℕ, zero, suc, ◌+◌, ◌≤◌, ◌⊎◌, ◌==◌, nat_lt, if◌then◌else◌, Bool, true, false, List, [], ◌∷◌, length, Some, refl, sym, ap, ◌∙◌, subst, inl, inr, ⊎_elim, arith}
 use Rattle.std.proofs.lemmas.Bool.Decides.{eqb_tells}
 use Rattle.ist_core.specs.declared.pairs.Pair.{Pair}
@@ -42,14 +43,17 @@ count_in _ = 0
 
 pair_uncounted : (key base other_key other : ℕ) → count_in (pair_row key base other_key other) ≡ 0
 pair_uncounted key base other_key other =
-    elim (nat_lt other_key key) as (λ v. count_in (if v then pair_over key other base else pair_over other_key base other) ≡ 0) [ true ↦ refl | false ↦ refl ]
+    elim (nat_lt other_key key) as
+    (λ v. count_in (if v then pair_over key other base else pair_over other_key base other) ≡ 0)
+    [ true ↦ refl | false ↦ refl ]
 
 installed_uncounted : (first : Snapshot) (log : Log) (at : ℕ) (change : ChangeRow)
     (fresh : List Row) (fits : FitsKind first log change fresh) (base : ℕ) (p : Piece)
     → IsInstalled first log at change fresh fits base p → count_in p ≡ 0
 installed_uncounted first log at change fresh fits base p (inl h) = ap count_in h.1
 installed_uncounted first log at change fresh (a_put f) base p (inr h) = ap count_in h.1
-installed_uncounted first log at change fresh (a_pair f) base p (inr (inl h)) = ap count_in h.1 ∙ pair_uncounted change.key f.leaf f.other_key f.other
+installed_uncounted first log at change fresh (a_pair f) base p (inr (inl h)) = ap count_in h.1 ∙
+    pair_uncounted change.key f.leaf f.other_key f.other
 installed_uncounted first log at change fresh (a_pair f) base p (inr (inr h)) = ap count_in h.1
 installed_uncounted first log at change fresh (a_remove f) base p (inr h) = absurd h
 installed_uncounted first log at change fresh (a_start f) base p (inr h) = ap count_in h.1
@@ -64,23 +68,30 @@ mutual
       → IsIdeal ps ref leaves above rows → Each (Uncounted ps) rows
   ideal_uncounted ps _ _ _ _ of_none = tt
   ideal_uncounted ps _ _ _ _ (of_one same e) = tt
-  ideal_uncounted ps _ _ above _ (of_more {base = base} {rows = rows} r top below) = ((Inner r, top.published, top.count), parts_uncounted ps r.slots _ base rows below)
+  ideal_uncounted ps _ _ above _ (of_more {base = base} {rows = rows} r top below) =
+      ((Inner r, top.published, top.count), parts_uncounted ps r.slots _ base rows below)
 
   parts_uncounted : (ps : Pieces) (words : List ℕ) (behind : List (List PlacedLeaf)) (above : ℕ)
       (rows : List ℕ)
       → AreIdeal ps words behind above rows → Each (Uncounted ps) rows
   parts_uncounted ps _ _ _ _ no_part = tt
-  parts_uncounted ps _ _ above _ (one_part {words = words} {here = here} {rest = rest} {part = part} {behind = behind} ref e first more) =
-      each_append (Uncounted ps) here rest (ideal_uncounted ps ref part above here first) (parts_uncounted ps words behind above rest more)
+  parts_uncounted ps _ _ above _
+      (one_part {words = words} {here = here} {rest = rest} {part = part} {behind = behind} ref e
+      first more) =
+      each_append (Uncounted ps) here rest (ideal_uncounted ps ref part above here first)
+      (parts_uncounted ps words behind above rest more)
 
 root_uncounted : (ps : Pieces) (word k : ℕ) (leaves : List PlacedLeaf) (target : ℕ) (rows : List ℕ)
     → IsRoot ps word k leaves target rows → Each (Uncounted ps) rows
-root_uncounted ps word k leaves target rows (root_whole ref few e ideal) = ideal_uncounted ps ref leaves target rows ideal
-root_uncounted ps word k leaves target rows (root_top base row many e top unset one) = subst (λ bs. Each (Uncounted ps) bs) (sym one) ((Inner row, top.published, top.count), tt)
+root_uncounted ps word k leaves target rows (root_whole ref few e ideal) = ideal_uncounted ps ref
+    leaves target rows ideal
+root_uncounted ps word k leaves target rows (root_top base row many e top unset one) = subst
+    (λ bs. Each (Uncounted ps) bs) (sym one) ((Inner row, top.published, top.count), tt)
 
 tree_uncounted : (ps : Pieces) (rows : List ℕ) (base : ℕ) (p : Piece) → Each (Uncounted ps) rows
     → Among base rows → ps base ≡ Some p → count_in p ≡ 0
-tree_uncounted ps rows base p all i e = let it = each-among (Uncounted ps) base rows all i in known (λ x. count_in x ≡ 0) (ps base) p it.0 e it.1 it.2
+tree_uncounted ps rows base p all i e = let it = each-among (Uncounted ps) base rows all i in known
+    (λ x. count_in x ≡ 0) (ps base) p it.0 e it.1 it.2
 
 start_uncounted : (fuel base : ℕ) (pairs : List Pair)
     → Each (λ row. count_in row.1 ≡ 0) (rows_within fuel base pairs)
@@ -88,8 +99,11 @@ unfolding rows_within
 start_uncounted fuel base [] = tt
 start_uncounted fuel base (pair ∷ []) = (refl, tt)
 start_uncounted zero base (pair ∷ more ∷ pairs) = tt
-start_uncounted (suc fuel) base (pair ∷ more ∷ pairs) =
-    (refl, each-flat_map (λ row. count_in row.1 ≡ 0) (λ part. rows_within fuel part.0 part.1) (placed_parts base (pair ∷ more ∷ pairs)) (λ part. start_uncounted fuel part.0 part.1))
+start_uncounted (suc fuel) base (pair ∷ more ∷ pairs) = (
+  refl,
+  each-flat_map (λ row. count_in row.1 ≡ 0) (λ part. rows_within fuel part.0 part.1)
+      (placed_parts base (pair ∷ more ∷ pairs)) (λ part. start_uncounted fuel part.0 part.1),
+)
 
 -- ---- the count of a row is the number of its Counts
 
@@ -161,7 +175,8 @@ module _ (node : ℕ) where
           let before = old it.0 it.1 in
           let more = counted_more it.0 in
           subst (λ b. count_in q ≤ (if b then most + 1 else most)) (sym k.0)
-          (⊎_elim (λ l. let is = ap count_in l in omega arith) (λ l. let is = ap count_in l.1 in omega arith) it.2)
+          (⊎_elim (λ l. let is = ap count_in l in omega arith)
+          (λ l. let is = ap count_in l.1 in omega arith) it.2)
       here v (inr k) =
           let it = changed_at-some ps at node counted q e in
           let before = old it.0 it.1 in
@@ -175,33 +190,55 @@ module _ (node : ℕ) where
   most_step first log (Install caller base rows) h s old =
       let t = state first log in
       let qs = with_installed t.pieces base h.change h.fresh in
-      let adds = adds_install first log caller base h.change h.fresh h.fits (holds_installed first log caller base rows h) s in
-      most_changed qs (after t (Install caller base rows)).pieces h.change.node (with_slot h.change.index (word_of (ChangeAt base))) (counts node log)
-      (ap (λ xs. (after t (Install caller base xs)).pieces) h.rows_are) (slot_same h.change.index (word_of (ChangeAt base)))
+      let adds = adds_install first log caller base h.change h.fresh h.fits
+      (holds_installed first log caller base rows h) s in
+      most_changed qs (after t (Install caller base rows)).pieces h.change.node
+      (with_slot h.change.index (word_of (ChangeAt base))) (counts node log)
+      (ap (λ xs. (after t (Install caller base xs)).pieces) h.rows_are)
+      (slot_same h.change.index (word_of (ChangeAt base)))
       (most_added t.pieces qs (counts node log)
-      (λ q e. ⊎_elim (λ k. inl k) (λ k. inr (installed_uncounted first log base h.change h.fresh h.fits node q k)) (adds.from node q e)) old)
+      (λ q e. ⊎_elim (λ k. inl k) (λ k. inr
+      (installed_uncounted first log base h.change h.fresh h.fits node q k))
+      (adds.from node q e)) old)
   most_step first log (Resolve caller base) h s old =
-      most_changed (state first log).pieces (after (state first log) (Resolve caller base)).pieces h.change.node (with_slot h.change.index (side_of h.change)) (counts node log)
-      (ap (λ u. u.pieces) (rows_resolved (state first log) caller base h)) (slot_same h.change.index (side_of h.change)) old
+      most_changed (state first log).pieces (after (state first log) (Resolve caller base)).pieces
+      h.change.node (with_slot h.change.index (side_of h.change)) (counts node log)
+      (ap (λ u. u.pieces) (rows_resolved (state first log) caller base h))
+      (slot_same h.change.index (side_of h.change)) old
   most_step first log (Root caller rebuild word rows) h s old =
       let t = state first log in
       let qs = with_inners t.pieces rows in
       let adds = adds-with_inners t caller rows h.held s in
-      most_changed qs (changed_at qs rebuild (with_root word)) rebuild (with_root word) (counts node log) refl (root_same word)
+      most_changed qs (changed_at qs rebuild (with_root word)) rebuild (with_root word)
+      (counts node log) refl (root_same word)
       (most_added t.pieces qs (counts node log)
-      (λ q e. ⊎_elim (λ k. inl k) (λ k. inr (tree_uncounted qs (bases_of rows) node q (root_uncounted qs word h.k h.leaves h.row.target (bases_of rows) h.root) k e)) (adds.from node q e)) old)
+      (λ q e. ⊎_elim (λ k. inl k) (λ k. inr
+      (tree_uncounted qs (bases_of rows) node q
+      (root_uncounted qs word h.k h.leaves h.row.target (bases_of rows) h.root) k e))
+      (adds.from node q e)) old)
   most_step first log (Place caller rebuild i word rows) h s old =
       let t = state first log in
       let qs = with_inners t.pieces rows in
       let adds = adds-with_inners t caller rows h.held s in
-      most_changed qs (after t (Place caller rebuild i word rows)).pieces h.root (with_slot i word) (counts node log) (rows_placed t caller rebuild i word rows h) (slot_same i word)
+      most_changed qs (after t (Place caller rebuild i word rows)).pieces h.root (with_slot i word)
+      (counts node log) (rows_placed t caller rebuild i word rows h) (slot_same i word)
       (most_added t.pieces qs (counts node log)
-      (λ q e. ⊎_elim (λ k. inl k) (λ k. inr (tree_uncounted qs (bases_of rows) node q (ideal_uncounted qs h.ref h.part h.root (bases_of rows) h.ideal) k e)) (adds.from node q e)) old)
-  most_step first log (Count caller at) h s old = most_counted (state first log).pieces at (counts node log) old
-  most_step first log (Decide caller base said) h s old = most_changed (state first log).pieces _ base (with_decision (decision_word said)) (counts node log) refl (decision_same (decision_word said)) old
-  most_step first log (Mark caller at) h s old = most_changed (state first log).pieces _ at (with_status marked_word) (counts node log) refl (status_same marked_word) old
-  most_step first log (Finish caller at keys) h s old = most_changed (state first log).pieces _ at (with_status (finished_word keys)) (counts node log) refl (status_same (finished_word keys)) old
-  most_step first log (Draw caller rebuild part) h s old = most_changed (state first log).pieces _ rebuild drawn (counts node log) refl drawn_same old
+      (λ q e. ⊎_elim (λ k. inl k) (λ k. inr
+      (tree_uncounted qs (bases_of rows) node q
+      (ideal_uncounted qs h.ref h.part h.root (bases_of rows) h.ideal) k e))
+      (adds.from node q e)) old)
+  most_step first log (Count caller at) h s old = most_counted (state first log).pieces at
+      (counts node log) old
+  most_step first log (Decide caller base said) h s old = most_changed (state first log).pieces _
+      base (with_decision (decision_word said)) (counts node log) refl
+      (decision_same (decision_word said)) old
+  most_step first log (Mark caller at) h s old = most_changed (state first log).pieces _ at
+      (with_status marked_word) (counts node log) refl (status_same marked_word) old
+  most_step first log (Finish caller at keys) h s old = most_changed (state first log).pieces _ at
+      (with_status (finished_word keys)) (counts node log) refl (status_same (finished_word keys))
+      old
+  most_step first log (Draw caller rebuild part) h s old = most_changed (state first log).pieces _
+      rebuild drawn (counts node log) refl drawn_same old
   most_step first log (Enter caller) h s old = old
   most_step first log (Reserve caller base size) h s old = old
   most_step first log (Okay caller base) h s old = old
@@ -213,7 +250,11 @@ module _ (node : ℕ) where
       → EachEnabled (start pairs words) log
       → CountsAtMost (state_of pairs words log).pieces (counts node log)
   count_at_most pairs words [] h q e =
-      let none = each-among (λ row. count_in row.1 ≡ 0) (node, q) (rows_from first_row pairs) (start_uncounted (length pairs) first_row pairs) (among-pieces_of (rows_from first_row pairs) node q e) in
+      let none = each-among (λ row. count_in row.1 ≡ 0) (node, q) (rows_from first_row pairs)
+      (start_uncounted (length pairs) first_row pairs)
+      (among-pieces_of (rows_from first_row pairs) node q e) in
       omega arith
   count_at_most pairs words (event ∷ log) h q e =
-      most_step (start pairs words) log event h.1 (sound (start pairs words) log (sound_start pairs words) h.0) (λ r k. count_at_most pairs words log h.0 r k) q e
+      most_step (start pairs words) log event h.1
+      (sound (start pairs words) log (sound_start pairs words) h.0)
+      (λ r k. count_at_most pairs words log h.0 r k) q e

@@ -1,4 +1,5 @@
--- Trees of fresh rows: an ideal subtree, the top row of a shared root, and the start layout. Serves the conjunct `names`.
+-- Trees of fresh rows: an ideal subtree, the top row of a shared root, and the start layout. Serves
+-- the conjunct `names`.
 use Rattle.std.proofs.Common.{◌≡◌, ℕ, zero, suc, ◌<◌, List, [], ◌∷◌, ◌++◌, replicate, length, slice_get, Some, sym, subst}
 use Rattle.ist_core.specs.declared.states.LeafRow.{LeafRow}
 use Rattle.ist_core.specs.declared.states.InnerRow.{InnerRow}
@@ -14,7 +15,8 @@ use Rattle.ist_core.proofs.ReferenceLemmas.{ref_of-unset}
 use Rattle.ist_core.proofs.NamingLemmas.{SlotNames, RowNames, RootNames}
 
 mutual
-  -- the reference leads to a tree of published rows with bases above the given one, parents below children: its inner rows
+  -- the reference leads to a tree of published rows with bases above the given one, parents below
+  -- children: its inner rows
   pub data IsTree (ps : Pieces) : Ref → ℕ → List ℕ → Type 0 where
     tree_none : {above : ℕ} → IsTree ps Empty above []
     tree_unset : {above : ℕ} → IsTree ps Unset above []
@@ -40,14 +42,17 @@ mutual
       → IsIdeal ps ref leaves above rows → IsTree ps ref above rows
   tree_of_ideal ps _ _ _ _ of_none = tree_none
   tree_of_ideal ps _ _ _ _ (of_one {leaf = leaf} same e) = tree_leaf leaf.row e
-  tree_of_ideal ps _ _ above _ (of_more {base = base} {leaves = leaves} {rows = rows} r top below) = tree_row r top.published top.higher (trees_of_ideal ps r.slots _ base rows below)
+  tree_of_ideal ps _ _ above _ (of_more {base = base} {leaves = leaves} {rows = rows} r top below) =
+      tree_row r top.published top.higher (trees_of_ideal ps r.slots _ base rows below)
 
   trees_of_ideal : (ps : Pieces) (words : List ℕ) (parts : List (List PlacedLeaf)) (above : ℕ)
       (rows : List ℕ)
       → AreIdeal ps words parts above rows → AreTrees ps words above rows
   trees_of_ideal ps _ _ _ _ no_part = no_tree
-  trees_of_ideal ps _ _ _ _ (one_part {word = word} {above = above} {words = words} {here = here} {rest = rest} {part = part} {behind = behind} ref e first more) =
-      one_tree ref e (tree_of_ideal ps ref part above here first) (trees_of_ideal ps words behind above rest more)
+  trees_of_ideal ps _ _ _ _ (one_part {word = word} {above = above} {words = words} {here = here}
+      {rest = rest} {part = part} {behind = behind} ref e first more) =
+      one_tree ref e (tree_of_ideal ps ref part above here first)
+      (trees_of_ideal ps words behind above rest more)
 
 -- slots that aren't set yet lead nowhere
 unset_trees : (ps : Pieces) (above n : ℕ) → AreTrees ps (replicate n unset_word) above []
@@ -58,12 +63,15 @@ unset_trees ps above (suc n) = one_tree Unset ref_of-unset tree_unset (unset_tre
 pub root_tree : (ps : Pieces) (word k : ℕ) (leaves : List PlacedLeaf) (target : ℕ) (rows : List ℕ)
     → IsRoot ps word k leaves target rows
     → (ref : Ref) × (ref_of word ≡ Some ref) × IsTree ps ref target rows
-root_tree ps word k leaves target rows (root_whole ref few e ideal) = (ref, e, tree_of_ideal ps ref leaves target rows ideal)
+root_tree ps word k leaves target rows (root_whole ref few e ideal) =
+    (ref, e, tree_of_ideal ps ref leaves target rows ideal)
 root_tree ps word k leaves target rows (root_top base row many e top unset one) = (
   InnerAt base,
   e,
   subst (λ bs. IsTree ps (InnerAt base) target bs) (sym one)
-      (tree_row row top.published top.higher (subst (λ ws. AreTrees ps ws base []) (sym unset) (unset_trees ps base (degree (length leaves))))),
+      (tree_row row top.published top.higher
+      (subst (λ ws. AreTrees ps ws base []) (sym unset)
+      (unset_trees ps base (degree (length leaves))))),
 )
 
 -- ---- what the words of a tree name
@@ -91,8 +99,10 @@ pub trees_slot : (ps : Pieces) (words : List ℕ) (above : ℕ) (rows : List ℕ
 trees_slot ps _ above _ no_tree start i word e = absurd (cc)
 trees_slot ps _ above _ (one_tree {word = w} {here = here} ref is first more) start zero word e =
     let same : w ≡ word = cc in
-    subst (λ x. SlotNames ps above start (ref_of x)) same (subst (λ o. SlotNames ps above start o) (sym is) (tree_slot ps ref above here start first))
-trees_slot ps _ above _ (one_tree {words = words} {rest = rest} ref is first more) start (suc i) word e = trees_slot ps words above rest more start i word e
+    subst (λ x. SlotNames ps above start (ref_of x)) same
+    (subst (λ o. SlotNames ps above start o) (sym is) (tree_slot ps ref above here start first))
+trees_slot ps _ above _ (one_tree {words = words} {rest = rest} ref is first more) start (suc i)
+    word e = trees_slot ps words above rest more start i word e
 
 -- a row of a tree: an inner row whose words name what they may
 pub record IsTreeRow (ps : Pieces) (base : ℕ) : Type 0 where
@@ -107,11 +117,19 @@ mutual
   tree_rows ps _ above _ tree_none = tt
   tree_rows ps _ above _ tree_unset = tt
   tree_rows ps _ above _ (tree_leaf r e) = tt
-  tree_rows ps _ above _ (tree_row {base = base} {rows = rows} r e higher below) =
-      (record { row = r; published = e; names = λ i word f. trees_slot ps r.slots base rows below i i word f }, trees_rows ps r.slots base rows below)
+  tree_rows ps _ above _ (tree_row {base = base} {rows = rows} r e higher below) = (
+    record {
+      row = r;
+      published = e;
+      names = λ i word f. trees_slot ps r.slots base rows below i
+          i word f;
+    },
+    trees_rows ps r.slots base rows below,
+  )
 
   trees_rows : (ps : Pieces) (words : List ℕ) (above : ℕ) (rows : List ℕ)
       → AreTrees ps words above rows → Each (IsTreeRow ps) rows
   trees_rows ps _ above _ no_tree = tt
   trees_rows ps _ above _ (one_tree {words = words} {here = here} {rest = rest} ref is first more) =
-      each_append (IsTreeRow ps) here rest (tree_rows ps ref above here first) (trees_rows ps words above rest more)
+      each_append (IsTreeRow ps) here rest (tree_rows ps ref above here first)
+      (trees_rows ps words above rest more)

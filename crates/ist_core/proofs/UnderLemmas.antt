@@ -1,4 +1,5 @@
--- The leaves below what is named for a slot lie where their keys lead, and rise by key. Serves the order law.
+-- The leaves below what is named for a slot lie where their keys lead, and rise by key. Serves the
+-- order law.
 use Rattle.std.proofs.Common.{◌≡◌, ℕ, suc, ◌+◌, ◌<◌, ◌≤◌, List, [], ◌∷◌, slice_get, Option, Some, None, refl, subst, arith}
 use Rattle.ist_core.specs.declared.states.LeafRow.{LeafRow}
 use Rattle.ist_core.specs.declared.states.InnerRow.{InnerRow}
@@ -18,13 +19,19 @@ use Rattle.ist_core.proofs.RisingLemmas.{child_count_tells, Rises, AllBelow, ris
 use Rattle.ist_core.proofs.SplitLemmas.{key_of_leaf}
 use Rattle.ist_core.proofs.LeadingLemmas.{LiesIn, LeavesLie, lies_above, child_is}
 
--- what the rows of a tree say of where keys lie: `In` of what a slot reads as, and `Lies` of a key at a slot
-pub record SaysWhere (ps : Pieces) (In : ℕ → ℕ → Option Ref → Type 0) (Lies : ℕ → ℕ → ℕ → Type 0) : Type 0 where
-  pub leaf : (node i base : ℕ) (r : LeafRow) → In node i (Some (LeafAt base)) → ps base ≡ Some (Leaf r) → Lies r.key node i
-  pub slot : (base j word : ℕ) (r : InnerRow) → ps base ≡ Some (Inner r) → slice_get r.slots j ≡ Some word
+-- what the rows of a tree say of where keys lie: `In` of what a slot reads as, and `Lies` of a key
+-- at a slot
+pub record SaysWhere (ps : Pieces) (In : ℕ → ℕ → Option Ref → Type 0) (Lies : ℕ → ℕ → ℕ → Type 0) :
+    Type 0 where
+  pub leaf : (node i base : ℕ) (r : LeafRow) → In node i (Some (LeafAt base)) → ps base ≡ Some
+      (Leaf r) → Lies r.key node i
+  pub slot : (base j word : ℕ) (r : InnerRow) → ps base ≡ Some (Inner r) → slice_get r.slots j ≡
+      Some word
       → In base j (logical ps word)
-  pub up : (node i base j key : ℕ) → In node i (Some (InnerAt base)) → Lies key base j → Lies key node i
-  pub child : (base j key : ℕ) (r : InnerRow) → ps base ≡ Some (Inner r) → Lies key base j → j ≡ child_count r.keys key
+  pub up : (node i base j key : ℕ) → In node i (Some (InnerAt base)) → Lies key base j → Lies key
+      node i
+  pub child : (base j key : ℕ) (r : InnerRow) → ps base ≡ Some (Inner r) → Lies key base j → j ≡
+      child_count r.keys key
 
 -- what follows for each element
 pub each_mapped : {A : Type 0} (P Q : A → Type 0) (xs : List A) → ((x : A) → P x → Q x) → Each P xs
@@ -32,10 +39,12 @@ pub each_mapped : {A : Type 0} (P Q : A → Type 0) (xs : List A) → ((x : A) �
 each_mapped P Q [] f h = tt
 each_mapped P Q (x ∷ xs) f h = (f x h.0, each_mapped P Q xs f h.1)
 
-module _ (ps : Pieces) (In : ℕ → ℕ → Option Ref → Type 0) (Lies : ℕ → ℕ → ℕ → Type 0) (says : SaysWhere ps In Lies) where
+module _ (ps : Pieces) (In : ℕ → ℕ → Option Ref → Type 0) (Lies : ℕ → ℕ → ℕ → Type 0)
+    (says : SaysWhere ps In Lies) where
   -- the leaves lie in this slot, and rise
   abbrev AreIn : List PlacedLeaf → ℕ → ℕ → Type 0
-  AreIn leaves node i = Each (λ leaf. Lies (key_of_leaf leaf) node i) leaves × Rises key_of_leaf leaves
+  AreIn leaves node i = Each (λ leaf. Lies (key_of_leaf leaf) node i) leaves × Rises key_of_leaf
+      leaves
 
   -- the leaf lies in slot j of the row, or in one behind it
   abbrev IsFrom : ℕ → ℕ → PlacedLeaf → Type 0
@@ -46,7 +55,8 @@ module _ (ps : Pieces) (In : ℕ → ℕ → Option Ref → Type 0) (Lies : ℕ 
       → Each (λ leaf. Lies (key_of_leaf leaf) base j) here → Each (IsFrom base (suc j)) rest
       → AllBelow key_of_leaf here rest
   earlier base j r here rest e first more =
-      each_mapped (λ x. Lies (key_of_leaf x) base j) (λ x. Each (λ y. key_of_leaf x < key_of_leaf y) rest) here
+      each_mapped (λ x. Lies (key_of_leaf x) base j)
+      (λ x. Each (λ y. key_of_leaf x < key_of_leaf y) rest) here
       (λ x lies. each_mapped (IsFrom base (suc j)) (λ y. key_of_leaf x < key_of_leaf y) rest
       (λ y there.
       let one = says.child base j (key_of_leaf x) r e lies in
@@ -58,23 +68,36 @@ module _ (ps : Pieces) (In : ℕ → ℕ → Option Ref → Type 0) (Lies : ℕ 
     leaves_in : (ref : Option Ref) (leaves : List PlacedLeaf) → HasLeaves ps ref leaves
         → (node i : ℕ) → In node i ref → AreIn leaves node i
     leaves_in _ _ none_here node i m = (tt, tt)
-    leaves_in _ _ (leaf_here {base = base} r e) node i m = ((says.leaf node i base r m e, tt), (tt, tt))
+    leaves_in _ _ (leaf_here {base = base} r e) node i m =
+        ((says.leaf node i base r m e, tt), (tt, tt))
     leaves_in _ leaves (row_here {base = base} r e below) node i m =
-        let it = slots_in r.slots leaves below base r e 0 (λ k j word is at. says.slot base j word r e (subst (λ n. slice_get r.slots n ≡ Some word) (let same : k ≡ j = omega arith in same) at)) in
-        (each_mapped (IsFrom base 0) (λ leaf. Lies (key_of_leaf leaf) node i) leaves (λ leaf there. says.up node i base there.0 (key_of_leaf leaf) m there.2) it.0, it.1)
+        let it = slots_in r.slots leaves below base r e 0
+        (λ k j word is at. says.slot base j word r e
+        (subst (λ n. slice_get r.slots n ≡ Some word) (let same : k ≡ j = omega arith in same)
+        at)) in (
+          each_mapped (IsFrom base 0) (λ leaf. Lies (key_of_leaf leaf) node i) leaves
+              (λ leaf there. says.up node i base there.0 (key_of_leaf leaf) m there.2) it.0,
+          it.1,
+        )
 
     slots_in : (words : List ℕ) (leaves : List PlacedLeaf) → SlotsHaveLeaves ps words leaves
         → (base : ℕ) (r : InnerRow) → ps base ≡ Some (Inner r) → (j : ℕ)
         → ((k m word : ℕ) → m ≡ j + k → slice_get words k ≡ Some word → In base m (logical ps word))
         → Each (IsFrom base j) leaves × Rises key_of_leaf leaves
     slots_in _ _ no_slot base r e j reads = (tt, tt)
-    slots_in _ _ (one_slot {word = word} {words = words} {here = here} {rest = rest} first more) base r e j reads =
-        let one = leaves_in (logical ps word) here first base j (reads 0 j word (omega arith) refl) in
-        let others = slots_in words rest more base r e (suc j) (λ k m w is at. reads (suc k) m w (omega arith) at) in (
+    slots_in _ _ (one_slot {word = word} {words = words} {here = here} {rest = rest} first more)
+        base r e j reads =
+        let one = leaves_in (logical ps word) here first base j (reads 0 j word (omega arith) refl)
+        in
+        let others = slots_in words rest more base r e (suc j)
+        (λ k m w is at. reads (suc k) m w (omega arith) at) in (
           each_append (IsFrom base j) here rest
-              (each_mapped (λ leaf. Lies (key_of_leaf leaf) base j) (IsFrom base j) here (λ leaf lies. (j, omega arith, lies)) one.0)
-              (each_mapped (IsFrom base (suc j)) (IsFrom base j) rest (λ leaf there. let low = there.1 in (there.0, omega arith, there.2)) others.0),
-          rises_append key_of_leaf here rest one.1 others.1 (earlier base j r here rest e one.0 others.0),
+              (each_mapped (λ leaf. Lies (key_of_leaf leaf) base j) (IsFrom base j) here
+              (λ leaf lies. (j, omega arith, lies)) one.0)
+              (each_mapped (IsFrom base (suc j)) (IsFrom base j) rest
+              (λ leaf there. let low = there.1 in (there.0, omega arith, there.2)) others.0),
+          rises_append key_of_leaf here rest one.1 others.1
+              (earlier base j r here rest e one.0 others.0),
         )
 
   pub leaves_lie_in : (ref : Option Ref) (leaves : List PlacedLeaf) → HasLeaves ps ref leaves
@@ -91,7 +114,8 @@ pub record ReadsAs (t : Snapshot) (node i : ℕ) (ref : Option Ref) : Type 0 whe
 -- a leaf that a slot reads as is named for it
 pub leaf_mentioned : (t : Snapshot) (node i word leaf : ℕ) → WordsName t → SlotHolds t node i word
     → logical t.pieces word ≡ Some (LeafAt leaf) → Mentions t node i (LeafAt leaf)
-leaf_mentioned t node i word leaf o slot e = past_change_mentioned t node i word (LeafAt leaf) o slot (at (past_change t.pieces (ref_of word)) e)
+leaf_mentioned t node i word leaf o slot e = past_change_mentioned t node i word (LeafAt leaf) o
+    slot (at (past_change t.pieces (ref_of word)) e)
   where
     no_rebuild : (o : Option Piece) → rebuild_reads o ≡ Some (LeafAt leaf) → ⊥
     no_rebuild (Some (Rebuild r)) e = cc
@@ -115,7 +139,8 @@ pub slot_reads_as : (t : Snapshot) (node i word : ℕ) → WordsName t → SlotH
 slot_reads_as t node i word o slot =
     record {
       a_leaf = λ base e. leaf_mentioned t node i word base o slot e;
-      a_row = λ base e. child_mentioned t node i base o record { word = word; holds = slot; reads = e };
+      a_row = λ base e. child_mentioned t node i base o record
+          { word = word; holds = slot; reads = e };
     }
 
 -- where each leaf lies where its key leads, so do all below what is named for a slot, and they rise
@@ -128,6 +153,7 @@ leaves_under t ref leaves names home free lie h node i reads =
     record {
       leaf = λ n j base r m e. lie.each n j base (m.a_leaf base refl) r e;
       slot = λ base j word r e at. slot_reads_as t base j word names (in_row r e at);
-      up = λ n j base k key m lies. lies_above t names home free n j base k key (m.a_row base refl) lies;
+      up = λ n j base k key m lies. lies_above t names home free n j base k key (m.a_row base refl)
+          lies;
       child = λ base j key r e lies. child_is t base key j r free e lies.child_for;
     } ref leaves h node i reads

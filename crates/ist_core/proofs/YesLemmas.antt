@@ -35,10 +35,12 @@ drop_below x n (y ∷ ys) h is = at (drop_below x n ys h.1 is) (y == x) (eqb_tel
     at : Each (λ z. z < n) (drop_all x ys) → (v : Bool)
         → (((y == x) ≡ true) × (y ≡ x)) ⊎ (((y == x) ≡ false) × (y ≢ x))
         → Each (λ z. z < n) (if not (y == x) then y ∷ drop_all x ys else drop_all x ys)
-    at rest v (inl k) = subst (λ b. Each (λ z. z < n) (if not b then y ∷ drop_all x ys else drop_all x ys)) (sym k.0) rest
+    at rest v (inl k) = subst (λ b. Each (λ z. z < n)
+        (if not b then y ∷ drop_all x ys else drop_all x ys)) (sym k.0) rest
     at rest v (inr k) =
         let low = h.0 in
-        subst (λ b. Each (λ z. z < n) (if not b then y ∷ drop_all x ys else drop_all x ys)) (sym k.0)
+        subst (λ b. Each (λ z. z < n) (if not b then y ∷ drop_all x ys else drop_all x ys))
+        (sym k.0)
         ((let ne : y ≢ n = λ e. k.1 (e ∙ sym is) in omega arith), rest)
 
 drop_distinct : (x : ℕ) (xs : List ℕ) → Distinct xs → Distinct (drop_all x xs)
@@ -58,7 +60,8 @@ drop_absent x (y ∷ ys) none = at (drop_absent x ys (λ i. none (inr i))) (y ==
         → (((y == x) ≡ true) × (y ≡ x)) ⊎ (((y == x) ≡ false) × (y ≢ x))
         → (if not (y == x) then y ∷ drop_all x ys else drop_all x ys) ≡ y ∷ ys
     at rest v (inl k) = absurd (none (inl (sym k.1)))
-    at rest v (inr k) = ap (λ b. if not b then y ∷ drop_all x ys else drop_all x ys) k.0 ∙ ap (λ zs. y ∷ zs) rest
+    at rest v (inr k) = ap (λ b. if not b then y ∷ drop_all x ys else drop_all x ys) k.0 ∙ ap
+        (λ zs. y ∷ zs) rest
 
 -- dropping one number shortens such a list by one at most
 drop_few : (x : ℕ) (xs : List ℕ) → Distinct xs → length xs ≤ length (drop_all x xs) + 1
@@ -70,15 +73,18 @@ drop_few x (y ∷ ys) h = at (drop_few x ys h.1) (y == x) (eqb_tells y x)
         → length (y ∷ ys) ≤ length (if not (y == x) then y ∷ drop_all x ys else drop_all x ys) + 1
     at rest v (inl k) =
         let same = ap length (drop_absent x ys (subst (λ z. ¬ (Among z ys)) k.1 h.0)) in
-        subst (λ b. length (y ∷ ys) ≤ length (if not b then y ∷ drop_all x ys else drop_all x ys) + 1) (sym k.0) (omega arith)
-    at rest v (inr k) = subst (λ b. length (y ∷ ys) ≤ length (if not b then y ∷ drop_all x ys else drop_all x ys) + 1) (sym k.0) (omega arith)
+        subst (λ b. length (y ∷ ys) ≤ length (if not b then y ∷ drop_all x ys else drop_all x ys) +
+        1) (sym k.0) (omega arith)
+    at rest v (inr k) = subst (λ b. length (y ∷ ys) ≤ length
+        (if not b then y ∷ drop_all x ys else drop_all x ys) + 1) (sym k.0) (omega arith)
 
 -- so that there are no more of them than numbers below
 pub distinct_below : (n : ℕ) (xs : List ℕ) → Distinct xs → Each (λ x. x < n) xs → length xs ≤ n
 distinct_below zero [] d h = omega arith
 distinct_below zero (x ∷ xs) d h = let low = h.0 in absurd (omega arith)
 distinct_below (suc n) xs d h =
-    let less = distinct_below n (drop_all n xs) (drop_distinct n xs d) (drop_below n n xs (suc_below xs h) refl) in
+    let less = distinct_below n (drop_all n xs) (drop_distinct n xs d)
+    (drop_below n n xs (suc_below xs h) refl) in
     let few = drop_few n xs d in
     omega arith
   where
@@ -101,9 +107,14 @@ module _ (pairs : List Pair) (words : ℕ) where
   decided_on log event h [] all = tt
   decided_on log event h (base ∷ bases) all =
       let it = all.0 in
-      let there = change_there (state_of pairs words log).pieces (state_of pairs words (event ∷ log)).pieces
-      (grow_step (start pairs words) log event h.1 (sound (start pairs words) log (sound_start pairs words) h.0)) base it.0 it.1 in
-      ((there.0, there.1, (λ e. it.2 (sym (there.2.decided it.2) ∙ e))), decided_on log event h bases all.1)
+      let there = change_there (state_of pairs words log).pieces
+      (state_of pairs words (event ∷ log)).pieces
+      (grow_step (start pairs words) log event h.1
+      (sound (start pairs words) log (sound_start pairs words) h.0)) base it.0 it.1 in (
+        (there.0, there.1, (λ e. it.2 (sym (there.2.decided it.2) ∙ e))),
+        decided_on log event h
+            bases all.1,
+      )
 
   -- what was decided yes stands decided, each once
   yes_once : (log : Log) → EachEnabled (start pairs words) log
@@ -115,12 +126,18 @@ module _ (pairs : List Pair) (words : ℕ) where
       let before = yes_once log h.0 in
       let change = h.1.change in
       let ps = (state_of pairs words log).pieces in
-      let now : IsDecided (state_of pairs words (Decide c base true ∷ log)).pieces base =
-      (record change { decision = decided_yes }, changed_at-same ps base (with_decision decided_yes) ∙ ap (option_map (with_decision decided_yes)) h.1.pending.published, (λ e. omega arith)) in (
+      let now : IsDecided (state_of pairs words (Decide c base true ∷ log)).pieces base = (
+        record change { decision = decided_yes },
+        changed_at-same ps base (with_decision decided_yes)
+            ∙ ap (option_map (with_decision decided_yes)) h.1.pending.published,
+        (λ e. omega arith),
+      )
+      in (
         (now, decided_on log (Decide c base true) h (decided_yes_in log) before.0),
         (
           (λ i. let it = each-among (IsDecided ps) base (decided_yes_in log) before.0 i in
-              it.2 (ap (λ r. r.decision) (same (ps base) it.0 change it.1 h.1.pending.published) ∙ h.1.pending.unset)),
+              it.2 (ap (λ r. r.decision) (same (ps base) it.0 change it.1 h.1.pending.published) ∙
+              h.1.pending.unset)),
           before.1,
         ),
       )
@@ -128,20 +145,34 @@ module _ (pairs : List Pair) (words : ℕ) where
       same : (o : Option Piece) (r s : ChangeRow) → o ≡ Some (Change r) → o ≡ Some (Change s)
           → r ≡ s
       same o r s e f = cc
-  yes_once (Decide c base false ∷ log) h = let before = yes_once log h.0 in (decided_on log (Decide c base false) h (decided_yes_in log) before.0, before.1)
-  yes_once (Enter c ∷ log) h = let before = yes_once log h.0 in (decided_on log (Enter c) h (decided_yes_in log) before.0, before.1)
-  yes_once (Reserve c b z ∷ log) h = let before = yes_once log h.0 in (decided_on log (Reserve c b z) h (decided_yes_in log) before.0, before.1)
-  yes_once (Install c d rows ∷ log) h = let before = yes_once log h.0 in (decided_on log (Install c d rows) h (decided_yes_in log) before.0, before.1)
-  yes_once (Okay c d ∷ log) h = let before = yes_once log h.0 in (decided_on log (Okay c d) h (decided_yes_in log) before.0, before.1)
-  yes_once (Resolve c d ∷ log) h = let before = yes_once log h.0 in (decided_on log (Resolve c d) h (decided_yes_in log) before.0, before.1)
-  yes_once (Count c n ∷ log) h = let before = yes_once log h.0 in (decided_on log (Count c n) h (decided_yes_in log) before.0, before.1)
-  yes_once (Mark c n ∷ log) h = let before = yes_once log h.0 in (decided_on log (Mark c n) h (decided_yes_in log) before.0, before.1)
-  yes_once (Pass c n i w ∷ log) h = let before = yes_once log h.0 in (decided_on log (Pass c n i w) h (decided_yes_in log) before.0, before.1)
-  yes_once (Finish c n k ∷ log) h = let before = yes_once log h.0 in (decided_on log (Finish c n k) h (decided_yes_in log) before.0, before.1)
-  yes_once (Root c o w rows ∷ log) h = let before = yes_once log h.0 in (decided_on log (Root c o w rows) h (decided_yes_in log) before.0, before.1)
-  yes_once (Draw c o part ∷ log) h = let before = yes_once log h.0 in (decided_on log (Draw c o part) h (decided_yes_in log) before.0, before.1)
-  yes_once (Place c o i w rows ∷ log) h = let before = yes_once log h.0 in (decided_on log (Place c o i w rows) h (decided_yes_in log) before.0, before.1)
-  yes_once (Lose c bases ∷ log) h = let before = yes_once log h.0 in (decided_on log (Lose c bases) h (decided_yes_in log) before.0, before.1)
+  yes_once (Decide c base false ∷ log) h = let before = yes_once log h.0 in
+      (decided_on log (Decide c base false) h (decided_yes_in log) before.0, before.1)
+  yes_once (Enter c ∷ log) h = let before = yes_once log h.0 in
+      (decided_on log (Enter c) h (decided_yes_in log) before.0, before.1)
+  yes_once (Reserve c b z ∷ log) h = let before = yes_once log h.0 in
+      (decided_on log (Reserve c b z) h (decided_yes_in log) before.0, before.1)
+  yes_once (Install c d rows ∷ log) h = let before = yes_once log h.0 in
+      (decided_on log (Install c d rows) h (decided_yes_in log) before.0, before.1)
+  yes_once (Okay c d ∷ log) h = let before = yes_once log h.0 in
+      (decided_on log (Okay c d) h (decided_yes_in log) before.0, before.1)
+  yes_once (Resolve c d ∷ log) h = let before = yes_once log h.0 in
+      (decided_on log (Resolve c d) h (decided_yes_in log) before.0, before.1)
+  yes_once (Count c n ∷ log) h = let before = yes_once log h.0 in
+      (decided_on log (Count c n) h (decided_yes_in log) before.0, before.1)
+  yes_once (Mark c n ∷ log) h = let before = yes_once log h.0 in
+      (decided_on log (Mark c n) h (decided_yes_in log) before.0, before.1)
+  yes_once (Pass c n i w ∷ log) h = let before = yes_once log h.0 in
+      (decided_on log (Pass c n i w) h (decided_yes_in log) before.0, before.1)
+  yes_once (Finish c n k ∷ log) h = let before = yes_once log h.0 in
+      (decided_on log (Finish c n k) h (decided_yes_in log) before.0, before.1)
+  yes_once (Root c o w rows ∷ log) h = let before = yes_once log h.0 in
+      (decided_on log (Root c o w rows) h (decided_yes_in log) before.0, before.1)
+  yes_once (Draw c o part ∷ log) h = let before = yes_once log h.0 in
+      (decided_on log (Draw c o part) h (decided_yes_in log) before.0, before.1)
+  yes_once (Place c o i w rows ∷ log) h = let before = yes_once log h.0 in
+      (decided_on log (Place c o i w rows) h (decided_yes_in log) before.0, before.1)
+  yes_once (Lose c bases ∷ log) h = let before = yes_once log h.0 in
+      (decided_on log (Lose c bases) h (decided_yes_in log) before.0, before.1)
 
   -- they lie within the table
   yes_below : CanOpen pairs words → (log : Log) → EachEnabled (start pairs words) log
@@ -169,5 +200,6 @@ module _ (pairs : List Pair) (words : ℕ) where
   count_low opens log h node r e =
       let few = count_few log h node r e in
       let once = yes_once log h in
-      let low = distinct_below place_limit (decided_yes_in log) once.1 (yes_below opens log h (decided_yes_in log) once.0) in
+      let low = distinct_below place_limit (decided_yes_in log) once.1
+      (yes_below opens log h (decided_yes_in log) once.0) in
       omega arith

@@ -12,8 +12,10 @@ pub mod Pieces
 pub mod Snapshots
 pub mod StartLayout
 pub mod Images
+pub mod Shown
 pub mod After
 pub mod Logs
+pub mod Authors
 pub mod Slots
 pub mod Links
 pub mod Leaves

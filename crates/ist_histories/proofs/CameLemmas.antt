@@ -1,5 +1,5 @@
 -- A put or remove came to its slot by its key. Serves the changes law.
-use Rattle.std.proofs.Common.{◌≡◌, ℕ, List, [], ◌∷◌, inl, inr, ⊎_elim, arith}
+use Rattle.std.proofs.Common.{◌≡◌, ℕ, List, ◌∷◌, ⊎_elim, arith}
 use Rattle.ist_core.specs.declared.pairs.Pair.{Pair}
 use Rattle.ist_core.specs.declared.lists.Row.{Row}
 use Rattle.ist_core.specs.declared.states.ChangeRow.{ChangeRow}
@@ -7,7 +7,7 @@ use Rattle.ist_core.specs.declared.events.Event.{Event}
 use Rattle.ist_core.specs.declared.events.Event.TheVariants.{Install, Decide}
 use Rattle.ist_core.specs.Snapshots.{Snapshot}
 use Rattle.ist_core.specs.StartLayout.{start}
-use Rattle.ist_core.specs.Logs.{Log, state, Ever, GoesOn, same_log, one_event}
+use Rattle.ist_core.specs.Logs.{Log, GoesOn, one_event}
 use Rattle.ist_core.specs.Slots.{IsChildFor}
 use Rattle.ist_core.specs.Links.{Leads}
 use Rattle.ist_core.specs.Rebuilding.{IsUpdate}
@@ -15,16 +15,9 @@ use Rattle.ist_core.specs.Installing.{FitsKind, a_put, a_pair, a_remove, a_start
 use Rattle.ist_core.specs.Lawful.{EachEnabled, state_of}
 use Rattle.ist_core.specs.Pieces.{Change}
 use Rattle.std.proofs.Common.{Some}
+use Rattle.ist_core.proofs.PrefixLemmas.{ever_from}
 use Rattle.ist_links.proofs.InductionLemmas.{grow_behind, changes_by}
 use Rattle.ist_histories.proofs.LedLemmas.{child_stays}
-
--- what was true at some moment was true behind some prefix
-ever_from : (first : Snapshot) (P : Snapshot → Type 0) (log : Log) → Ever first P log
-    → (at : Log) × GoesOn at log × P (state first at)
-ever_from first P [] h = ([], same_log, h)
-ever_from first P (event ∷ log) (inl h) = (event ∷ log, same_log, h)
-ever_from first P (event ∷ log) (inr h) =
-    let it = ever_from first P log h in (it.0, one_event event it.1, it.2)
 
 -- the key of the change led to its node behind some prefix, and its slot is the one for the key
 pub record CameByKey (pairs : List Pair) (words : ℕ) (log : Log) (change : ChangeRow) : Type 0 where

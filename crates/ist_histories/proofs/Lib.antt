@@ -30,7 +30,6 @@ pub mod EntryLemmas
 pub mod EntryOnceLemmas
 pub mod EntryChangeLemmas
 pub mod EffectLemmas
-pub mod WordLemmas
 pub mod RefusedExampleLemmas
 pub mod CallExampleLemmas
 pub mod SearchExampleLemmas

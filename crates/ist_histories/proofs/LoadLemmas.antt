@@ -2,6 +2,7 @@
 use Rattle.std.proofs.Common.{◌≡◌, ◌≢◌, ℕ, zero, suc, ◌+◌, ◌<◌, ◌≤◌, ◌==◌, nat_le, if◌then◌else◌, Bool, true, false, List, [], ◌∷◌, length, slice_get, Option, Some, None, refl, sym, ap, ◌∙◌, subst, arith, le_refl}
 use Rattle.std.proofs.lemmas.Bool.Decides.{nat_tests}
 use Rattle.std.proofs.lemmas.List.Sums.{count_by-le-length}
+use Rattle.ist_core.specs.declared.loads.Load.{Load}
 use Rattle.ist_core.specs.declared.pairs.Pair.{Pair}
 use Rattle.ist_core.specs.declared.states.InnerRow.{InnerRow}
 use Rattle.ist_core.specs.declared.states.LeafRow.{LeafRow}
@@ -30,8 +31,9 @@ use Rattle.ist_core.proofs.NamingStepLemmas.{side_names}
 use Rattle.ist_core.proofs.OrderLemmas.{names}
 use Rattle.ist_core.proofs.FreezingLemmas.{side_not_yes}
 use Rattle.ist_links.proofs.ReadLemmas.{side_yes, past_plain}
+use Rattle.ist_core.proofs.ShownLemmas.{shown_in_anchor, shown_in_row}
 use Rattle.ist_histories.specs.Finding.{Finds, in_nothing, in_leaf}
-use Rattle.ist_histories.specs.Loads.{Load, log_at, in_anchor_slot, in_published, IsLoad}
+use Rattle.ist_histories.specs.Loads.{log_at, IsLoad}
 use Rattle.ist_histories.specs.Searching.{ReadsSide, no_change, by_to, by_from, ReadsTarget, no_rebuild, by_target, LooksAt, ComesTo, begins, goes_down, ReadsValue, of_nothing, of_other, of_key}
 use Rattle.ist_histories.proofs.ChangeLemmas.{on_trans}
 use Rattle.ist_histories.proofs.ReadLemmas.{change_logical}
@@ -53,7 +55,7 @@ pub load_word : (pairs : List Pair) (words : ℕ) (log : Log) (place least : ℕ
     → (state_of pairs words (log_at log load.length)).pieces base ≡ Some p → place ≡ base + k
     → slice_get (words_of p) k ≡ Some word → load.word ≡ word
 load_word pairs words log place least load h base k word p e is read =
-    h.tells word (in_published base k p e (h.place_is ∙ is) read)
+    h.tells word (shown_in_row base k p e (h.place_is ∙ is) read)
 
 -- the place of a slot that isn't the anchor's
 slot_of_row : (t : Snapshot) (node i : ℕ) (r : InnerRow) → node ≢ anchor
@@ -101,7 +103,7 @@ module _ (pairs : List Pair) (words : ℕ) (opens : CanOpen pairs words) (log : 
       → SlotHolds (At slot.length) node i slot.word
   slot_load key least node i slot (of_anchor a b) load =
       in_anchor a b
-      (sym (load.tells (At slot.length).anchor (in_anchor_slot (load.place_is ∙ slot_of_anchor (At slot.length) node i a) refl)))
+      (sym (load.tells (At slot.length).anchor (shown_in_anchor (load.place_is ∙ slot_of_anchor (At slot.length) node i a) refl)))
   slot_load key least node i slot (of_row r e is) load =
       let t = At slot.length in
       let out : node ≢ anchor =

@@ -1,12 +1,14 @@
 -- What was loaded stays so as the log goes on. Serves `laws.searches_go_on`.
 use Rattle.std.proofs.Common.{◌≡◌, ℕ, zero, suc, ◌-◌, ◌≤◌, List, [], ◌∷◌, length, drop, Option, refl, sym, ap, ◌∙◌, subst, arith}
+use Rattle.ist_core.specs.declared.loads.Load.{Load}
 use Rattle.ist_core.specs.declared.pairs.Pair.{Pair}
 use Rattle.ist_core.specs.References.{Ref}
 use Rattle.ist_core.specs.Logs.{Log, GoesOn, same_log, one_event}
 use Rattle.ist_core.specs.Slots.{IsChildFor}
 use Rattle.ist_core.specs.Writing.{place_of_slot}
 use Rattle.ist_core.specs.Lawful.{state_of}
-use Rattle.ist_histories.specs.Loads.{Load, log_at, HasWord, IsLoad}
+use Rattle.ist_core.specs.Shown.{IsShown}
+use Rattle.ist_histories.specs.Loads.{log_at, IsLoad}
 use Rattle.ist_histories.specs.Searching.{ReadsSide, no_change, by_to, by_from, ReadsTarget, no_rebuild, by_target, LooksAt, ComesTo, begins, goes_down, ReadsValue, of_nothing, of_other, of_key, Searched}
 
 -- ---- the log at a length
@@ -33,7 +35,7 @@ pub at_rises : (log : Log) (m n : ℕ) → m ≤ n → GoesOn (log_at log m) (lo
 at_rises log m n h = drop_rises (length log - m) (length log - n) log (omega arith)
 
 -- a log that goes on is no shorter
-length_rises : (log longer : Log) → GoesOn log longer → length log ≤ length longer
+pub length_rises : (log longer : Log) → GoesOn log longer → length log ≤ length longer
 length_rises log _ same_log = omega arith
 length_rises log _ (one_event {log = rest} event g) =
     let low = length_rises log rest g in omega arith
@@ -60,7 +62,7 @@ module _ (pairs : List Pair) (words : ℕ) (log longer : Log) (g : GoesOn log lo
   load_on place least load h =
       record {
         tells =
-            subst (λ l. (word : ℕ) → HasWord (state_of pairs words l) load.place word → load.word ≡ word)
+            subst (λ l. (word : ℕ) → IsShown (state_of pairs words l) load.place word → load.word ≡ word)
             (sym (at_same log longer g load.length h.within)) h.tells;
         place_is = h.place_is;
         since = h.since;
@@ -68,7 +70,7 @@ module _ (pairs : List Pair) (words : ℕ) (log longer : Log) (g : GoesOn log lo
       }
 
   -- what a slot's word reads as stays
-  side_on : (slot : Load) (side last : ℕ) → ReadsSide pairs words log slot side last
+  pub side_on : (slot : Load) (side last : ℕ) → ReadsSide pairs words log slot side last
       → ReadsSide pairs words longer slot side last
   side_on slot _ _ (no_change plain) = no_change plain
   side_on slot _ _ (by_to base decision side is load said other) =
@@ -77,7 +79,7 @@ module _ (pairs : List Pair) (words : ℕ) (log longer : Log) (g : GoesOn log lo
       by_from base decision side is (load_on _ _ decision load) unsaid (load_on _ _ side other)
 
   -- and so does a rebuild
-  target_on : (least word : ℕ) (ref : Ref) → ReadsTarget pairs words log least word ref
+  pub target_on : (least word : ℕ) (ref : Ref) → ReadsTarget pairs words log least word ref
       → ReadsTarget pairs words longer least word ref
   target_on least word _ (no_rebuild ref is plain) = no_rebuild ref is plain
   target_on least word _ (by_target base target is load) =

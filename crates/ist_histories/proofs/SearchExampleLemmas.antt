@@ -1,5 +1,6 @@
 -- A put, and a search that loads its change, on a small log. Serves `examples`.
 use Rattle.std.proofs.Common.{◌≡◌, ℕ, ◌+◌, [], ◌∷◌, length, slice_get, Some, None, refl, arith}
+use Rattle.ist_core.specs.declared.loads.Load.{Load}
 use Rattle.ist_core.specs.declared.commands.Command.TheVariants.{Put}
 use Rattle.ist_core.specs.declared.states.ChangeRow.{ChangeRow}
 use Rattle.ist_core.specs.declared.states.LeafRow.{LeafRow}
@@ -14,9 +15,9 @@ use Rattle.ist_core.specs.Lawful.{EachEnabled, state_of}
 use Rattle.ist_core.specs.ExampleTables.{pair}
 use Rattle.ist_core.specs.ExampleLogs.{put_decided, put_resolved}
 use Rattle.ist_core.proofs.PutExampleLemmas.{put_is_lawful}
-use Rattle.ist_histories.specs.Loads.{Load, log_at, in_anchor_slot, in_published, IsLoad}
+use Rattle.ist_core.proofs.ShownLemmas.{shown_in_anchor, shown_in_row, one_word}
+use Rattle.ist_histories.specs.Loads.{log_at, IsLoad}
 use Rattle.ist_histories.specs.Searching.{by_to, by_from, no_rebuild, LooksAt, begins, of_nothing, of_key, Searched}
-use Rattle.ist_histories.proofs.WordLemmas.{one_word}
 
 -- ---- the put
 
@@ -53,14 +54,14 @@ decided = put_is_lawful.enabled.0
 -- the anchor's slot is loaded while the change is undecided
 slot_load : IsLoad [] 15 put_decided 3 4 (load 3 51 4)
 slot_load =
-    record { tells = λ word h. one_word [] 15 (log_at put_decided 4) decided.0.0 3 51 word (in_anchor_slot refl refl) h; place_is = refl; since = omega arith; within = omega arith }
+    record { tells = λ word h. one_word [] 15 (log_at put_decided 4) decided.0.0 3 51 word (shown_in_anchor refl refl) h; place_is = refl; since = omega arith; within = omega arith }
 
 -- a word of a row is loaded behind the decision
 row_load : (base k word : ℕ) (p : Piece) → (state_of [] 15 put_decided).pieces base ≡ Some p
     → slice_get (words_of p) k ≡ Some word
     → IsLoad [] 15 put_decided (base + k) 4 (load (base + k) word 6)
 row_load base k word p e read =
-    record { tells = λ other h. one_word [] 15 (log_at put_decided 6) decided (base + k) word other (in_published base k p e refl read) h; place_is = refl; since = omega arith; within = omega arith }
+    record { tells = λ other h. one_word [] 15 (log_at put_decided 6) decided (base + k) word other (shown_in_row base k p e refl read) h; place_is = refl; since = omega arith; within = omega arith }
 
 -- or before it
 early_load : (base k word : ℕ) (p : Piece)
@@ -68,7 +69,7 @@ early_load : (base k word : ℕ) (p : Piece)
     → slice_get (words_of p) k ≡ Some word
     → IsLoad [] 15 put_decided (base + k) 4 (load (base + k) word 5)
 early_load base k word p e read =
-    record { tells = λ other h. one_word [] 15 (log_at put_decided 5) decided.0 (base + k) word other (in_published base k p e refl read) h; place_is = refl; since = omega arith; within = omega arith }
+    record { tells = λ other h. one_word [] 15 (log_at put_decided 5) decided.0 (base + k) word other (shown_in_row base k p e refl read) h; place_is = refl; since = omega arith; within = omega arith }
 
 -- a load that counts only from a later moment
 since_6 : (base k word : ℕ) (p : Piece) → (state_of [] 15 put_decided).pieces base ≡ Some p

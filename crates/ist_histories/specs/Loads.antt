@@ -1,34 +1,22 @@
 -- Loads: what each tells of the table at its own moment.
 use Rattle.std.specs.Prelude.{◌≡◌, ℕ, ◌+◌, ◌-◌, ◌<◌, ◌≤◌, ◌⊎◌, List, drop, length, slice_get, Some, None}
+use Rattle.ist_core.specs.declared.loads.Load.{Load}
 use Rattle.ist_core.specs.declared.pairs.Pair.{Pair}
-use Rattle.ist_core.specs.RowLayout.{anchor_slot_place}
-use Rattle.ist_core.specs.Pieces.{Piece, words_of}
+use Rattle.ist_core.specs.Shown.{IsShown}
 use Rattle.ist_core.specs.Snapshots.{Snapshot}
 use Rattle.ist_core.specs.Images.{IsImage}
 use Rattle.ist_core.specs.Logs.{Log, GoesOn}
 use Rattle.ist_core.specs.Lawful.{Lawful, state_of}
 use Rattle.ist_core.specs.Rows.{IsSetAside}
 
--- a load: its place, the word that it gave, and how many events the log had then
-pub record Load : Type 0 where
-  pub place : ℕ
-  pub word : ℕ
-  pub length : ℕ
-
 -- the log as it was when it had so many events
 abbrev pub log_at : Log → ℕ → Log
 log_at log n = drop (length log - n) log
 
--- the table has this word at the place: in the anchor's slot, or in a published row
-pub data HasWord (t : Snapshot) (place word : ℕ) : Type 0 where
-  in_anchor_slot : place ≡ anchor_slot_place → t.anchor ≡ word → HasWord t place word
-  in_published : (base k : ℕ) (p : Piece) → t.pieces base ≡ Some p → place ≡ base + k
-      → slice_get (words_of p) k ≡ Some word → HasWord t place word
-
--- the load gave the word that the table had then at its place, if that was the anchor's slot or in a published row
+-- the load gave the word that the table showed then at its place, if it showed one
 abbrev pub Tells : List Pair → ℕ → Log → Load → Type 0
 Tells pairs words log load =
-    (word : ℕ) → HasWord (state_of pairs words (log_at log load.length)) load.place word
+    (word : ℕ) → IsShown (state_of pairs words (log_at log load.length)) load.place word
     → load.word ≡ word
 
 -- this is a load of the place, made when the log had no fewer than so many events
@@ -41,24 +29,25 @@ pub record IsLoad (pairs : List Pair) (words : ℕ) (log : Log) (place least : �
 
 -- ---- what ties a load to the words of the table
 
--- a word that the table has at a place stands there in the image
+-- a word that is shown at a place stands there in the image
 abbrev pub WordsStandInTheImage : Type 0
 WordsStandInTheImage =
-    (t : Snapshot) (image : List ℕ) → IsImage t image → (place word : ℕ) → HasWord t place word
+    (t : Snapshot) (image : List ℕ) → IsImage t image → (place word : ℕ) → IsShown t place word
     → slice_get image place ≡ Some word
 
--- the table has one word at a place
+-- a place shows one word
 abbrev pub WordsAreOne : Type 0
 WordsAreOne =
     (pairs : List Pair) (words : ℕ) (log : Log) → Lawful pairs words log → (place word other : ℕ)
-    → HasWord (state_of pairs words log) place word → HasWord (state_of pairs words log) place other
+    → IsShown (state_of pairs words log) place word → IsShown (state_of pairs words log) place other
     → word ≡ other
 
--- such a place lies in no row that is held or was lost: in none that was set aside and isn't published
+-- a place that shows one lies in no row that is held or was lost: in none that was set aside and isn't
+-- published
 abbrev pub WordsLieInNoOtherRow : Type 0
 WordsLieInNoOtherRow =
     (pairs : List Pair) (words : ℕ) (log : Log) → Lawful pairs words log
-    → (place word base size : ℕ) → HasWord (state_of pairs words log) place word
+    → (place word base size : ℕ) → IsShown (state_of pairs words log) place word
     → IsSetAside pairs words log base size → (state_of pairs words log).pieces base ≡ None
     → (place < base) ⊎ (base + size ≤ place)
 

@@ -1,6 +1,7 @@
 -- The search for a key by its loads, each made at its own moment, and where it stands among the changes.
 use Rattle.std.specs.Prelude.{◌≡◌, ℕ, ◌+◌, ◌<◌, ◌≤◌, ◌⊎◌, ◌≢◌, false, List, length, Option, Some, None}
 use Rattle.std.specs.FinMap as fin
+use Rattle.ist_core.specs.declared.loads.Load.{Load}
 use Rattle.ist_core.specs.declared.commands.Command.{Command}
 use Rattle.ist_core.specs.declared.calls.Call.{Call}
 use Rattle.ist_core.specs.declared.pairs.Pair.{Pair}
@@ -19,7 +20,7 @@ use Rattle.ist_core.specs.Changes.{changes_of, map_at}
 use Rattle.ist_core.specs.Lawful.{Lawful, state_of}
 use Rattle.ist_core.specs.Standing.{makes_entry}
 use Rattle.ist_histories.specs.Calls.{MadeNoEntry, HasCalls, IsAdded}
-use Rattle.ist_histories.specs.Loads.{Load, log_at, IsLoad}
+use Rattle.ist_histories.specs.Loads.{log_at, IsLoad}
 
 -- ---- one look at a slot
 

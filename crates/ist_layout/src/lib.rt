@@ -20,9 +20,10 @@ pub use places::{
     REBUILD_DRAW_OFFSET, REBUILD_INDEX_OFFSET, REBUILD_PARENT_OFFSET, REBUILD_ROOT_OFFSET,
     REBUILD_TARGET_OFFSET, REBUILD_WORDS, inner_words, key_place, slot_place,
 };
-pub use references::Ref;
+pub use references::{EMPTY_WORD, Ref, UNSET_WORD};
 pub use statuses::{
-    DECIDED_NO, DECIDED_YES, FINISH_KIND, PUT_KIND, REMOVE_KIND, START_KIND, Status, UNDECIDED,
+    DECIDED_NO, DECIDED_YES, FINISH_KIND, MARKED_WORD, OPEN_WORD, PUT_KIND, REMOVE_KIND,
+    START_KIND, Status, UNDECIDED,
 };
 
 #[cfg(test)]

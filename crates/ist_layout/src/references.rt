@@ -6,10 +6,10 @@ ghost use Rattle.ist_core.specs.References.{word_of, ref_of, IsGoodRef, good_row
 use crate::places::{FIRST_ROW, PLACE_LIMIT};
 
 /// The word of an empty slot.
-const EMPTY_WORD: u64 = 0;
+pub const EMPTY_WORD: u64 = 0;
 
 /// The word of a part of a shared root that isn't built yet.
-const UNSET_WORD: u64 = 7;
+pub const UNSET_WORD: u64 = 7;
 
 /// The word of a row is its base times this number, and its tag.
 const TAG_COUNT: u64 = 8;

@@ -20,10 +20,10 @@ pub const START_KIND: u64 = 3;
 pub const FINISH_KIND: u64 = 4;
 
 /// The word of an open node.
-const OPEN_WORD: u64 = 0;
+pub const OPEN_WORD: u64 = 0;
 
 /// The word of a marked node that isn't finished.
-const MARKED_WORD: u64 = 1;
+pub const MARKED_WORD: u64 = 1;
 
 /// Whether a node takes updates, and how many keys lie below it once it takes none.
 #[derive(Clone, Copy, Debug, PartialEq, Eq, Drop)]

@@ -19,3 +19,4 @@ pub mod ClosedLemmas
 pub mod UntouchedLemmas
 pub mod PairLemmas
 pub mod ResolvedLemmas
+pub mod OwnerLemmas

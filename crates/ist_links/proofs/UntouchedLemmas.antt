@@ -8,7 +8,7 @@ use Rattle.ist_core.specs.declared.states.InnerRow.{InnerRow}
 use Rattle.ist_core.specs.Building.{CanPlace}
 use Rattle.ist_core.specs.Elements.{Among}
 use Rattle.ist_core.specs.Lawful.{CanOpen, EachEnabled, state_of}
-use Rattle.ist_core.specs.Links.{Chain, Linked, WasLinked, WasOnChain, at_anchor, below, one_row}
+use Rattle.ist_core.specs.Links.{Chain, IsChild, Linked, WasLinked, WasOnChain, at_anchor, below, one_row}
 use Rattle.ist_core.specs.Logs.{Log, state}
 use Rattle.ist_core.specs.Pieces.{Inner}
 use Rattle.ist_core.specs.References.{InnerAt, unset_word}
@@ -185,3 +185,12 @@ module _ (pairs : List Pair) (words : ℕ) (opens : CanOpen pairs words) where
       → (state_of pairs words log).pieces node ≡ Some (Inner r) → node ≢ anchor
   not_the_anchor log h node r e is =
       no_row (state_of pairs words log).pieces node r (anchor_free pairs words log h) is e
+
+  -- so no child is the anchor
+  pub child_no_anchor : (log : Log) → EachEnabled (start pairs words) log → (node i child : ℕ)
+      → IsChild (state_of pairs words log) node i child → child ≢ anchor
+  child_no_anchor log h node i child c =
+      let t = state_of pairs words log in
+      let o = names pairs words opens log h in
+      let row = mentioned_here t node i child o (child_mentioned t node i child o c) in
+      not_the_anchor log h child row.0 row.1

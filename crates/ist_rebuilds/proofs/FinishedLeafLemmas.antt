@@ -47,7 +47,7 @@ inner_base a b e = cc
 
 module _ (pairs : List Pair) (words : ℕ) (opens : CanOpen pairs words) where
   -- a row that may be finished is linked
-  finishing_linked : (log : Log) → EachEnabled (start pairs words) log → (caller node keys : ℕ)
+  pub finishing_linked : (log : Log) → EachEnabled (start pairs words) log → (caller node keys : ℕ)
       → CanFinish (state_of pairs words log) log caller node keys
       → Linked (state_of pairs words log) node
   finishing_linked log h caller node keys can =

@@ -1,5 +1,5 @@
--- The slot of a started rebuild reads as the rebuild until it is replaced, and never again then. Serves the replacement law.
-use Rattle.std.proofs.Common.{Bool, List, None, Option, Some, ap, arith, false, inl, inr, option_map, refl, subst, sym, true, ℕ, ⊎_elim, ◌∙◌, ◌∷◌, ◌≡◌, ◌≢◌}
+-- A started rebuild is replaced, or its slot reads as it; once replaced, never again. Serves the replacement law.
+use Rattle.std.proofs.Common.{Bool, List, None, Option, Some, ap, arith, false, inl, inr, option_map, refl, subst, sym, true, ℕ, ⊎_elim, ◌∙◌, ◌∷◌, ◌≡◌, ◌≢◌, ◌⊎◌}
 use Rattle.ist_core.specs.declared.events.Event.{Event}
 use Rattle.ist_core.specs.declared.events.Event.TheVariants.{Decide}
 use Rattle.ist_core.specs.declared.pairs.Pair.{Pair}
@@ -55,22 +55,31 @@ module _ (pairs : List Pair) (words : ℕ) (opens : CanOpen pairs words) where
         from = from;
       }
 
-  -- the slot of a change that was decided yes and put a rebuild in reads as it until it is replaced
+  -- a rebuild that a change which was decided yes put in is replaced, or the slot reads as it
   start_reads : (log : Log) → EachEnabled (start pairs words) log → (base : ℕ) (x : ChangeRow)
       → (state_of pairs words log).pieces base ≡ Some (Change x) → x.decision ≡ decided_yes
       → (rebuild : ℕ)
-      → ref_of x.to ≡ Some (RebuildAt rebuild) → ¬ (IsReplaced (state_of pairs words log) rebuild)
-      → ReadsAs (state_of pairs words log) x.node x.index (RebuildAt rebuild)
+      → ref_of x.to ≡ Some (RebuildAt rebuild)
+      → IsReplaced (state_of pairs words log) rebuild
+      ⊎ ReadsAs (state_of pairs words log) x.node x.index (RebuildAt rebuild)
   start_reads =
       changes_by pairs words
-      (λ log base x. x.decision ≡ decided_yes → (rebuild : ℕ) → ref_of x.to ≡ Some (RebuildAt rebuild) → ¬ (IsReplaced (state_of pairs words log) rebuild) → ReadsAs (state_of pairs words log) x.node x.index (RebuildAt rebuild))
-      (λ log event h base x old there before is rebuild to unr.
+      (λ log base x. x.decision ≡ decided_yes → (rebuild : ℕ) → ref_of x.to ≡ Some (RebuildAt rebuild)
+      → IsReplaced (state_of pairs words log) rebuild
+      ⊎ ReadsAs (state_of pairs words log) x.node x.index (RebuildAt rebuild))
+      (λ log event h base x old there before is rebuild to.
       ⊎_elim
-      (λ r. r)
-      (λ k. absurd (unr (turned_replaced log event h rebuild x.node x.index k)))
-      (reads_step pairs words opens log event h x.node x.index (RebuildAt rebuild) (λ e. cc) (before is rebuild to (unreplaced_before log event h rebuild unr))))
+      (λ k. inl (replaced_grows (state_of pairs words log) (state_of pairs words (event ∷ log))
+      (grow_behind pairs words log event h) rebuild k))
+      (λ r.
+      ⊎_elim
+      (λ still. inr still)
+      (λ k. inl (turned_replaced log event h rebuild x.node x.index k))
+      (reads_step pairs words opens log event h x.node x.index (RebuildAt rebuild) (λ e. cc) r))
+      (before is rebuild to))
       (λ log caller base rows h can is. let none = can.unset in absurd (omega arith))
-      (λ log caller base said h can before is rebuild to unr. at log caller base said h can (said_yes said is) rebuild to)
+      (λ log caller base said h can before is rebuild to.
+      inr (at log caller base said h can (said_yes said is) rebuild to))
     where
       at : (log : Log) (caller base : ℕ) (said : Bool)
           → EachEnabled (start pairs words) (Decide caller base said ∷ log)
@@ -83,20 +92,25 @@ module _ (pairs : List Pair) (words : ℕ) (opens : CanOpen pairs words) where
           (RebuildAt rebuild) to
       at log caller base false h can is rebuild to = absurd (cc)
 
-  -- the slot of a started rebuild reads as the rebuild until it is replaced
+  -- a started rebuild is replaced, or its slot reads as it
   pub started_reads : (log : Log) → EachEnabled (start pairs words) log
       → (rebuild : ℕ) (r : RebuildRow)
       → (state_of pairs words log).pieces rebuild ≡ Some (Rebuild r)
       → IsStarted (state_of pairs words log) rebuild
-      → ¬ (IsReplaced (state_of pairs words log) rebuild)
-      → ReadsAs (state_of pairs words log) r.parent r.index (RebuildAt rebuild)
-  started_reads log h rebuild r e s unr =
+      → IsReplaced (state_of pairs words log) rebuild
+      ⊎ ReadsAs (state_of pairs words log) r.parent r.index (RebuildAt rebuild)
+  started_reads log h rebuild r e s =
       let t = state_of pairs words log in
-      let here = start_reads log h s.base s.change s.published s.decision rebuild s.to unr in
       let it = side_rebuild t (names pairs words opens log h) s.base s.change s.published rebuild (inr s.to) in
       let row = same_rebuild (t.pieces rebuild) it.row r it.published e in
-      subst (λ n. ReadsAs t n r.index (RebuildAt rebuild)) (sym it.parent ∙ ap (λ x. x.parent) row)
-      (subst (λ j. ReadsAs t s.change.node j (RebuildAt rebuild)) (sym it.index ∙ ap (λ x. x.index) row) here)
+      ⊎_elim
+      (λ k. inl k)
+      (λ here.
+      inr
+      (subst (λ n. ReadsAs t n r.index (RebuildAt rebuild)) (sym it.parent ∙ ap (λ x. x.parent) row)
+      (subst (λ j. ReadsAs t s.change.node j (RebuildAt rebuild))
+      (sym it.index ∙ ap (λ x. x.index) row) here)))
+      (start_reads log h s.base s.change s.published s.decision rebuild s.to)
 
   -- the slot reads as something else than the rebuild
   pub record ReadsElse (log : Log) (node i rebuild : ℕ) : Type 0 where

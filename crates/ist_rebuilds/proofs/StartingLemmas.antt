@@ -98,7 +98,7 @@ module _ (pairs : List Pair) (words : ℕ) (opens : CanOpen pairs words) where
   -- ---- one start
 
   -- the rebuild of a start that is installed is new
-  start_new : (log : Log) (caller base : ℕ) (rows : List Row)
+  pub start_new : (log : Log) (caller base : ℕ) (rows : List Row)
       → EachEnabled (start pairs words) (Install caller base rows ∷ log)
       → (can : CanInstall (start pairs words) log caller base rows) → (rebuild : ℕ)
       → ref_of can.change.to ≡ Some (RebuildAt rebuild)

@@ -1,5 +1,5 @@
 -- The tree of a rebuild that wasn't replaced was never linked, so that it stays as it was built. Serves the replacement law.
-use Rattle.std.proofs.Common.{List, Option, Some, [], ap, arith, inl, inr, refl, slice_get, subst, sym, ℕ, ◌<◌, ◌∙◌, ◌∷◌, ◌≡◌, ◌≢◌}
+use Rattle.std.proofs.Common.{List, Option, Some, [], ap, arith, inl, inr, refl, slice_get, subst, sym, ℕ, ⊎_elim, ◌<◌, ◌∙◌, ◌∷◌, ◌≡◌, ◌≢◌}
 use Rattle.ist_core.specs.declared.events.Event.{Event}
 use Rattle.ist_core.specs.declared.events.Event.TheVariants.{Draw, Root}
 use Rattle.ist_core.specs.declared.pairs.Pair.{Pair}
@@ -111,7 +111,10 @@ module _ (pairs : List Pair) (words : ℕ) (opens : CanOpen pairs words) where
       let t = state_of pairs words log in
       let o = names pairs words opens log h in
       let home = (one_home pairs words opens log h).one node i r.parent r.index base (child_mentioned t node i base o c) (root_named log rebuild base r e is) in
-      let reads = started_reads pairs words opens log h rebuild r e (rooted_is_started log h rebuild r e (inner_set r.root base is)) unr in
+      let reads =
+      ⊎_elim (λ k. absurd (unr k)) (λ r. r)
+      (started_reads pairs words opens log h rebuild r e
+      (rooted_is_started log h rebuild r e (inner_set r.root base is))) in
       let slot = subst (λ j. SlotHolds t r.parent j c.word) home.1 (subst (λ n. SlotHolds t n i c.word) home.0 c.holds) in
       let same = slot_once t r.parent r.index c.word reads.word (anchor_free pairs words log h) slot reads.holds in
       let target : r.target ≡ base = one r.target base (sym (ap rebuild_reads e) ∙ sym (ap (past_rebuild t.pieces) reads.reads) ∙ ap (logical t.pieces) (sym same) ∙ c.reads) in

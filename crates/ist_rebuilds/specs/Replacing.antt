@@ -1,5 +1,5 @@
 -- The laws over lawful logs on rebuilds and on the contents. `src/laws.rt` lists them.
-use Rattle.std.specs.Prelude.{List, Some, length, true, ℕ, ◌↔◌, ◌∷◌, ◌≡◌, ◌≢◌, ◌≤◌}
+use Rattle.std.specs.Prelude.{List, Some, length, true, ℕ, ◌↔◌, ◌∷◌, ◌≡◌, ◌≢◌, ◌≤◌, ◌⊎◌}
 use Rattle.ist_core.specs.declared.events.Event.{Event}
 use Rattle.ist_core.specs.declared.events.Event.TheVariants.{Decide}
 use Rattle.ist_core.specs.declared.pairs.Pair.{Pair}
@@ -26,15 +26,15 @@ pub record ReadsAsRebuild (t : Snapshot) (node i rebuild : ℕ) : Type 0 where
   pub holds : SlotHolds t node i word
   pub reads : past_change t.pieces (ref_of word) ≡ Some (RebuildAt rebuild)
 
--- a started rebuild stands in its slot until it is replaced
+-- a started rebuild was replaced, or stands in its slot, or in the word that a change there reads as
 abbrev pub StartedRebuildsStand : Type 0
 StartedRebuildsStand =
     (pairs : List Pair) (words : ℕ) (log : Log) → Lawful pairs words log
     → (rebuild : ℕ) (row : RebuildRow)
     → (state_of pairs words log).pieces rebuild ≡ Some (Rebuild row)
     → IsStarted (state_of pairs words log) rebuild
-    → ¬ (IsReplaced (state_of pairs words log) rebuild)
-    → ReadsAsRebuild (state_of pairs words log) row.parent row.index rebuild
+    → IsReplaced (state_of pairs words log) rebuild
+    ⊎ ReadsAsRebuild (state_of pairs words log) row.parent row.index rebuild
 
 -- one that was replaced doesn't, ever again
 abbrev pub ReplacedRebuildsAreGone : Type 0

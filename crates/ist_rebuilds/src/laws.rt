@@ -15,8 +15,9 @@ pub fn unlinked_rows_stay_out()
     ensures out { UnlinkedRowsStayOut }
 {}
 
-/// A started rebuild stands in its slot until it is replaced, and never again then; its target
-/// isn't linked from then on. A rebuild gets its root once its target is finished.
+/// A started rebuild was replaced, or stands in its slot, and it is known which; once replaced it
+/// never stands there again, and its target isn't linked. A rebuild gets its root once its target is
+/// finished.
 pub fn rebuilds_stand()
     ensures stand { StartedRebuildsStand }
     ensures gone { ReplacedRebuildsAreGone }

@@ -31,14 +31,15 @@ use Rattle.ist_links.proofs.FormLemmas.{finished_with_grows, started_grows}
 use Rattle.ist_links.proofs.FormedLemmas.{rooted_is_finished}
 use Rattle.ist_links.proofs.InductionLemmas.{sound_behind}
 use Rattle.ist_links.specs.Linking.{IsFinished}
-use Rattle.ist_stability.specs.Others.{GoesOnByOthers, author}
-use Rattle.ist_stability.specs.Words.{FindsItsWord, PlaceHas}
+use Rattle.ist_core.specs.Authors.{GoesOnByOthers, author}
+use Rattle.ist_core.specs.Shown.{IsShown}
+use Rattle.ist_stability.specs.Words.{FindsItsWord}
 use Rattle.ist_stability.proofs.HoldingLemmas.{rows_later}
 use Rattle.ist_stability.proofs.IdealLemmas.{ideal_put, root_put}
 use Rattle.ist_stability.proofs.LaterLemmas.{done_before, goes_on, known_later}
 use Rattle.ist_stability.proofs.SetLemmas.{set_by}
 use Rattle.ist_stability.proofs.SlotWordLemmas.{finds, slot_later, slot_of_row}
-use Rattle.ist_stability.proofs.WordLemmas.{row_word}
+use Rattle.ist_core.proofs.ShownLemmas.{row_word}
 
 -- a Draw of a caller is its own event
 draws_own : (caller rebuild part : ℕ) (event : Event) → Draws caller rebuild part event
@@ -139,7 +140,7 @@ module _ (pairs : List Pair) (words : ℕ) (opens : CanOpen pairs words) {earlie
   -- the Draw of the part that the draw word names stays
   pub next_draw_stays : (rebuild part now : ℕ)
       → CanDraw (state_of pairs words earlier) earlier caller rebuild part
-      → PlaceHas (state_of pairs words log) (rebuild + rebuild_draw_offset) now
+      → IsShown (state_of pairs words log) (rebuild + rebuild_draw_offset) now
       → CanDraw (state_of pairs words log) log caller rebuild now
   next_draw_stays rebuild part now can has =
       let t = state_of pairs words earlier in
@@ -174,7 +175,7 @@ module _ (pairs : List Pair) (words : ℕ) (opens : CanOpen pairs words) {earlie
       (Draw caller rebuild part) _
       (ap (λ o. touch_of_draw rebuild (as_rebuild o)) can.published) f in
       next_draw_stays rebuild part part can
-      (subst (λ w. PlaceHas (state_of pairs words log) (rebuild + rebuild_draw_offset) w)
+      (subst (λ w. IsShown (state_of pairs words log) (rebuild + rebuild_draw_offset) w)
       (sym can.part_is) has)
 
   -- a Place stays where the slot is Unset

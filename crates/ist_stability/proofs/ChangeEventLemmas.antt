@@ -21,11 +21,12 @@ use Rattle.ist_core.proofs.GrowingLemmas.{change_there, inner_there}
 use Rattle.ist_core.proofs.PlaceLemmas.{anchor_free}
 use Rattle.ist_core.proofs.SlotLemmas.{no_row, same_inner}
 use Rattle.ist_links.proofs.ChangeLemmas.{undecided_stands}
-use Rattle.ist_stability.specs.Meanwhile.{IsUndecided}
-use Rattle.ist_stability.specs.Words.{FindsItsWord, PlaceHas}
+use Rattle.ist_stability.specs.Meanwhile.{IsStillUndecided}
+use Rattle.ist_core.specs.Shown.{IsShown}
+use Rattle.ist_stability.specs.Words.{FindsItsWord}
 use Rattle.ist_stability.proofs.LaterLemmas.{happened_later, known_later}
 use Rattle.ist_stability.proofs.SlotWordLemmas.{finds, slot_later}
-use Rattle.ist_stability.proofs.WordLemmas.{row_word}
+use Rattle.ist_core.proofs.ShownLemmas.{row_word}
 
 -- a status that isn't open is never so again
 closed_on : (old new : ℕ) → StatusGoesOn old new → old ≢ open_word → new ≢ open_word
@@ -128,7 +129,7 @@ module _ (pairs : List Pair) (words : ℕ) (opens : CanOpen pairs words) (earlie
 
   -- a node whose status is still that of an open node is open
   open_later : (node : ℕ) → IsOpen (state_of pairs words earlier) node
-      → PlaceHas (state_of pairs words log) (place_of_status node) open_word
+      → IsShown (state_of pairs words log) (place_of_status node) open_word
       → IsOpen (state_of pairs words log) node
   open_later node (anchor_is a) has = anchor_is a
   open_later node (row_is r e is) has =
@@ -146,7 +147,7 @@ module _ (pairs : List Pair) (words : ℕ) (opens : CanOpen pairs words) (earlie
   -- an Okay stays where the node is open and the change undecided
   pub okay_stays : (caller base : ℕ) → CanOkay (state_of pairs words earlier) caller base
       → FindsItsWord (state_of pairs words earlier) (state_of pairs words log) (Okay caller base)
-      → IsUndecided (state_of pairs words log) base
+      → IsStillUndecided (state_of pairs words log) base
       → CanOkay (state_of pairs words log) caller base
   okay_stays caller base can f none =
       let it = change_later base can.change can.pending.published in

@@ -20,8 +20,8 @@ use Rattle.ist_core.proofs.GrowingLemmas.{change_there}
 use Rattle.ist_core.proofs.RowLemmas.{changed_at-same}
 use Rattle.ist_links.proofs.InductionLemmas.{grow_behind}
 use Rattle.ist_stability.specs.Meanwhile.{NoneAccepted}
-use Rattle.ist_stability.specs.Others.{GoesOnByOthers, author, no_more, one_more}
-use Rattle.ist_stability.proofs.LaterLemmas.{known_step}
+use Rattle.ist_core.specs.Authors.{GoesOnByOthers, author, no_more, one_more}
+use Rattle.ist_core.proofs.CallerLemmas.{known_step}
 use Rattle.ist_stability.proofs.OwnLemmas.{Was, own_was}
 
 -- a Count of a caller is its own event

@@ -22,63 +22,64 @@ use Rattle.ist_core.proofs.ImageLemmas.{get-words_of_slot, get_below}
 use Rattle.ist_core.proofs.PlaceLemmas.{anchor_free, claimed_within, next_behind_fixed, placed}
 use Rattle.ist_core.proofs.ShapedLemmas.{shaped}
 use Rattle.ist_core.proofs.SlotLemmas.{no_row}
-use Rattle.ist_stability.specs.Words.{FindsItsWord, PlaceHas, free_word, word_of_anchor, word_of_callers, word_of_next, word_of_row, word_of_status}
+use Rattle.ist_core.specs.Shown.{IsShown, shown_free, shown_slot, shown_callers, shown_next, shown_row, shown_status}
+use Rattle.ist_stability.specs.Words.{FindsItsWord}
 use Rattle.ist_stability.proofs.SlotWordLemmas.{place_of_row}
-use Rattle.ist_stability.proofs.WordLemmas.{anchor_word, fixed_row, next_word, row_word}
+use Rattle.ist_core.proofs.ShownLemmas.{anchor_word, fixed_row, next_word, row_word}
 
 module _ (pairs : List Pair) (words : ℕ) (opens : CanOpen pairs words) (log : Log)
     (enabled : EachEnabled (start pairs words) log) where
   -- the number of callers stands at its place
-  callers_word : (place v : ℕ) → PlaceHas (state_of pairs words log) place v → place ≡ callers_place
+  callers_word : (place v : ℕ) → IsShown (state_of pairs words log) place v → place ≡ callers_place
       → (state_of pairs words log).callers ≡ v
-  callers_word _ _ word_of_next is = absurd (omega arith)
-  callers_word _ _ word_of_callers is = refl
-  callers_word _ _ word_of_status is = absurd (omega arith)
-  callers_word _ _ word_of_anchor is = absurd (omega arith)
-  callers_word _ _ (free_word far near) is =
+  callers_word _ _ shown_next is = absurd (omega arith)
+  callers_word _ _ shown_callers is = refl
+  callers_word _ _ shown_status is = absurd (omega arith)
+  callers_word _ _ shown_slot is = absurd (omega arith)
+  callers_word _ _ (shown_free far near) is =
       let low = next_behind_fixed pairs words log enabled in
       absurd (omega arith)
-  callers_word _ _ (word_of_row base p k e at) is =
+  callers_word _ _ (shown_row base p k e at) is =
       let low = fixed_row pairs words log enabled base k p e in
       absurd (omega arith)
 
   -- so does the anchor's status
-  status_word : (place v : ℕ) → PlaceHas (state_of pairs words log) place v
+  status_word : (place v : ℕ) → IsShown (state_of pairs words log) place v
       → place ≡ anchor_status_place
       → open_word ≡ v
-  status_word _ _ word_of_next is = absurd (omega arith)
-  status_word _ _ word_of_callers is = absurd (omega arith)
-  status_word _ _ word_of_status is = refl
-  status_word _ _ word_of_anchor is = absurd (omega arith)
-  status_word _ _ (free_word far near) is =
+  status_word _ _ shown_next is = absurd (omega arith)
+  status_word _ _ shown_callers is = absurd (omega arith)
+  status_word _ _ shown_status is = refl
+  status_word _ _ shown_slot is = absurd (omega arith)
+  status_word _ _ (shown_free far near) is =
       let low = next_behind_fixed pairs words log enabled in
       absurd (omega arith)
-  status_word _ _ (word_of_row base p k e at) is =
+  status_word _ _ (shown_row base p k e at) is =
       let low = fixed_row pairs words log enabled base k p e in
       absurd (omega arith)
 
   -- and 0 at a free place
-  free_is : (place v : ℕ) → PlaceHas (state_of pairs words log) place v
+  free_is : (place v : ℕ) → IsShown (state_of pairs words log) place v
       → (state_of pairs words log).next ≤ place
       → 0 ≡ v
-  free_is _ _ word_of_next is =
+  free_is _ _ shown_next is =
       let low = next_behind_fixed pairs words log enabled in
       absurd
       (omega arith)
-  free_is _ _ word_of_callers is =
+  free_is _ _ shown_callers is =
       let low = next_behind_fixed pairs words log enabled in
       absurd
       (omega arith)
-  free_is _ _ word_of_status is =
+  free_is _ _ shown_status is =
       let low = next_behind_fixed pairs words log enabled in
       absurd
       (omega arith)
-  free_is _ _ word_of_anchor is =
+  free_is _ _ shown_slot is =
       let low = next_behind_fixed pairs words log enabled in
       absurd
       (omega arith)
-  free_is _ _ (free_word far near) is = refl
-  free_is _ _ (word_of_row base p k e at) is =
+  free_is _ _ (shown_free far near) is = refl
+  free_is _ _ (shown_row base p k e at) is =
       let inside = claimed_within pairs words log base (size_of p) enabled
       ((placed pairs words log enabled).published base p e) in
       let high = inside.below_next in
@@ -86,61 +87,61 @@ module _ (pairs : List Pair) (words : ℕ) (opens : CanOpen pairs words) (log : 
       absurd (omega arith)
 
   -- a place has one word
-  pub one_word : (place w v : ℕ) → PlaceHas (state_of pairs words log) place w
-      → PlaceHas (state_of pairs words log) place v
+  pub one_word : (place w v : ℕ) → IsShown (state_of pairs words log) place w
+      → IsShown (state_of pairs words log) place v
       → w ≡ v
-  one_word _ _ v word_of_next has = sym (next_word pairs words log enabled _ v has refl)
-  one_word _ _ v word_of_callers has = callers_word _ v has refl
-  one_word _ _ v word_of_status has = status_word _ v has refl
-  one_word _ _ v word_of_anchor has = sym (anchor_word pairs words log enabled _ v has refl)
-  one_word _ w v (word_of_row base p k e at) has =
+  one_word _ _ v shown_next has = sym (next_word pairs words log enabled _ v has refl)
+  one_word _ _ v shown_callers has = callers_word _ v has refl
+  one_word _ _ v shown_status has = status_word _ v has refl
+  one_word _ _ v shown_slot has = sym (anchor_word pairs words log enabled _ v has refl)
+  one_word _ w v (shown_row base p k e at) has =
       sym (row_word pairs words log enabled base k w p e at _ v has refl)
-  one_word _ _ v (free_word far near) has = free_is _ v has far
+  one_word _ _ v (shown_free far near) has = free_is _ v has far
 
   -- ---- the word that an event finds
 
   -- the state has the word of a slot at its place
   slot_has : (node i w : ℕ) → SlotHolds (state_of pairs words log) node i w
-      → PlaceHas (state_of pairs words log) (place_of_slot (state_of pairs words log) node i) w
+      → IsShown (state_of pairs words log) (place_of_slot (state_of pairs words log) node i) w
   slot_has node i w (in_anchor a b e) =
-      subst (λ n. PlaceHas (state_of pairs words log)
+      subst (λ n. IsShown (state_of pairs words log)
       (place_of_slot (state_of pairs words log) n i) w) (sym a)
-      (subst (λ x. PlaceHas (state_of pairs words log) 3 x) e word_of_anchor)
+      (subst (λ x. IsShown (state_of pairs words log) 3 x) e shown_slot)
   slot_has node i w (in_row r e at) =
       let degree : HasDegree r = shaped pairs words log enabled node (Inner r) e in
       let keys = degree.keys in
       let same : node + (4 + length r.keys + i) ≡ slot_place node r.degree i = omega arith in
-      subst (λ p. PlaceHas (state_of pairs words log) p w)
+      subst (λ p. IsShown (state_of pairs words log) p w)
       (same ∙ sym
       (place_of_row (state_of pairs words log) node i r (anchor_free pairs words log enabled) e))
-      (word_of_row node (Inner r) (4 + length r.keys + i) e (get-words_of_slot r i ∙ at))
+      (shown_row node (Inner r) (4 + length r.keys + i) e (get-words_of_slot r i ∙ at))
 
   -- and that of an open status
   status_has : (node : ℕ) → IsOpen (state_of pairs words log) node
-      → PlaceHas (state_of pairs words log) (place_of_status node) open_word
+      → IsShown (state_of pairs words log) (place_of_status node) open_word
   status_has node (anchor_is a) =
-      subst (λ n. PlaceHas (state_of pairs words log) (place_of_status n) open_word)
-      (sym a) word_of_status
+      subst (λ n. IsShown (state_of pairs words log) (place_of_status n) open_word)
+      (sym a) shown_status
   status_has node (row_is r e is) =
       ⊎_elim (λ same.
       absurd (no_row (state_of pairs words log).pieces node r
       (anchor_free pairs words log enabled) same.1 e))
       (λ other.
-      subst (λ p. PlaceHas (state_of pairs words log) p open_word)
+      subst (λ p. IsShown (state_of pairs words log) p open_word)
       (sym (ap (λ b. if b then anchor_status_place else node + inner_status_offset) other.0))
-      (word_of_row node (Inner r) 0 e (ap (λ x. Some x) is)))
+      (shown_row node (Inner r) 0 e (ap (λ x. Some x) is)))
       (eqb_tells node anchor)
 
   -- an enabled event finds its word
   pub finds_own : (event : Event) → Enabled (start pairs words) log event → IsNoLose event
       → FindsItsWord (state_of pairs words log) (state_of pairs words log) event
-  finds_own (Enter caller) can k = record { touch = _; is = refl; found = word_of_callers }
+  finds_own (Enter caller) can k = record { touch = _; is = refl; found = shown_callers }
   finds_own (Reserve caller base size) can k =
       record {
         touch = _;
         is = refl;
-        found = subst (λ w. PlaceHas (state_of pairs words log) 0 w)
-            (sym can.base_is) word_of_next;
+        found = subst (λ w. IsShown (state_of pairs words log) 0 w)
+            (sym can.base_is) shown_next;
       }
   finds_own (Install caller base rows) can k =
       record {
@@ -158,7 +159,7 @@ module _ (pairs : List Pair) (words : ℕ) (opens : CanOpen pairs words) (log : 
       record {
         touch = _;
         is = refl;
-        found = word_of_row base (Change can.change) 0 can.pending.published
+        found = shown_row base (Change can.change) 0 can.pending.published
             (ap (λ x. Some x) can.pending.unset);
       }
   finds_own (Resolve caller base) can k =
@@ -173,13 +174,13 @@ module _ (pairs : List Pair) (words : ℕ) (opens : CanOpen pairs words) (log : 
       record {
         touch = _;
         is = ap (λ o. touch_of_count node (as_inner o)) it.1;
-        found = word_of_row node (Inner it.0) 1 it.1 refl;
+        found = shown_row node (Inner it.0) 1 it.1 refl;
       }
   finds_own (Mark caller node) can k =
       record {
         touch = _;
         is = refl;
-        found = word_of_row node (Inner can.row) 0 can.published
+        found = shown_row node (Inner can.row) 0 can.published
             (ap (λ x. Some x) can.row_open);
       }
   finds_own (Pass caller node i word) can k =
@@ -193,21 +194,21 @@ module _ (pairs : List Pair) (words : ℕ) (opens : CanOpen pairs words) (log : 
       record {
         touch = _;
         is = refl;
-        found = word_of_row node (Inner can.row) 0 can.published
+        found = shown_row node (Inner can.row) 0 can.published
             (ap (λ x. Some x) can.marked);
       }
   finds_own (Root caller rebuild word rows) can k =
       record {
         touch = _;
         is = refl;
-        found = word_of_row rebuild (Rebuild can.row) 3 can.published
+        found = shown_row rebuild (Rebuild can.row) 3 can.published
             (ap (λ x. Some x) can.rootless);
       }
   finds_own (Draw caller rebuild part) can k =
       record {
         touch = _;
         is = ap (λ o. touch_of_draw rebuild (as_rebuild o)) can.published;
-        found = word_of_row rebuild (Rebuild can.row) 4 can.published refl;
+        found = shown_row rebuild (Rebuild can.row) 4 can.published refl;
       }
   finds_own (Place caller rebuild i word rows) can k =
       record {

@@ -22,7 +22,7 @@ use Rattle.ist_core.proofs.ElementLemmas.{among-filter, among_filter, each-among
 use Rattle.ist_core.proofs.MoveLemmas.{IsSound}
 use Rattle.ist_core.proofs.PublishingLemmas.{among_bases, row_among}
 use Rattle.ist_links.proofs.InductionLemmas.{sound_behind}
-use Rattle.ist_stability.specs.Others.{GoesOnByOthers, author, no_more, one_more}
+use Rattle.ist_core.specs.Authors.{GoesOnByOthers, author, no_more, one_more}
 
 -- ---- whose a held row is
 

@@ -27,7 +27,7 @@ use Rattle.ist_core.proofs.PlaceLemmas.{anchor_free}
 use Rattle.ist_core.proofs.SlotLemmas.{slot_once}
 use Rattle.ist_links.proofs.FormLemmas.{leaf_of_grows, room_grows, started_grows}
 use Rattle.ist_stability.specs.Meanwhile.{NoneRefused}
-use Rattle.ist_stability.specs.Others.{GoesOnByOthers}
+use Rattle.ist_core.specs.Authors.{GoesOnByOthers}
 use Rattle.ist_stability.specs.Words.{FindsItsWord}
 use Rattle.ist_stability.proofs.HoldingLemmas.{rows_later}
 use Rattle.ist_stability.proofs.LaterLemmas.{ever_later, goes_on, known_later}

@@ -18,7 +18,7 @@ use Rattle.ist_core.specs.StartLayout.{start}
 use Rattle.ist_core.specs.Writing.{first_change}
 use Rattle.ist_core.proofs.GrowingLemmas.{change_there}
 use Rattle.ist_core.proofs.SlotLemmas.{same_inner}
-use Rattle.ist_stability.specs.Meanwhile.{IsMarked, IsUndecided, NoneRefused}
+use Rattle.ist_stability.specs.Meanwhile.{IsMarked, IsStillUndecided, NoneRefused}
 use Rattle.ist_stability.specs.Stability.{AddsNothing}
 use Rattle.ist_stability.specs.Words.{FindsItsWord}
 use Rattle.ist_stability.proofs.FoundWordLemmas.{finds_own}
@@ -65,7 +65,7 @@ none_refused first t log caller base rows g can change is at old new p own on e 
     can.unrefused at new e owner node refused
 
 -- where an Okay is enabled, its change is undecided
-pub undecided_needed : (t : Snapshot) (caller base : ℕ) → CanOkay t caller base → IsUndecided t base
+pub undecided_needed : (t : Snapshot) (caller base : ℕ) → CanOkay t caller base → IsStillUndecided t base
 undecided_needed t caller base can change e =
     ap (λ x. x.decision) (one_change (t.pieces base) change can.change e can.pending.published)
     ∙ can.pending.unset

@@ -21,7 +21,7 @@ use Rattle.ist_stability.specs.Meanwhile.{IsMarked}
 use Rattle.ist_stability.specs.Words.{FindsItsWord}
 use Rattle.ist_stability.proofs.LaterLemmas.{happened_later, known_later}
 use Rattle.ist_stability.proofs.SlotWordLemmas.{finds, slot_later, slot_of_row}
-use Rattle.ist_stability.proofs.WordLemmas.{row_word}
+use Rattle.ist_core.proofs.ShownLemmas.{row_word}
 
 -- a cause to mark a node stays
 called_later : (t u : Snapshot) → AllGrow t.pieces u.pieces → {earlier log : Log}

@@ -5,6 +5,7 @@ use Rattle.std.proofs.lemmas.Bool.Decides.{eqb_tells}
 use Rattle.ist_core.specs.declared.events.Event.{Event}
 use Rattle.ist_core.specs.declared.pairs.Pair.{Pair}
 use Rattle.ist_core.specs.declared.states.ChangeRow.{ChangeRow}
+use Rattle.ist_core.specs.Authors.{GoesOnByOthers, author, no_more, one_more}
 use Rattle.ist_core.specs.Growing.{ChangeGrows}
 use Rattle.ist_core.specs.Installing.{IsUnrefused}
 use Rattle.ist_core.specs.Lawful.{EachEnabled, state_of}
@@ -18,7 +19,6 @@ use Rattle.ist_core.proofs.GrowingLemmas.{change_there}
 use Rattle.ist_links.proofs.ComesLemmas.{change_comes}
 use Rattle.ist_links.proofs.OriginLemmas.{ChangeComes, change_was, is_decided, is_installed}
 use Rattle.ist_stability.specs.Meanwhile.{NoneRefused}
-use Rattle.ist_stability.specs.Others.{GoesOnByOthers, author, no_more, one_more}
 use Rattle.ist_stability.proofs.LaterLemmas.{goes_on}
 
 -- a change that stands in the second state was, in the first, such a row too

@@ -18,14 +18,15 @@ use Rattle.ist_core.proofs.FateLemmas.{enabled_before, grow_between}
 use Rattle.ist_core.proofs.GrowingLemmas.{inner_there}
 use Rattle.ist_core.proofs.PlaceLemmas.{anchor_free}
 use Rattle.ist_core.proofs.SlotLemmas.{no_row, same_inner}
-use Rattle.ist_stability.specs.Words.{FindsItsWord, PlaceHas}
+use Rattle.ist_core.specs.Shown.{IsShown}
+use Rattle.ist_stability.specs.Words.{FindsItsWord}
 use Rattle.ist_stability.proofs.WordLemmas.{slot_word}
 
 -- the word of an event, where its touch is known
 pub finds : (t u : Snapshot) (event : Event) (a : Touch) → touch_of t event ≡ Some a
     → FindsItsWord t u event
-    → PlaceHas u a.place a.found
-finds t u event a is f = subst (λ x. PlaceHas u x.place x.found)
+    → IsShown u a.place a.found
+finds t u event a is f = subst (λ x. IsShown u x.place x.found)
     (one f.touch a (sym f.is ∙ is)) f.found
   where
     one : (x y : Touch) → Some x ≡ Some y → x ≡ y
@@ -92,12 +93,12 @@ module _ (pairs : List Pair) (words : ℕ) (earlier log : Log) (on : GoesOn earl
   -- it is the word that the state has at this place
   pub slot_later : (node i word : ℕ) → SlotHolds (state_of pairs words earlier) node i word
       → (now : ℕ)
-      → PlaceHas (state_of pairs words log)
+      → IsShown (state_of pairs words log)
       (place_of_slot (state_of pairs words earlier) node i) now
       → SlotHolds (state_of pairs words log) node i now
   slot_later node i word holds now has =
       let it = slot_stays node i word holds in
-      let there = subst (λ p. PlaceHas (state_of pairs words log) p now)
+      let there = subst (λ p. IsShown (state_of pairs words log) p now)
       (sym (place_later node i word holds)) has in
       subst (λ w. SlotHolds (state_of pairs words log) node i w)
       (sym (slot_word pairs words log h node i it.0 it.1 now there)) it.1

@@ -17,12 +17,12 @@ use Rattle.ist_core.proofs.FateLemmas.{grow_between}
 use Rattle.ist_core.proofs.GrowingLemmas.{inner_there, rebuild_there}
 use Rattle.ist_core.proofs.RoomLemmas.{words_same}
 use Rattle.ist_links.proofs.FormLemmas.{finished_with_grows, started_grows}
-use Rattle.ist_stability.specs.Others.{GoesOnByOthers, author, no_more, one_more}
+use Rattle.ist_core.specs.Authors.{GoesOnByOthers, author, no_more, one_more}
 use Rattle.ist_stability.specs.Words.{FindsItsWord}
 use Rattle.ist_stability.proofs.HoldingLemmas.{bases_later, holds_later, sizes_later}
 use Rattle.ist_stability.proofs.LaterLemmas.{callers_later, goes_on, known_later}
 use Rattle.ist_stability.proofs.SlotWordLemmas.{finds}
-use Rattle.ist_stability.proofs.WordLemmas.{next_word}
+use Rattle.ist_core.proofs.ShownLemmas.{next_word}
 
 -- a building list stays one
 building_later : (t u : Snapshot) → AllGrow t.pieces u.pieces → (sizes : List ℕ)

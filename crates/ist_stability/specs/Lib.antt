@@ -1,6 +1,5 @@
 -- what the public contracts rest on, in the order to read them
 
-pub mod Others
 pub mod Words
 pub mod Meanwhile
 pub mod Stability

@@ -23,8 +23,8 @@ NoneAccepted t u caller =
     → u.pieces base ≡ Some (Change new) → new.decision ≢ decided_yes
 
 -- the change at the base, if it is one, is undecided
-abbrev pub IsUndecided : Snapshot → ℕ → Type 0
-IsUndecided u base =
+abbrev pub IsStillUndecided : Snapshot → ℕ → Type 0
+IsStillUndecided u base =
     (change : ChangeRow) → u.pieces base ≡ Some (Change change) → change.decision ≡ undecided
 
 -- the inner row at the base, if it is one, is marked, and not finished

@@ -12,7 +12,7 @@ use Rattle.ist_core.specs.Lawful.{Lawful, state_of}
 use Rattle.ist_core.specs.Logs.{GoesOn, Log}
 use Rattle.ist_core.specs.StartLayout.{start}
 use Rattle.ist_core.specs.Writing.{first_change}
-use Rattle.ist_stability.specs.Meanwhile.{IsMarked, IsUndecided, NoneRefused}
+use Rattle.ist_stability.specs.Meanwhile.{IsMarked, IsStillUndecided, NoneRefused}
 use Rattle.ist_stability.specs.Stability.{AddsNothing}
 use Rattle.ist_stability.specs.Words.{FindsItsWord}
 
@@ -38,7 +38,7 @@ abbrev pub NoDecisionIsNeeded : Type 0
 NoDecisionIsNeeded =
     (pairs : List Pair) (words : ℕ) (log : Log) → Lawful pairs words log → (caller base : ℕ)
     → Enabled (start pairs words) log (Okay caller base)
-    → IsUndecided (state_of pairs words log) base
+    → IsStillUndecided (state_of pairs words log) base
 
 -- the node of a Pass is marked
 abbrev pub TheMarkIsNeeded : Type 0

@@ -15,9 +15,10 @@ use Rattle.ist_core.specs.RowLayout.{rebuild_draw_offset}
 use Rattle.ist_core.specs.Snapshots.{Snapshot}
 use Rattle.ist_core.specs.StartLayout.{start}
 use Rattle.ist_core.specs.Writing.{first_change, touch_of}
-use Rattle.ist_stability.specs.Meanwhile.{IsMarked, IsUndecided, NoneAccepted, NoneRefused}
-use Rattle.ist_stability.specs.Others.{GoesOnByOthers, author}
-use Rattle.ist_stability.specs.Words.{FindsItsWord, PlaceHas}
+use Rattle.ist_stability.specs.Meanwhile.{IsMarked, IsStillUndecided, NoneAccepted, NoneRefused}
+use Rattle.ist_core.specs.Authors.{GoesOnByOthers, author}
+use Rattle.ist_core.specs.Shown.{IsShown}
+use Rattle.ist_stability.specs.Words.{FindsItsWord}
 
 -- where the event is enabled behind a log, it is so behind each longer lawful log whose further
 -- events are made by others, if P is true of the states behind the two logs
@@ -84,7 +85,7 @@ DrawsGoOn =
     (pairs : List Pair) (words : ℕ) (earlier log : Log) → Lawful pairs words log
     → (caller rebuild part now : ℕ) → GoesOnByOthers (Some caller) earlier log
     → Enabled (start pairs words) earlier (Draw caller rebuild part)
-    → PlaceHas (state_of pairs words log) (rebuild + rebuild_draw_offset) now
+    → IsShown (state_of pairs words log) (rebuild + rebuild_draw_offset) now
     → Enabled (start pairs words) log (Draw caller rebuild now)
 
 -- a Lose touches no word, and needs nothing
@@ -113,7 +114,7 @@ CountsStay = (caller node : ℕ) → StaysWhere (λ t u. NoneAccepted t u caller
 abbrev pub OkaysStay : Type 0
 OkaysStay =
     (caller base : ℕ)
-    → StaysWhere (λ t u. FindsItsWord t u (Okay caller base) × IsUndecided u base)
+    → StaysWhere (λ t u. FindsItsWord t u (Okay caller base) × IsStillUndecided u base)
     (Okay caller base)
 
 -- a Pass loads a slot, and needs the node marked too
@@ -142,8 +143,8 @@ ResolvedChangesAreQuiet =
 abbrev pub PlacesHaveOneWord : Type 0
 PlacesHaveOneWord =
     (pairs : List Pair) (words : ℕ) (log : Log) → Lawful pairs words log → (place word other : ℕ)
-    → PlaceHas (state_of pairs words log) place word
-    → PlaceHas (state_of pairs words log) place other
+    → IsShown (state_of pairs words log) place word
+    → IsShown (state_of pairs words log) place other
     → word ≡ other
 
 -- where an event but a Lose is enabled, its word is the one that it is to find

@@ -6,5 +6,6 @@ pub returns : goal.returns
 returns c =
     record {
       above = λ pairs words log lawful node i child h.
-          child_above (state_of pairs words log) node i child (names pairs words lawful.opens log lawful.enabled) h;
+          child_above (state_of pairs words log) node i child
+          (names pairs words lawful.opens log lawful.enabled) h;
     }

@@ -7,8 +7,10 @@ use Rattle.ist_core.proofs.laws.fates_are_one.Goals as goal
 pub returns : goal.returns
 returns c =
     record {
-      held_unpublished = λ pairs words log lawful h i. (sound (start pairs words) log (sound_start pairs words) lawful.enabled).unpublished h i;
-      held_once = λ pairs words log lawful g h i j e. (sound (start pairs words) log (sound_start pairs words) lawful.enabled).once g h i j e;
+      held_unpublished = λ pairs words log lawful h i.
+          (sound (start pairs words) log (sound_start pairs words) lawful.enabled).unpublished h i;
+      held_once = λ pairs words log lawful g h i j e.
+          (sound (start pairs words) log (sound_start pairs words) lawful.enabled).once g h i j e;
       lost_unpublished = fates.lost_unpublished;
       lost_unheld = fates.lost_unheld;
     }

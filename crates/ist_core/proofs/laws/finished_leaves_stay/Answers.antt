@@ -5,5 +5,6 @@ pub returns : goal.returns
 returns c =
     record {
       stay = λ pairs words earlier log lawful g node k leaves done has.
-          finished_leaves_stay pairs words lawful.opens earlier log g lawful.enabled node leaves (k, done) has;
+          finished_leaves_stay pairs words lawful.opens earlier log g lawful.enabled node leaves
+          (k, done) has;
     }

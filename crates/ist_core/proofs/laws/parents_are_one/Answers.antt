@@ -5,5 +5,6 @@ pub returns : goal.returns
 returns c =
     record {
       one = λ pairs words earlier log lawful on node i other j child h k.
-          one_parent pairs words lawful.opens earlier log on lawful.enabled node i other j child h k;
+          one_parent pairs words lawful.opens earlier log on lawful.enabled node i other j child h
+          k;
     }

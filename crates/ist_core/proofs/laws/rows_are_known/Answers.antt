@@ -10,7 +10,9 @@ returns c =
     record {
       known = λ pairs words log lawful caller base size reserved.
           ⊎_elim
-          (λ here. ⊎_elim (λ held. still_held held) (λ there. is_published there.0 there.1 there.2) here)
+          (λ here. ⊎_elim (λ held. still_held held) (λ there. is_published there.0 there.1 there.2)
+          here)
           (λ lost. was_lost lost)
-          (known (start pairs words) log caller base size (sound_start pairs words) lawful.enabled reserved);
+          (known (start pairs words) log caller base size (sound_start pairs words) lawful.enabled
+          reserved);
     }

@@ -12,6 +12,8 @@ returns c =
     record {
       slots = λ pairs words log lawful node i word slot.
           names_row (state_of pairs words log) node i word (ref_of word) refl
-          (slot_names (state_of pairs words log) node i word (names pairs words lawful.opens log lawful.enabled) slot);
-      degree = λ pairs words log lawful node row e. shaped pairs words log lawful.enabled node (Inner row) e;
+          (slot_names (state_of pairs words log) node i word
+          (names pairs words lawful.opens log lawful.enabled) slot);
+      degree = λ pairs words log lawful node row e. shaped pairs words log lawful.enabled node
+          (Inner row) e;
     }

@@ -1,3 +1,4 @@
+use Rattle.std.proofs.Common.{inl, inr, ⊎_elim}
 use Rattle.ist_links.proofs.FormedLemmas.{rooted_is_finished}
 use Rattle.ist_rebuilds.proofs.RebuiltLemmas as rebuilt
 use Rattle.ist_rebuilds.proofs.ReplacedLemmas.{replaced_unlinked}
@@ -6,9 +7,9 @@ use Rattle.ist_rebuilds.proofs.laws.rebuilds_stand.Goals as goal
 pub returns : goal.returns
 returns c =
     record {
-      stand = λ pairs words log l rebuild row e started unreplaced.
-          let r = rebuilt.started_reads pairs words l.opens log l.enabled rebuild row e started unreplaced in
-          record { word = r.word; holds = r.holds; reads = r.reads };
+      stand = λ pairs words log l rebuild row e started.
+          ⊎_elim (λ k. inl k) (λ r. inr record { word = r.word; holds = r.holds; reads = r.reads })
+          (rebuilt.started_reads pairs words l.opens log l.enabled rebuild row e started);
       gone = λ pairs words log l rebuild row e replaced r.
           rebuilt.read_unreplaced pairs words l.opens log l.enabled rebuild row e record { word = r.word; holds = r.holds; reads = r.reads } replaced;
       out = λ pairs words log l rebuild row e replaced.

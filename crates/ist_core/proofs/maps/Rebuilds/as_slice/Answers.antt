@@ -4,4 +4,7 @@ use Rattle.ist_core.proofs.EntryLemmas.{entries-from_sorted}
 use Rattle.ist_core.proofs.maps.Rebuilds.as_slice.Goals as goal
 
 pub returns : goal.returns
-returns c = record { value = c.deref.ensures.value ∙ sym (entries-from_sorted _ c.self.invariant) ∙ ap fin.entries c.self.view_is }
+returns c = record {
+  value = c.deref.ensures.value ∙ sym (entries-from_sorted _ c.self.invariant) ∙
+      ap fin.entries c.self.view_is;
+}

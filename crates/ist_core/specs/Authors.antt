@@ -1,4 +1,4 @@
--- Whose events are whose, and logs that have gone on by events of others alone.
+-- Whose events are whose, and logs that have gone on by some events alone: by those of others, say.
 use Rattle.std.specs.Prelude.{None, Option, Some, ℕ, ◌∷◌, ◌≢◌}
 use Rattle.ist_core.specs.declared.events.Event.{Event}
 use Rattle.ist_core.specs.declared.events.Event.TheVariants.{Count, Decide, Draw, Enter, Finish, Install, Lose, Mark, Okay, Pass, Place, Reserve, Resolve, Root}
@@ -22,8 +22,12 @@ author (Draw caller rebuild part) = Some caller
 author (Place caller rebuild i word rows) = Some caller
 author (Lose caller bases) = Some caller
 
+-- the log goes on from an earlier one, by events of which P is true
+pub data GoesOnBy (P : Event → Type 0) (earlier : Log) : Log → Type 0 where
+  no_more : GoesOnBy P earlier earlier
+  one_more : {log : Log} (event : Event) → GoesOnBy P earlier log → P event
+      → GoesOnBy P earlier (event ∷ log)
+
 -- the log goes on from an earlier one, by events of others than this author
-pub data GoesOnByOthers (who : Option ℕ) (earlier : Log) : Log → Type 0 where
-  no_more : GoesOnByOthers who earlier earlier
-  one_more : {log : Log} (event : Event) → GoesOnByOthers who earlier log → author event ≢ who
-      → GoesOnByOthers who earlier (event ∷ log)
+abbrev pub GoesOnByOthers : Option ℕ → Log → Log → Type 0
+GoesOnByOthers who = GoesOnBy (λ event. author event ≢ who)

@@ -1,0 +1,59 @@
+-- Callers only come, by Enters alone. Serves each law that speaks of known callers.
+use Rattle.std.proofs.Common.{List, None, Option, Some, [], arith, inl, inr, refl, ℕ, ⊎_elim, ◌+◌, ◌<◌, ◌∷◌, ◌≡◌, ◌⊎◌}
+use Rattle.ist_core.specs.declared.events.Event.TheVariants.{Count, Decide, Draw, Enter, Finish, Install, Lose, Mark, Okay, Pass, Place, Reserve, Resolve, Root}
+use Rattle.ist_core.specs.declared.events.Event.{Event}
+use Rattle.ist_core.specs.declared.lists.Row.{Row}
+use Rattle.ist_core.specs.declared.states.ChangeRow.{ChangeRow}
+use Rattle.ist_core.specs.After.{installed, resolved, with_change}
+use Rattle.ist_core.specs.Authors.{author}
+use Rattle.ist_core.specs.Logs.{Log, state}
+use Rattle.ist_core.specs.Pieces.{as_change, change_of}
+use Rattle.ist_core.specs.Snapshots.{Snapshot}
+
+-- a change that is published adds no caller
+callers-with_change : (t : Snapshot) (base : ℕ) (fresh : List Row) (change : Option ChangeRow)
+    → (with_change t base fresh change).callers ≡ t.callers
+callers-with_change t base fresh None = refl
+callers-with_change t base fresh (Some change) = refl
+
+-- nor do those that an Install publishes
+pub callers-installed : (t : Snapshot) (base : ℕ) (rows : List Row)
+    → (installed t base rows).callers ≡ t.callers
+callers-installed t base [] = refl
+callers-installed t base (row ∷ fresh) = callers-with_change t base fresh (change_of row.words)
+
+-- nor does a change that leaves its slot
+pub callers-resolved : (t : Snapshot) (change : Option ChangeRow)
+    → (resolved t change).callers ≡ t.callers
+callers-resolved t None = refl
+callers-resolved t (Some change) = refl
+
+-- an event enters one caller, and is the maker's, or leaves how many there are
+pub callers_step : (first : Snapshot) (log : Log) (event : Event)
+    → ((author event ≡ None)
+    × ((state first (event ∷ log)).callers ≡ (state first log).callers + 1))
+    ⊎ ((state first (event ∷ log)).callers ≡ (state first log).callers)
+callers_step first log (Enter caller) = inl (refl, refl)
+callers_step first log (Install caller base rows) =
+    inr (callers-installed (state first log) base rows)
+callers_step first log (Resolve caller base) =
+    inr (callers-resolved (state first log) (as_change ((state first log).pieces base)))
+callers_step first log (Reserve caller base size) = inr refl
+callers_step first log (Okay caller base) = inr refl
+callers_step first log (Decide caller base said) = inr refl
+callers_step first log (Count caller node) = inr refl
+callers_step first log (Mark caller node) = inr refl
+callers_step first log (Pass caller node i word) = inr refl
+callers_step first log (Finish caller node keys) = inr refl
+callers_step first log (Root caller rebuild word rows) = inr refl
+callers_step first log (Draw caller rebuild part) = inr refl
+callers_step first log (Place caller rebuild i word rows) = inr refl
+callers_step first log (Lose caller bases) = inr refl
+
+-- who is known stays known over an event
+pub known_step : (first : Snapshot) (log : Log) (event : Event) (caller : ℕ)
+    → caller < (state first log).callers
+    → caller < (state first (event ∷ log)).callers
+known_step first log event caller low =
+    ⊎_elim (λ more. let le = more.1 in omega arith) (λ same. omega arith)
+    (callers_step first log event)
