@@ -1,0 +1,4 @@
+pub mod SizedLemmas
+pub mod RootFormLemmas
+pub mod PartLemmas
+pub mod CarryLemmas

@@ -1,0 +1,5 @@
+pub mod BetweenLemmas
+pub mod AcceptedLemmas
+pub mod InstalledLemmas
+pub mod CountedLemmas
+pub mod UpLemmas
