@@ -6,11 +6,15 @@ use Rattle.std.proofs.Common.{
   suc,
   ◌+◌,
   ◌-◌,
+  ◌*◌,
   ◌<◌,
   ◌≤◌,
   ◌∙◌,
   min,
   nat_le,
+  nat_lt,
+  cond,
+  Bool,
   true,
   false,
   List,
@@ -18,8 +22,10 @@ use Rattle.std.proofs.Common.{
   get_or,
   take,
   ⊎_elim,
+  refl,
   sym,
   ap,
+  subst,
   arith,
   add-one,
 }
@@ -29,6 +35,9 @@ use Rattle.std.proofs.lemmas.List.{take_all}
 use Rattle.std.proofs.lemmas.List.Sums.{count_by_more_yes, count_by_more_no}
 use Rattle.std.specs.List.Sorted.{IsStrictlyIncreasing}
 use Rattle.ist_core.specs.Arithmetic.{child_count}
+use Rattle.ist_math.specs.declared.gallops.Gallop.{Gallop}
+use Rattle.ist_math.specs.Gallops.{Gallops}
+use Rattle.ist_math.proofs.GallopLemmas.{looks-near}
 
 -- a key m places further on is at least as large
 rises_over : (keys : List ℕ) (k m : ℕ) → IsStrictlyIncreasing keys → k + m < length keys
@@ -93,3 +102,81 @@ child_count_is keys x at rises within above below =
             let test : nat_le (get_or keys j 0) x ≡ false = grind (arith, nat_tests) in
             let no = count_by_more_no (λ key. nat_le key x) keys j 0 (omega arith) test in
             omega arith
+
+-- a gallop from a guess has come between two keys, around the child
+pub record HasGalloped (keys : List ℕ) (x guess : ℕ) (g : Gallop) (looks : ℕ) : Type 0 where
+  pub within : g.high < length keys
+  pub below : get_or keys g.low 0 ≤ x
+  pub above : x < get_or keys g.high 0
+  pub gallops : Gallops g guess looks
+
+-- a look goes on
+pub galloped_on : (keys : List ℕ) (x guess : ℕ) (g next : Gallop) (looks at : ℕ)
+    → HasGalloped keys x guess g looks → g.low < at → at < g.high
+    → next.low ≡ cond (nat_lt x (get_or keys at 0)) g.low at
+    → next.high ≡ cond (nat_lt x (get_or keys at 0)) at g.high → Gallops next guess (suc looks)
+    → HasGalloped keys x guess next (looks + 1)
+galloped_on keys x guess g next looks at h up down =
+    by (nat_lt x (get_or keys at 0)) refl
+  where
+    by : (above : Bool) → nat_lt x (get_or keys at 0) ≡ above → next.low ≡ cond above g.low at
+        → next.high ≡ cond above at g.high → Gallops next guess (suc looks)
+        → HasGalloped keys x guess next (looks + 1)
+    by true test low high gallops =
+        let over : x < get_or keys at 0 = grind (arith, nat_tests) in
+        let within = h.within in
+        let below = h.below in
+        let same = ap (λ n. get_or keys n 0) low in
+        let here = ap (λ n. get_or keys n 0) high in
+        record {
+          within = omega arith;
+          below = omega arith;
+          above = omega arith;
+          gallops = subst (Gallops next guess) (let e : suc looks ≡ looks + 1 = omega arith in e)
+              gallops;
+        }
+    by false test low high gallops =
+        let under : get_or keys at 0 ≤ x = grind (arith, nat_tests) in
+        let within = h.within in
+        let above = h.above in
+        let same = ap (λ n. get_or keys n 0) high in
+        let here = ap (λ n. get_or keys n 0) low in
+        record {
+          within = omega arith;
+          below = omega arith;
+          above = omega arith;
+          gallops = subst (Gallops next guess) (let e : suc looks ≡ looks + 1 = omega arith in e)
+              gallops;
+        }
+
+-- its end is the child
+pub galloped_to : (keys : List ℕ) (x guess : ℕ) (g : Gallop) (looks : ℕ)
+    → IsStrictlyIncreasing keys → HasGalloped keys x guess g looks → g.low + 1 ≡ g.high
+    → child_count keys x ≡ g.high
+galloped_to keys x guess g looks rises h e =
+    let within = h.within in
+    let below = h.below in
+    let one : g.high - 1 ≡ g.low = omega arith in
+    let same = ap (λ n. get_or keys n 0) one in
+    child_count_is keys x g.high rises (omega arith) (λ _. h.above) (λ _. omega arith)
+
+-- of keys that are all above x the first is the child, and of keys that are all at most x the last
+pub child_is_first : (keys : List ℕ) (x : ℕ) → IsStrictlyIncreasing keys → x < get_or keys 0 0
+    → child_count keys x ≡ 0
+child_is_first keys x rises above =
+    child_count_is keys x 0 rises (omega arith) (λ _. above) (λ none. absurd (omega arith))
+
+pub child_is_last : (keys : List ℕ) (x : ℕ) → IsStrictlyIncreasing keys
+    → get_or keys (length keys - 1) 0 ≤ x → child_count keys x ≡ length keys
+child_is_last keys x rises below =
+    child_count_is keys x (length keys) rises (omega arith) (λ less. absurd (omega arith))
+    (λ _. below)
+
+-- looks are few enough to be counted
+pub looks_fit : (keys : List ℕ) (x guess : ℕ) (g : Gallop) (looks : ℕ)
+    → HasGalloped keys x guess g looks → guess < length keys → looks ≤ 2 * length keys + 3
+looks_fit keys x guess g looks h less =
+    let near = looks-near g guess looks h.gallops in
+    let within = h.within in
+    let some = h.gallops.some in
+    omega arith

@@ -1,3 +1,6 @@
 pub mod SizeLemmas
 pub mod GuessLemmas
 pub mod ChildLemmas
+pub mod QuotientLemmas
+pub mod GallopLemmas
+pub mod RootLemmas

@@ -1,2 +1,3 @@
 -- what the public contracts rest on, in the order to read them
 pub mod Guess
+pub mod Gallops

@@ -2,14 +2,21 @@
 ghost use Rattle.std.specs.Prelude.{◌≡◌, ℕ, ◌+◌, ◌-◌, ◌*◌, ◌/◌, ◌<◌, ◌≤◌, ◌^◌, length, slice_index};
 ghost use Rattle.std.specs.List.Sorted.{IsStrictlyIncreasing};
 ghost use Rattle.ist_core.specs.Arithmetic.{child_count};
-ghost use Rattle.ist_math.specs.Guess.{guess_of};
+ghost use Rattle.ist_math.specs.Guess.{guess_of, guess_in, distance};
+
+use crate::gallops::Gallop;
+use crate::quotients::share_of;
+
+/// Of so many keys each is looked at, without a guess.
+pub const FEW_KEYS: u64 = 4;
 
 /// How many of `m` keys are at most `x`, if they lie evenly between `first` and `last`: a guess at
 /// the child for `x`.
 ///
-/// The product is taken in `u128`, before the division, so it is exact for all keys.
+/// It is exact for all keys, though the product may have 128 bits, and divides by 64 bits alone.
 ///
 /// Source: Perl, Itai and Avni, "Interpolation search", CACM 1978.
+#[inline]
 pub fn guess(first: u64, last: u64, m: u64, x: u64) -> u64
     requires some { 1 ≤ m }
     requires one_key { m ≡ 1 → first ≡ last }
@@ -23,52 +30,92 @@ pub fn guess(first: u64, last: u64, m: u64, x: u64) -> u64
     if x >= last {
         return m;
     }
-    let above = u128::from(x - first) * u128::from(m - 1) / u128::from(last - first);
-    1 + above as u64
+    1 + share_of(x - first, m - 1, last - first)
+}
+
+/// A child, and how many keys were looked at to find it.
+#[derive(Clone, Copy, Debug, PartialEq, Eq, Drop)]
+pub struct ChildFound {
+    /// The number of the child, from 0.
+    pub child: usize,
+    /// How many keys were looked at.
+    pub looks: usize,
 }
 
 /// The child of a node with these keys in whose range `x` lies, counted from 0: the number of keys
 /// that are at most `x`.
-///
-/// It begins at the guess and moves on from there one key at a time, so it looks at few keys where
-/// they are spread evenly. No clause bounds how many.
+#[inline]
 pub fn child_of(keys: &[u64], x: u64) -> usize
     requires rising { IsStrictlyIncreasing keys.now }
     ensures value { result ≡ child_count keys.now x }
     ensures within { result ≤ length keys.now }
 {
+    child_and_looks(keys, x).child
+}
+
+/// The same child, and how many keys were looked at for it.
+///
+/// Of at most four keys each is looked at. Otherwise the search begins at the guess and gallops: it
+/// goes away by steps of one, two, four, .. keys, and halves what lies between once it passed the
+/// child. So it looks at few keys where the guess is near, and never at many.
+#[inline]
+pub fn child_and_looks(keys: &[u64], x: u64) -> ChildFound
+    requires rising { IsStrictlyIncreasing keys.now }
+    ensures value { result.child ≡ child_count keys.now x }
+    ensures within { result.child ≤ length keys.now }
+    ensures few { length keys.now ≤ 4 → result.looks ≡ length keys.now }
+    ensures near { result.looks ≤ distance (guess_in keys.now x) result.child + 5 }
+    ensures far { (k : ℕ) → distance (guess_in keys.now x) result.child < 2 ^ k
+        → result.looks ≤ 2 * k + 4 }
+{
     let count = keys.len();
-    if count == 0 {
-        return 0;
+    if count <= FEW_KEYS as usize {
+        return ChildFound {
+            child: keys.iter().filter(|key| **key <= x).count(),
+            looks: count,
+        };
     }
-    let near = guess(keys[0], keys[count - 1], count as u64, x) as usize;
-    walk_down(keys, walk_up(keys, near, x), x)
+    if x < keys[0] {
+        return ChildFound { child: 0, looks: 1 };
+    }
+    if keys[count - 1] <= x {
+        return ChildFound {
+            child: count,
+            looks: 2,
+        };
+    }
+    let found = gallop_from(
+        keys,
+        x,
+        guess(keys[0], keys[count - 1], count as u64, x) as usize,
+    );
+    ChildFound {
+        child: found.child,
+        looks: found.looks + 2,
+    }
 }
 
-/// Goes up from `from` past the keys that are at most `x`.
-fn walk_up(keys: &[u64], from: usize, x: u64) -> usize
-    requires from { from ≤ length keys.now }
-    ensures within { result ≤ length keys.now }
-    ensures above { result < length keys.now → x < slice_index keys.now result }
+/// The child, found by a gallop from there.
+fn gallop_from(keys: &[u64], x: u64, from: usize) -> ChildFound
+    requires rising { IsStrictlyIncreasing keys.now }
+    requires some { 1 ≤ from }
+    requires within { from < length keys.now }
+    requires first { slice_index keys.now 0 ≤ x }
+    requires last { x < slice_index keys.now (length keys.now - 1) }
+    ensures value { result.child ≡ child_count keys.now x }
+    ensures within { result.child < length keys.now }
+    ensures near { result.looks ≤ distance from result.child + 3 }
+    ensures far { (k : ℕ) → distance from result.child < 2 ^ k → result.looks ≤ 2 * k + 2 }
 {
-    let mut at = from;
-    while at < keys.len() && keys[at] <= x {
-        at += 1;
+    let mut gallop = Gallop::begin(keys.len() as u64, from as u64, keys[from] > x);
+    let mut looks = 1;
+    while gallop.is_open() {
+        let at = gallop.probe();
+        gallop = gallop.told(at, keys[at as usize] > x);
+        looks += 1;
     }
-    at
-}
-
-/// Goes down from `from` past the keys that are above `x`.
-fn walk_down(keys: &[u64], from: usize, x: u64) -> usize
-    requires from { from ≤ length keys.now }
-    requires above { from < length keys.now → x < slice_index keys.now from }
-    ensures within { result ≤ length keys.now }
-    ensures above { result < length keys.now → x < slice_index keys.now result }
-    ensures below { 0 < result → slice_index keys.now (result - 1) ≤ x }
-{
-    let mut at = from;
-    while at > 0 && keys[at - 1] > x {
-        at -= 1;
+    ChildFound {
+        child: gallop.high as usize,
+        looks,
     }
-    at
 }

@@ -4,7 +4,9 @@ ghost use Rattle.std.specs.Prelude.{◌≡◌, ℕ, ◌+◌, ◌*◌, ◌<◌, �
 ghost use Rattle.std.specs.List.{sum};
 ghost use Rattle.ist_core.specs.Arithmetic.{square_root, degree, part_len, part_lens};
 ghost use Rattle.ist_core.specs.Shapes.{ideal_words, shape, depth, share_from};
-ghost use Rattle.ist_math.specs.Guess.{guess_of};
+ghost use Rattle.ist_math.specs.declared.gallops.Gallop.{Gallop};
+ghost use Rattle.ist_math.specs.Guess.{guess_of, distance};
+ghost use Rattle.ist_math.specs.Gallops.{Gallops};
 
 use crate::sizes::SHARE_FROM;
 
@@ -16,9 +18,20 @@ pub fn square_root_is_the_last()
     ensures only { (n r : ℕ) → r * r ≤ n → n < (r + 1) * (r + 1) → square_root n ≡ r }
 {}
 
-/// The guess lies between 0 and the number of keys.
+/// The guess lies between 0 and the number of keys, and between the end keys it is neither.
 pub fn guess_lies_within()
     ensures within { (first last m x : ℕ) → 1 ≤ m → guess_of first last m x ≤ m }
+    ensures between { (first last m x : ℕ) → 2 ≤ m → first ≤ x → x < last
+        → (1 ≤ guess_of first last m x) × (guess_of first last m x < m) }
+{}
+
+/// A gallop that has come to its end made few looks: at most three more than its guess lies off the
+/// child, and at most two for each bit of that distance, and two.
+pub fn gallops_are_short()
+    ensures near { (g : Gallop) (guess looks : ℕ) → Gallops g guess looks → g.low + 1 ≡ g.high
+        → looks ≤ distance guess g.high + 3 }
+    ensures far { (g : Gallop) (guess looks : ℕ) → Gallops g guess looks → g.low + 1 ≡ g.high
+        → (k : ℕ) → distance guess g.high < 2 ^ k → looks ≤ 2 * k + 2 }
 {}
 
 /// The parts of a node have all its keys, and none is empty.

@@ -7,13 +7,16 @@
 #![tactic(auto)]
 
 mod children;
+mod gallops;
 pub mod laws;
 mod parts;
+mod quotients;
 mod shares;
 mod sizes;
 pub mod tables;
 
-pub use children::{child_of, guess};
+pub use children::{ChildFound, FEW_KEYS, child_and_looks, child_of, guess};
+pub use gallops::Gallop;
 pub use parts::Part;
 pub use shares::{degree, part};
 pub use sizes::{SHARE_FROM, ideal_words, limit};

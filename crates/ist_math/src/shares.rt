@@ -1,5 +1,5 @@
 //! How the keys of a node are shared among its children.
-ghost use Rattle.std.specs.Prelude.{◌≡◌, ℕ, ◌+◌, ◌<◌, ◌≤◌, ◌^◌};
+ghost use Rattle.std.specs.Prelude.{◌≡◌, ℕ, ◌+◌, ◌*◌, ◌<◌, ◌≤◌, ◌^◌};
 ghost use Rattle.ist_core.specs.Arithmetic.{degree, part_len, part_start};
 
 use crate::parts::Part;
@@ -13,7 +13,27 @@ pub fn degree(n: u64) -> u64
     ensures least { 2 ≤ result }
     ensures most { result ≤ n }
 {
-    n.isqrt().max(2)
+    root(n).max(2)
+}
+
+/// The square root, rounded down: it halves between two neighbouring powers of two.
+fn root(n: u64) -> u64
+    requires some { 1 ≤ n }
+    requires fits { n < 2 ^ 32 }
+    ensures square { result * result ≤ n }
+    ensures next_square { n < (result + 1) * (result + 1) }
+{
+    let mut low = 1 << ((63 - n.leading_zeros()) / 2);
+    let mut high = 2 * low;
+    while low + 1 < high {
+        let middle = (low + high) / 2;
+        if middle * middle <= n {
+            low = middle;
+        } else {
+            high = middle;
+        }
+    }
+    low
 }
 
 /// The keys of child `j`, counted from 0, of the root of an ideal tree of `n` keys.

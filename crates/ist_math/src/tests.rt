@@ -1,5 +1,11 @@
 //! Values from outside: worked by hand, or by a short program that counts each part by itself.
-use super::{child_of, degree, guess, ideal_words, limit, part};
+ghost use Rattle.std.specs.Prelude.{IsTrue};
+ghost use Rattle.std.specs.List.Sorted.{IsStrictlyIncreasing};
+
+use super::{child_and_looks, child_of, degree, guess, ideal_words, limit, part};
+use std::alloc::{AllocError, Global};
+use std::process::Abort;
+use std::test::Fail;
 
 #[test]
 fn a_guess_in_even_keys_is_the_child(rt: HostRuntime) {
@@ -32,8 +38,23 @@ fn extreme_keys_have_children(rt: HostRuntime) {
         assert_eq!(rt; guess(0, u64::MAX, 2, key), near, "key {key}");
         assert_eq!(rt; child_of(&whole, key), child, "key {key}");
     }
-    // many keys over the whole range: the product has 96 bits
-    assert_eq!(rt; guess(0, u64::MAX, 1 << 32, u64::MAX - 1), (1 << 32) - 1);
+    // many keys over the whole range: the product has more than 64 bits
+    let cases = [
+        (1 << 32, u64::MAX - 1, (1 << 32) - 1),
+        (1 << 20, 1 << 63, 524288),
+        (1 << 63, 12345678901234567890, 6172839450617283945),
+        (u64::MAX, u64::MAX - 1, u64::MAX - 1),
+        (u64::MAX, 1 << 62, 4611686018427387904),
+    ];
+    for (count, key, near) in cases {
+        assert_eq!(rt;
+            guess(0, u64::MAX, count, key),
+            near,
+            "key {key} of {count}"
+        );
+    }
+    // a short range of wide keys: the quotient by the first 64 bits is far too low
+    assert_eq!(rt; guess(0, 1 << 40, 1 << 63, 1 << 39), 4611686018427387904);
     // one key
     let cases = [(0, 0), (6, 0), (7, 1), (u64::MAX, 1)];
     for (key, child) in cases {
@@ -132,4 +153,91 @@ fn nodes_are_due_after_a_quarter_of_their_keys(rt: HostRuntime) {
     for (size, updates) in cases {
         assert_eq!(rt; limit(size), updates, "size {size}");
     }
+}
+
+// Does each key lie below the next?
+fn rises(keys: &[u64]) -> bool
+    ensures rising { IsTrue result → IsStrictlyIncreasing keys.now }
+{
+    for i in 1..keys.len() {
+        if keys[i - 1] >= keys[i] {
+            return false;
+        }
+    }
+    true
+}
+
+// So many keys, by their numbers.
+fn keys_by<F: Fn(u64) -> u64>(alloc: Global, count: u64, key: F) -> Result<Vec<u64>, AllocError>
+    requires { F.IsAlwaysCallable key }
+{
+    let mut keys = Vec::new(alloc);
+    for i in 0..count {
+        keys.push(key(i))?;
+    }
+    Ok(keys)
+}
+
+// So many keys at random distances.
+fn random_keys(alloc: Global, count: u64, seed: u64) -> Result<Vec<u64>, AllocError> {
+    let mut keys = Vec::new(alloc);
+    let mut state = seed;
+    let mut key = 0u64;
+    for _ in 0..count {
+        state = state
+            .wrapping_mul(6364136223846793005)
+            .wrapping_add(1442695040888963407);
+        key = key.wrapping_add((state >> 11) + 1);
+        keys.push(key)?;
+    }
+    Ok(keys)
+}
+
+// The most looks for a key of these, for the number before it and for the one behind it, each child
+// being the number of keys that a walk over all of them counts.
+fn most_looks(rt: &impl Abort, keys: &[u64]) -> usize {
+    let mut most = 0;
+    assert!(rt; rises(keys));
+    for key in keys {
+        for x in [key.saturating_sub(1), *key, key.saturating_add(1)] {
+            let found = child_and_looks(keys, x);
+            assert_eq!(rt;
+                found.child,
+                keys.iter().filter(|key| **key <= x).count(),
+                "key {x}"
+            );
+            most = most.max(found.looks);
+        }
+    }
+    most
+}
+
+#[test]
+fn few_keys_are_looked_at_however_they_lie(rt: HostRuntime) -> Result<(), Fail> {
+    let seconds = keys_by(rt.alloc(), 1000, |i| 1_700_000_000u64.wrapping_add(i))?;
+    let year = 31_536_000;
+    let bursts = keys_by(
+        rt.alloc(),
+        1000,
+        |i| i.wrapping_add(if i < 500 { 0 } else { year }),
+    )?;
+    let squares = keys_by(rt.alloc(), 1000, |i| i.wrapping_mul(i))?;
+    let one_far = keys_by(rt.alloc(), 1000, |i| if i < 999 { i } else { u64::MAX })?;
+    let random = random_keys(rt.alloc(), 1000, 1)?;
+    let four = keys_by(rt.alloc(), 4, |i| i.wrapping_mul(i))?;
+    let five = keys_by(rt.alloc(), 5, |i| i.wrapping_mul(i))?;
+    // the keys, the most looks
+    let cases = [
+        ("rising seconds", seconds.as_slice(), 4),
+        ("two bursts, a year apart", bursts.as_slice(), 20),
+        ("squares", squares.as_slice(), 18),
+        ("one key at the end", one_far.as_slice(), 21),
+        ("random, by the seed 1", random.as_slice(), 10),
+        ("four squares", four.as_slice(), 4),
+        ("five squares", five.as_slice(), 4),
+    ];
+    for (name, keys, most) in cases {
+        assert_eq!(rt; most_looks(&rt, keys), most, "{name}");
+    }
+    Ok(())
 }

@@ -1,5 +1,8 @@
-use Rattle.ist_math.proofs.GuessLemmas.{guess_of-le}
+use Rattle.ist_math.proofs.GuessLemmas.{guess_of-le, guess_of-between}
 use Rattle.ist_math.proofs.laws.guess_lies_within.Goals as goal
 
-pub returns : goal.returns
-returns c = record { within = guess_of-le }
+pub returns-clause-within : goal.returns-clause-within
+returns-clause-within c = guess_of-le
+
+pub returns-clause-between : goal.returns-clause-between
+returns-clause-between c = guess_of-between

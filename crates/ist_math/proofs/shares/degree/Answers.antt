@@ -6,5 +6,5 @@ use Rattle.ist_math.proofs.shares.degree.Goals as goal
 pub returns-clause-value : goal.returns-clause-value
 returns-clause-value c =
     let known =
-    degree_is c.args.n c.isqrt.result c.isqrt.ensures.square_le c.isqrt.ensures.next_square_gt in
+    degree_is c.args.n c.root.result c.root.ensures.square c.root.ensures.next_square in
     omega arith

@@ -1,0 +1,250 @@
+-- How a gallop goes on, and how many looks it makes. Serves `gallops` and `laws`.
+use Rattle.std.proofs.Common.{◌≡◌, ℕ, zero, suc, ◌+◌, ◌-◌, ◌*◌, ◌/◌, ◌^◌, ◌<◌, ◌≤◌, Bool, true, false, cond, not, ◌&&◌, nat_lt, ⊎_elim, refl, sym, subst, arith}
+use Rattle.std.proofs.lemmas.Bool.{cases_lt}
+use Rattle.std.proofs.lemmas.Bool.Decides.{nat_tests}
+use Rattle.std.proofs.lemmas.Nat.{pow_pos, pow_below}
+use Rattle.std.proofs.Math.Nat.{pow-suc}
+use Rattle.ist_math.specs.declared.gallops.Gallop.{Gallop}
+use Rattle.ist_math.specs.Guess.{distance}
+use Rattle.ist_math.specs.Gallops.{width, probe_of, next_step_of, least_distance, IsOnSide, Gallops}
+
+-- ---- what a look shows
+
+-- a gallop, by its fields
+abbrev pub gallop : ℕ → ℕ → ℕ → Bool → Gallop
+gallop low high step down = record { low = low; high = high; step = step; down = down }
+
+-- the side doesn't change where the two keys come nearer
+side_stays : (low high step nearer above next guess : ℕ) (down : Bool) → low ≤ nearer → above ≤ high
+    → IsOnSide (gallop low high step down) guess → IsOnSide (gallop nearer above next down) guess
+side_stays low high step nearer above next guess true h l s = omega arith
+side_stays low high step nearer above next guess false h l s = omega arith
+
+-- a look at the middle, between two keys of which one takes its place
+halved : (g : Gallop) (guess looks low high : ℕ) → Gallops g guess looks → width g ≤ g.step
+    → g.low + 1 < g.high → g.low ≤ low → high ≤ g.high → low < high
+    → high - low ≤ width g - width g / 2
+    → Gallops (gallop low high g.step g.down) guess (suc looks)
+halved g guess looks low high h over between up down some half =
+    let steps = h.steps in
+    let far = h.far in
+    let near = h.near over in
+    at h.halvings near.0 near.1
+  where
+    at : (t : ℕ) → width g ≤ 2 ^ t → looks + t ≤ 2 * h.doublings + 2
+        → Gallops (gallop low high g.step g.down) guess (suc looks)
+    at zero wide few = absurd (omega arith)
+    at (suc t) wide few =
+        let double = pow-suc 2 t in
+        let far = h.far in
+        record {
+          doublings = h.doublings;
+          halvings = t;
+          some = some;
+          steps = h.steps;
+          side = side_stays g.low g.high g.step low high g.step guess g.down up down h.side;
+          far = omega arith;
+          away = λ less. absurd (omega arith);
+          near = λ _. (omega arith, omega arith);
+        }
+
+-- the side to which a step goes, and the other one
+module _ (low high step guess looks : ℕ) (less : step < high - low) where
+  -- a step that goes on is doubled
+  goes_down : Gallops (gallop low high step true) guess looks
+      → Gallops (gallop low (high - step) (2 * step) true) guess (suc looks)
+  goes_down h =
+      let double = pow-suc 2 h.doublings in
+      let away = h.away less in
+      let is = away.0 in
+      let count = away.1 in
+      let far = h.far in
+      let steps = h.steps in
+      let side : high ≤ guess = h.side in
+      record {
+        doublings = suc h.doublings;
+        halvings = suc h.doublings;
+        some = omega arith;
+        steps = omega arith;
+        side = omega arith;
+        far = omega arith;
+        away = λ _. (omega arith, omega arith);
+        near = λ wide. (omega arith, omega arith);
+      }
+
+  goes_up : Gallops (gallop low high step false) guess looks
+      → Gallops (gallop (low + step) high (2 * step) false) guess (suc looks)
+  goes_up h =
+      let double = pow-suc 2 h.doublings in
+      let away = h.away less in
+      let is = away.0 in
+      let count = away.1 in
+      let far = h.far in
+      let steps = h.steps in
+      let side : guess ≤ low = h.side in
+      record {
+        doublings = suc h.doublings;
+        halvings = suc h.doublings;
+        some = omega arith;
+        steps = omega arith;
+        side = omega arith;
+        far = omega arith;
+        away = λ _. (omega arith, omega arith);
+        near = λ wide. (omega arith, omega arith);
+      }
+
+  -- a step that passed the key has as much before it as it is long
+  passed_down : Gallops (gallop low high step true) guess looks
+      → Gallops (gallop (high - step) high step true) guess (suc looks)
+  passed_down h =
+      let away = h.away less in
+      let is = away.0 in
+      let count = away.1 in
+      let far = h.far in
+      let steps = h.steps in
+      let side : high ≤ guess = h.side in
+      record {
+        doublings = h.doublings;
+        halvings = h.doublings;
+        some = omega arith;
+        steps = steps;
+        side = side;
+        far = omega arith;
+        away = λ more. absurd (omega arith);
+        near = λ _. (omega arith, omega arith);
+      }
+
+  passed_up : Gallops (gallop low high step false) guess looks
+      → Gallops (gallop low (low + step) step false) guess (suc looks)
+  passed_up h =
+      let away = h.away less in
+      let is = away.0 in
+      let count = away.1 in
+      let far = h.far in
+      let steps = h.steps in
+      let side : guess ≤ low = h.side in
+      record {
+        doublings = h.doublings;
+        halvings = h.doublings;
+        some = omega arith;
+        steps = steps;
+        side = side;
+        far = omega arith;
+        away = λ more. absurd (omega arith);
+        near = λ _. (omega arith, omega arith);
+      }
+
+-- a step to a key that is above the one that is sought, and to one that isn't
+step_above : (down : Bool) (low high step guess looks : ℕ) → step < high - low
+    → Gallops (gallop low high step down) guess looks
+    → Gallops (gallop low (cond down (high - step) (low + step)) (cond down (2 * step) step) down)
+    guess (suc looks)
+step_above true low high step guess looks less h = goes_down low high step guess looks less h
+step_above false low high step guess looks less h = passed_up low high step guess looks less h
+
+step_below : (down : Bool) (low high step guess looks : ℕ) → step < high - low
+    → Gallops (gallop low high step down) guess looks
+    → Gallops (gallop (cond down (high - step) (low + step)) high
+    (cond (not down) (2 * step) step) down) guess (suc looks)
+step_below true low high step guess looks less h = passed_down low high step guess looks less h
+step_below false low high step guess looks less h = goes_up low high step guess looks less h
+
+module _ (g : Gallop) (guess looks : ℕ) (h : Gallops g guess looks) (between : g.low + 1 < g.high) where
+  told_above : Gallops (gallop g.low (probe_of g) (next_step_of g g.down) g.down) guess (suc looks)
+  told_above = at (nat_lt g.step (width g)) refl
+    where
+      at : (t : Bool) → nat_lt g.step (width g) ≡ t
+          → Gallops (gallop g.low
+          (cond t (cond g.down (g.high - g.step) (g.low + g.step)) (g.low + width g / 2))
+          (cond (t && g.down) (2 * g.step) g.step) g.down) guess (suc looks)
+      at true e =
+          let less : g.step < width g = grind (arith, nat_tests) in
+          step_above g.down g.low g.high g.step guess looks less h
+      at false e =
+          let over : width g ≤ g.step = grind (arith, nat_tests) in
+          halved g guess looks g.low (g.low + width g / 2) h over between (omega arith)
+          (omega arith) (omega arith) (omega arith)
+
+  told_below : Gallops (gallop (probe_of g) g.high (next_step_of g (not g.down)) g.down) guess
+      (suc looks)
+  told_below = at (nat_lt g.step (width g)) refl
+    where
+      at : (t : Bool) → nat_lt g.step (width g) ≡ t
+          → Gallops (gallop
+          (cond t (cond g.down (g.high - g.step) (g.low + g.step)) (g.low + width g / 2)) g.high
+          (cond (t && not g.down) (2 * g.step) g.step) g.down) guess (suc looks)
+      at true e =
+          let less : g.step < width g = grind (arith, nat_tests) in
+          step_below g.down g.low g.high g.step guess looks less h
+      at false e =
+          let over : width g ≤ g.step = grind (arith, nat_tests) in
+          halved g guess looks (g.low + width g / 2) g.high h over between (omega arith)
+          (omega arith) (omega arith) (omega arith)
+
+  -- what a look shows: the key at the probe is above the one that is sought
+  pub goes_above : (at step : ℕ) → at ≡ probe_of g → step ≡ next_step_of g g.down
+      → Gallops (gallop g.low at step g.down) guess (suc looks)
+  goes_above at step e f =
+      subst (λ n. Gallops (gallop g.low n step g.down) guess (suc looks)) (sym e)
+      (subst (λ n. Gallops (gallop g.low (probe_of g) n g.down) guess (suc looks)) (sym f) told_above)
+
+  -- or it isn't
+  pub goes_below : (at step : ℕ) → at ≡ probe_of g → step ≡ next_step_of g (not g.down)
+      → Gallops (gallop at g.high step g.down) guess (suc looks)
+  goes_below at step e f =
+      subst (λ n. Gallops (gallop n g.high step g.down) guess (suc looks)) (sym e)
+      (subst (λ n. Gallops (gallop (probe_of g) g.high n g.down) guess (suc looks)) (sym f) told_below)
+
+-- ---- how many looks
+
+-- twice a number is at most its power of two
+twice-le_pow : (n : ℕ) → 2 * n ≤ 2 ^ n
+twice-le_pow zero = omega arith
+twice-le_pow (suc zero) = omega arith
+twice-le_pow (suc (suc n)) =
+    let so_far = twice-le_pow (suc n) in
+    let double = pow-suc 2 (suc n) in
+    let some = pow_pos n in
+    let first = pow-suc 2 n in
+    omega arith
+
+-- a power that is at most another has no larger exponent
+exponent-le : (i k : ℕ) → 2 ^ i ≤ 2 ^ k → i ≤ k
+exponent-le i k h =
+    ⊎_elim (λ (less : k < i). let over = pow_below k i less in absurd (omega arith))
+    (λ (low : i ≤ k). low) (cases_lt k i)
+
+-- twice the doublings, and two more
+looks-doublings : (g : Gallop) (guess looks : ℕ) (h : Gallops g guess looks)
+    → looks ≤ 2 * h.doublings + 2
+looks-doublings g guess looks h =
+    ⊎_elim (λ (less : g.step < width g). let count = (h.away less).1 in omega arith)
+    (λ (over : width g ≤ g.step). let few = (h.near over).1 in omega arith)
+    (cases_lt g.step (width g))
+
+-- at most three more than the guess lies off
+pub looks-near : (g : Gallop) (guess looks : ℕ) → Gallops g guess looks
+    → looks ≤ least_distance g guess + 3
+looks-near g guess looks h =
+    let most = looks-doublings g guess looks h in
+    let twice = twice-le_pow h.doublings in
+    let far = h.far in
+    omega arith
+
+-- at most two for each bit of it, and two
+looks-far : (g : Gallop) (guess looks : ℕ) → Gallops g guess looks → (k : ℕ)
+    → least_distance g guess < 2 ^ k → looks ≤ 2 * k + 2
+looks-far g guess looks h k less =
+    let most = looks-doublings g guess looks h in
+    let far = h.far in
+    let few = exponent-le h.doublings k (omega arith) in
+    omega arith
+
+-- both, where a gallop has come to its end
+pub end-near : (g : Gallop) (guess looks : ℕ) → Gallops g guess looks → g.low + 1 ≡ g.high
+    → looks ≤ distance guess g.high + 3
+end-near g guess looks h e = let near = looks-near g guess looks h in omega arith
+
+pub end-far : (g : Gallop) (guess looks : ℕ) → Gallops g guess looks → g.low + 1 ≡ g.high → (k : ℕ)
+    → distance guess g.high < 2 ^ k → looks ≤ 2 * k + 2
+end-far g guess looks h e k less = looks-far g guess looks h k (omega arith)
