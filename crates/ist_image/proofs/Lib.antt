@@ -1,0 +1,6 @@
+pub mod PlacingSizeLemmas
+pub mod PlacingLemmas
+pub mod PlacedLemmas
+pub mod SettingLemmas
+pub mod NewImageLemmas
+pub mod RisingLemmas

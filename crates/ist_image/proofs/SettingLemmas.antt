@@ -1,0 +1,32 @@
+-- Words that are set one behind another. Serves `laying.rt` and `rows.rt`.
+use Rattle.std.proofs.Common.{◌≡◌, ◌∙◌, ◌+◌, ◌-◌, ◌<◌, ℕ, suc, List, [], ◌∷◌, ◌++◌, length, map, sym, ap, arith}
+use Rattle.std.specs.List.{range_with_len}
+use Rattle.std.proofs.Math.ListN.{set}
+use Rattle.std.proofs.lemmas.List.Edits.{sets}
+
+-- some words, and others behind them
+pub sets-append : (words : List ℕ) (at : ℕ) (xs ys : List ℕ)
+    → sets words at (xs ++ ys) ≡ sets (sets words at xs) (at + length xs) ys
+sets-append words at [] ys = ap (λ i. sets words i ys) (let e : at ≡ at + 0 = omega arith in e)
+sets-append words at (x ∷ xs) ys =
+    sets-append (set words at x) (suc at) xs ys
+    ∙ ap (λ i. sets (sets (set words at x) (suc at) xs) i ys)
+    (let e : suc at + length xs ≡ at + length (x ∷ xs) = omega arith in e)
+
+-- of words that are made by an index, the next one is set
+pub set_made : (f : ℕ → ℕ) (words : List ℕ) (at next j d x : ℕ) → j < d → x ≡ f j → at + 1 ≡ next
+    → sets words at (map f (range_with_len j (d - j)))
+    ≡ sets (set words at x) next (map f (range_with_len (j + 1) (d - (j + 1))))
+set_made f words at next j d x h e n =
+    let left : d - j ≡ suc (d - (j + 1)) = omega arith in
+    let more = map f (range_with_len (j + 1) (d - (j + 1))) in
+    ap (λ k. sets words at (map f (range_with_len j k))) left
+    ∙ ap (λ v. sets (set words at v) (suc at) more) (sym e)
+    ∙ ap (λ i. sets (set words at x) i more) (let s : suc at ≡ next = omega arith in s)
+
+-- behind the last one none is set
+pub none_made : (f : ℕ → ℕ) (words : List ℕ) (at j d : ℕ) → j ≡ d
+    → sets words at (map f (range_with_len j (d - j))) ≡ words
+none_made f words at j d e =
+    ap (λ k. sets words at (map f (range_with_len j k)))
+    (let none : d - j ≡ 0 = omega arith in none)

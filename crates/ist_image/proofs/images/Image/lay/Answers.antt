@@ -1,0 +1,13 @@
+use Rattle.std.proofs.Common.{arith, length}
+use Rattle.ist_core.specs.RowLayout.{first_row}
+use Rattle.ist_image.proofs.PlacingSizeLemmas.{few_fit, opens_fit}
+use Rattle.ist_image.proofs.images.Image.lay.Goals as goal
+
+pub needed_words-requires : goal.needed_words-requires
+needed_words-requires c = record {
+  fits = omega (
+    arith,
+    few_fit first_row
+        (length c.args.pairs.now) (opens_fit c.args.pairs.now c.args.words c.requires.opens),
+  );
+}

@@ -1,0 +1,19 @@
+use Rattle.std.proofs.Common.{◌≡◌, ◌+◌, ◌*◌, length}
+use Rattle.std.proofs.lemmas.List.Edits.{sets}
+use Rattle.ist_image.specs.Placing.{part_base, rows_behind, row_words}
+use Rattle.ist_image.proofs.laying.+laying.Given as goal
+
+abbrev pub decreases-put_parts : goal.decreases-put_parts
+decreases-put_parts l = 2 * length l.pairs.now
+
+abbrev pub decreases-put_tree : goal.decreases-put_tree
+decreases-put_tree l = 2 * length l.pairs.now + 1
+
+-- where the tree of the next part begins, and that the parts from it on are what is left to lay
+abbrev pub invariant-put_parts-loop-j : goal.invariant-put_parts-loop-j
+invariant-put_parts-loop-j l = record {
+  place : l.at ≡ part_base l.base (length l.pairs) l.j;
+  left : sets l.words l.at (row_words (rows_behind l.base l.pairs l.j))
+      ≡ sets l.initial.words (part_base l.base (length l.pairs) 0)
+      (row_words (rows_behind l.base l.pairs 0));
+}

@@ -1,0 +1,10 @@
+use Rattle.std.proofs.Common.{◌≡◌, ◌+◌, ◌-◌}
+use Rattle.std.proofs.lemmas.List.Edits.{sets}
+use Rattle.ist_image.specs.Placing.{keys_behind}
+use Rattle.ist_image.proofs.rows.put_keys.Given as goal
+
+-- the first keys from the next part on are what is left to lay
+abbrev pub invariant-loop-j : goal.invariant-loop-j
+invariant-loop-j l =
+    sets l.words (l.place + (l.j - 1)) (keys_behind l.pairs l.j)
+    ≡ sets l.initial.words l.place (keys_behind l.pairs 1)

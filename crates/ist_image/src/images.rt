@@ -1,0 +1,123 @@
+//! The words of a new table, whole.
+ghost use Rattle.std.specs.Prelude.{◌≡◌, ◌+◌, ◌≤◌, ◌<◌, ◌^◌, length, [], IfOk, OnOk};
+ghost use Rattle.ist_core.specs.Shapes.{ideal_words};
+ghost use Rattle.ist_core.specs.RowLayout.{first_row};
+ghost use Rattle.ist_core.specs.StartLayout.{start};
+ghost use Rattle.ist_core.specs.Images.{IsImage};
+ghost use Rattle.ist_core.specs.Lawful.{CanOpen};
+ghost use Rattle.ist_image.specs.Zeros.{ZerosFrom};
+
+use crate::laying::put_tree;
+use crate::rows::word_at;
+use ist_core::Pair;
+use ist_layout::{ANCHOR_SLOT_PLACE, ANCHOR_STATUS_PLACE, CALLERS_PLACE, FIRST_ROW, NEXT_PLACE};
+use ist_math::ideal_words;
+use std::alloc::{AllocError, Global};
+
+/// The status of a node that isn't marked.
+const OPEN_WORD: u64 = 0;
+
+/// How many words the image of a new table with so many pairs uses: the fixed words, and the ideal
+/// tree. A table of fewer words has no room for it.
+pub fn needed_words(pairs: u64) -> u64
+    requires fits { pairs < 2 ^ 32 }
+    ensures value { result ≡ first_row + ideal_words pairs }
+{
+    u64::from(FIRST_ROW) + ideal_words(pairs)
+}
+
+/// The words of a new table of so many words with these pairs, whose keys rise: the ideal tree of the
+/// pairs from the first row on, nobody entered, and zeros behind. Fails for want of memory alone.
+///
+/// Each word that is used is written once, over a vector of zeros.
+pub fn lay_image(alloc: Global, words: u64, pairs: &[Pair]) -> Result<Vec<u64>, AllocError>
+    requires opens { CanOpen pairs.now words }
+    ensures size { IfOk result (λ image. length image.items ≡ words) }
+    ensures image { IfOk result (λ image. IsImage (start pairs.now words) image.items) }
+{
+    let mut image = vec![in alloc; 0; words as usize]?;
+    put_image(image.as_mut_slice(), pairs);
+    Ok(image)
+}
+
+/// The memory of images that are laid one after another, with the last of them.
+///
+/// From the words on that the last one uses, all are 0, so that the next one touches those words and
+/// its own, and no others.
+#[derive(Drop)]
+pub struct Image {
+    words: Vec<u64>,
+    used: usize,
+    ghost within: { used ≤ length words.items },
+    ghost zeros: { ZerosFrom used words.items },
+}
+
+impl Image {
+    /// No words yet.
+    pub fn new(alloc: Global) -> Image
+        ensures empty { result.words.items ≡ [] }
+    {
+        Image {
+            words: Vec::new(alloc),
+            used: 0,
+        }
+    }
+
+    /// Lays the image of a new table of so many words with these pairs, whose keys rise, into this
+    /// memory, as `lay_image` would. Fails for want of memory alone.
+    ///
+    /// It writes the words that the last image used, those that this one uses, and those that there
+    /// are more of. Without memory the words that there are become 0.
+    pub fn lay(&mut self, words: u64, pairs: &[Pair]) -> Result<(), AllocError>
+        requires opens { CanOpen pairs.now words }
+        ensures size { OnOk result (length self.new.words.items ≡ words) }
+        ensures image { OnOk result (IsImage (start pairs.now words) self.new.words.items) }
+    {
+        clear(self.words.as_mut_slice(), self.used);
+        self.used = 0;
+        self.words.resize(words as usize, 0)?;
+        put_image(self.words.as_mut_slice(), pairs);
+        self.used = needed_words(pairs.len() as u64) as usize;
+        Ok(())
+    }
+
+    /// The words of the last image.
+    pub fn words(&self) -> &Vec<u64>
+        ensures value { result.now ≡ self.now.words }
+    {
+        &self.words
+    }
+
+    /// The words of the last image, to keep.
+    pub fn into_words(self) -> Vec<u64>
+        ensures value { result ≡ self.words }
+    {
+        self.words
+    }
+}
+
+/// Makes the first words 0, where all others are.
+fn clear(words: &mut [u64], used: usize)
+    requires within { used ≤ length words.old }
+    requires zeros { ZerosFrom used words.old }
+    ensures zeros { ZerosFrom 0 words.new }
+{
+    for i in 0..used {
+        words[i] = 0;
+    }
+}
+
+/// Lays the image of a new table with these pairs, where all words behind it are 0.
+fn put_image(words: &mut [u64], pairs: &[Pair])
+    requires opens { CanOpen pairs.now (length words.old) }
+    requires zeros { ZerosFrom (first_row + ideal_words (length pairs.now)) words.old }
+    ensures image { IsImage (start pairs.now (length words.old)) words.new }
+{
+    let count = pairs.len() as u64;
+    let first = u64::from(FIRST_ROW);
+    words[NEXT_PLACE as usize] = needed_words(count);
+    words[CALLERS_PLACE as usize] = 0;
+    words[ANCHOR_STATUS_PLACE as usize] = OPEN_WORD;
+    words[ANCHOR_SLOT_PLACE as usize] = word_at(first, count);
+    put_tree(words, first, pairs);
+}

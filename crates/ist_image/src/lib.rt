@@ -1,0 +1,13 @@
+//! The words of a new table: the fixed words, the ideal tree of its pairs row by row, and zeros behind.
+//!
+//! Read `images.rt`, then `laying.rt`. Stands on `ist_core`, `ist_math` and `ist_layout`.
+#![tactic(auto)]
+
+mod images;
+mod laying;
+mod rows;
+
+pub use images::{Image, lay_image, needed_words};
+
+#[cfg(test)]
+mod tests;
