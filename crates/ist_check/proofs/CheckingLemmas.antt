@@ -1,5 +1,27 @@
 -- The events that were checked so far, and those that are left. Serves `checking.rt`.
-use Rattle.std.proofs.Common.{◌≡◌, ◌∙◌, ◌+◌, ◌<◌, ℕ, suc, List, [], ◌∷◌, ◌++◌, length, get_or, take, drop, reverse, Result, Err, sym, ap, arith, drop-cons}
+use Rattle.std.proofs.Common.{
+  ◌≡◌,
+  ◌∙◌,
+  ◌+◌,
+  ◌<◌,
+  ℕ,
+  suc,
+  List,
+  [],
+  ◌∷◌,
+  ◌++◌,
+  length,
+  get_or,
+  take,
+  drop,
+  reverse,
+  Result,
+  Err,
+  sym,
+  ap,
+  arith,
+  drop-cons,
+}
 use Rattle.std.proofs.lemmas.List.{take_more, take-append-drop, reverse-append, length-take-le}
 use Rattle.std.specs.BTreeMap.{BTreeMap}
 use Rattle.ist_core.specs.declared.pairs.Pair.{Pair}
@@ -7,15 +29,16 @@ use Rattle.ist_core.specs.declared.events.Event.{Event}
 use Rattle.ist_core.specs.StartLayout.{start}
 use Rattle.ist_core.specs.Enabled.{Enabled}
 use Rattle.ist_core.specs.Lawful.{Lawful, state_of}
-use Rattle.ist_enabled.specs.declared.replicas.Replica.{Replica}
-use Rattle.ist_enabled.specs.Mirroring.{Mirrors}
-use Rattle.ist_enabled.specs.Remembering.{KnowsSlots}
+use Rattle.ist_check_events.specs.declared.replicas.Replica.{Replica}
+use Rattle.ist_check_events.specs.Mirroring.{Mirrors}
+use Rattle.ist_check_events.specs.Remembering.{KnowsSlots, KnowsWays}
 use Rattle.ist_core.specs.declared.states.State.{State}
 use Rattle.ist_check.specs.declared.faults.CheckFault.{CheckFault}
 use Rattle.ist_check.specs.declared.faults.CheckFault.TheVariants.{Unlawful}
 use Rattle.ist_core.specs.Logs.{Log}
-use Rattle.ist_enabled.specs.declared.pasts.Past.{Past}
-use Rattle.ist_enabled.specs.declared.pasts.Slot.{Slot}
+use Rattle.ist_check_events.specs.declared.pasts.Past.{Past}
+use Rattle.ist_check_events.specs.declared.pasts.Slot.{Slot}
+use Rattle.ist_check_events.specs.declared.pasts.Way.{Way}
 use Rattle.ist_check.specs.Knowing.{Knows, Remembers}
 use Rattle.ist_check.specs.Verdicts.{IsFirstUnlawful}
 
@@ -27,7 +50,8 @@ IsFault at answer = Err (Unlawful at) ≡ answer
 pub at_number : (at other : ℕ) → IsFault at (Err (Unlawful other)) → at ≡ other
 at_number at other e = cc
 
-module _ (events : List Event) (at : ℕ) (event : Event) (below : at < length events) (is : event ≡ get_or events at event) where
+module _ (events : List Event) (at : ℕ) (event : Event) (below : at < length events)
+    (is : event ≡ get_or events at event) where
   -- the log behind the event is the one before it with the event
   pub reverse_more : reverse (take (at + 1) events) ≡ event ∷ reverse (take at events)
   reverse_more =
@@ -35,7 +59,8 @@ module _ (events : List Event) (at : ℕ) (event : Event) (below : at < length e
       ∙ reverse-append (take at events) (event ∷ [])
 
   -- an event that may not come behind a lawful log of those before it is the first such
-  pub first_unlawful : (pairs : List Pair) (words : ℕ) → Lawful pairs words (reverse (take at events))
+  pub first_unlawful : (pairs : List Pair) (words : ℕ) → Lawful pairs words
+      (reverse (take at events))
       → ¬ (Enabled (start pairs words) (reverse (take at events)) event)
       → IsFirstUnlawful pairs words events at
   first_unlawful pairs words lawful refused =
@@ -50,12 +75,13 @@ module _ (events : List Event) (at : ℕ) (event : Event) (below : at < length e
       }
     where
       rest : drop at events ≡ event ∷ drop (at + 1) events
-      rest = drop-cons events at event below ∙ ap (λ e. e ∷ drop (suc at) events) (sym is) ∙ (let next : suc at ≡ at + 1 = omega arith in ap (λ n. event ∷ drop n events) next)
+      rest = drop-cons events at event below ∙ ap (λ e. e ∷ drop (suc at) events) (sym is)
+          ∙ (let next : suc at ≡ at + 1 = omega arith in ap (λ n. event ∷ drop n events) next)
 
--- what the other tables hold doesn't depend on that of the slots
-slots_apart : (past : Past) (slots : BTreeMap ℕ Slot) (pairs : List Pair) (words : ℕ) (log : Log)
-    → Remembers past pairs words log → Remembers (record past { slots = slots }) pairs words log
-slots_apart past slots pairs words log it =
+-- what the other tables hold doesn't depend on those of the slots and the ways
+slots_apart : (past : Past) (slots : BTreeMap ℕ Slot) (ways : BTreeMap ℕ Way) (pairs : List Pair) (words : ℕ) (log : Log)
+    → Remembers past pairs words log → Remembers (record past { slots = slots; ways = ways }) pairs words log
+slots_apart past slots ways pairs words log it =
     record {
       okayed = it.okayed;
       called = it.called;
@@ -67,22 +93,27 @@ slots_apart past slots pairs words log it =
       builds = it.builds;
     }
 
-module _ (replica : Replica) (past : Past) (pairs : List Pair) (words : ℕ) (log : Log) (event : Event)
+module _ (replica : Replica) (past : Past) (pairs : List Pair) (words : ℕ) (log : Log)
+    (event : Event)
     (knows : Knows replica past pairs words log) (may : Enabled (start pairs words) log event) where
   -- an event that may come makes the log longer
   pub lawful_more : Lawful pairs words (event ∷ log)
   lawful_more = record { opens = knows.lawful.opens; enabled = (knows.lawful.enabled, may) }
 
-  -- and it is known what is behind it, where the replica, the slots and the other tables are brought forward
+  -- and it is known what is behind it, where the replica, the slots and the other tables are
+  -- brought forward
   pub known_more : (behind : Replica) (after_it : Past) (slots : BTreeMap ℕ Slot)
+      (ways : BTreeMap ℕ Way)
       → Mirrors behind (state_of pairs words (event ∷ log))
       → KnowsSlots slots (start pairs words) (event ∷ log)
+      → KnowsWays ways (start pairs words) (event ∷ log)
       → Remembers after_it pairs words (event ∷ log)
-      → Knows behind (record after_it { slots = slots }) pairs words (event ∷ log)
-  known_more behind after_it slots mirrors of_slots others =
+      → Knows behind (record after_it { slots = slots; ways = ways }) pairs words (event ∷ log)
+  known_more behind after_it slots ways mirrors of_slots of_ways others =
       record {
         lawful = lawful_more;
         mirrors = mirrors;
         slots = of_slots;
-        remembers = slots_apart after_it slots pairs words (event ∷ log) others;
+        ways = of_ways;
+        remembers = slots_apart after_it slots ways pairs words (event ∷ log) others;
       }

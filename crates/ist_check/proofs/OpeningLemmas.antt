@@ -1,5 +1,23 @@
 -- The tables of a new table: nothing happened yet. Serves `remembering.rt`.
-use Rattle.std.proofs.Common.{◌≡◌, ◌≤◌, ◌∙◌, IsTrue, ℕ, false, List, [], ◌∷◌, ◌++◌, drop, Some, None, sym, ap, subst, arith}
+use Rattle.std.proofs.Common.{
+  ◌≡◌,
+  ◌≤◌,
+  ◌∙◌,
+  IsTrue,
+  ℕ,
+  false,
+  List,
+  [],
+  ◌∷◌,
+  ◌++◌,
+  drop,
+  Some,
+  None,
+  sym,
+  ap,
+  subst,
+  arith,
+}
 use Rattle.std.specs.Ordering.{nat_cmp}
 use Rattle.std.specs.BTreeMap as tree
 use Rattle.std.specs.BTreeMap.{BTreeMap, is_at}
@@ -13,37 +31,55 @@ use Rattle.ist_core.specs.Pieces.{Change}
 use Rattle.ist_core.specs.StartLayout.{start}
 use Rattle.ist_core.specs.Marking.{IsCalled, as_target, as_child, behind_rebuild}
 use Rattle.ist_core.specs.Rebuilding.{IsStarted}
-use Rattle.ist_enabled.specs.declared.pasts.LastUpdate.{LastUpdate}
-use Rattle.ist_enabled.specs.Answers.{Holds, FindsGreatest}
-use Rattle.ist_enabled.specs.Remembering.{LacksCount, KnowsOkays, KnowsCalls, KnowsDraws, KnowsPasses, KnowsUpdates, KnowsRefusals, KnowsStarts, seen_builds}
-use Rattle.ist_replay.specs.Remembered.{TellsBuilds}
+use Rattle.ist_check_events.specs.declared.pasts.LastUpdate.{LastUpdate}
+use Rattle.ist_check_events.specs.Answers.{Holds, FindsGreatest}
+use Rattle.ist_check_events.specs.Remembering.{
+  LacksCount,
+  KnowsOkays,
+  KnowsCalls,
+  KnowsDraws,
+  KnowsPasses,
+  KnowsUpdates,
+  KnowsRefusals,
+  KnowsStarts,
+  seen_builds,
+}
+use Rattle.ist_check_state.specs.Remembered.{TellsBuilds}
+use Rattle.ist_check_state.proofs.TableLemmas.{holds_none}
 use Rattle.ist_links.proofs.QuietLemmas.{start_quiet}
 
--- an empty set holds nothing
-holds_none : (set : BTreeSet ℕ) (x : ℕ) → set.keys ≡ [] → ¬ (Holds set x)
-holds_none set x empty h = clash (subst (λ keys. IsTrue (list_any (is_at (nat_cmp x)) keys)) empty h)
-  where
-    clash : IsTrue false → ⊥
-    clash e = cc
-
 -- an empty map has nothing
-pub finds_none : {X : Type 0} (m : BTreeMap ℕ X) (x : ℕ) → m.entries ≡ [] → tree.get nat_cmp m x ≡ None
+pub finds_none : {X : Type 0} (m : BTreeMap ℕ X) (x : ℕ) → m.entries ≡ [] → tree.get nat_cmp m x
+    ≡ None
 finds_none m x empty = ap (lookup (is_at (nat_cmp x))) empty
 
 pub no_okays : (set : BTreeSet ℕ) → set.keys ≡ [] → KnowsOkays set []
 no_okays set empty change = (λ h. holds_none set change empty h, λ h. absurd h)
 
 pub no_draws : (m : BTreeMap ℕ ℕ) → m.entries ≡ [] → KnowsDraws m []
-no_draws m empty caller rebuild _ _ = subst (FindsGreatest (λ part. ⊥)) (sym (finds_none m _ empty)) (λ x h. h)
+no_draws m empty caller rebuild _ _ = subst (FindsGreatest (λ part. ⊥)) (sym (finds_none m _ empty))
+    (λ x h. h)
 
 pub no_passes : (m : BTreeMap ℕ ℕ) → m.entries ≡ [] → KnowsPasses m []
-no_passes m empty node i word _ _ = (λ h. absurd (clash (sym (finds_none m _ empty) ∙ h)), λ h. absurd h)
+no_passes m empty node i word _ _ = (
+  λ h. absurd (clash (sym (finds_none m _ empty) ∙ h)),
+  λ h.
+      absurd h,
+)
   where
     clash : None ≡ Some word → ⊥
     clash e = cc
 
 pub no_builds : (since : BTreeMap ℕ ℕ) → since.entries ≡ [] → TellsBuilds since [] []
-no_builds since empty = (λ caller sizes. (λ h. absurd (subst (λ o. Among sizes (drop (seen_builds o) [])) (finds_none since caller empty) h), λ h. absurd h), λ caller. subst (λ o. seen_builds o ≤ 0) (sym (finds_none since caller empty)) nothing)
+no_builds since empty = (
+  λ caller sizes. (
+    λ h. absurd (subst (λ o. Among sizes (drop (seen_builds o) [])) (finds_none since caller empty)
+        h),
+    λ h. absurd h,
+  ),
+  λ caller. subst (λ o. seen_builds o ≤ 0)
+      (sym (finds_none since caller empty)) nothing,
+)
   where
     nothing : 0 ≤ 0
     nothing = omega arith
@@ -53,10 +89,18 @@ module _ (pairs : List Pair) (words : ℕ) where
   unstarted rebuild it = start_quiet pairs words it.base (Change it.change) it.published
 
   pub no_starts : (set : BTreeSet ℕ) → set.keys ≡ [] → KnowsStarts set (start pairs words)
-  no_starts set empty rebuild = (λ h. absurd (holds_none set rebuild empty h), λ h. absurd (unstarted rebuild h))
+  no_starts set empty rebuild = (
+    λ h. absurd (holds_none set rebuild empty h),
+    λ h. absurd
+        (unstarted rebuild h),
+  )
 
   pub no_refusals : (set : BTreeSet ℕ) → set.keys ≡ [] → KnowsRefusals set (start pairs words)
-  no_refusals set empty caller node _ _ = (λ h. absurd (holds_none set _ empty h), λ it. absurd (start_quiet pairs words it.base (Change it.change) it.published))
+  no_refusals set empty caller node _ _ = (
+    λ h. absurd (holds_none set _ empty h),
+    λ it. absurd
+        (start_quiet pairs words it.base (Change it.change) it.published),
+  )
 
   pub no_calls : (set : BTreeSet ℕ) → set.keys ≡ [] → KnowsCalls set (start pairs words) []
   no_calls set empty node = (λ h. absurd (holds_none set node empty h), λ h. absurd (uncalled h))
@@ -66,8 +110,13 @@ module _ (pairs : List Pair) (words : ℕ) where
       uncalled (as_child _ _ _ h _) = h
       uncalled (behind_rebuild _ _ _ _ h _ _) = h
 
-  pub no_updates : (m : BTreeMap ℕ LastUpdate) → m.entries ≡ [] → KnowsUpdates m (start pairs words) []
-  no_updates m empty caller node base = (λ h. absurd (subst (λ o. LacksCount o node base) (finds_none m caller empty) h), λ it. absurd (longer it.later _ it.earlier it.log_is))
+  pub no_updates : (m : BTreeMap ℕ LastUpdate) → m.entries ≡ [] → KnowsUpdates m (start pairs words)
+      []
+  no_updates m empty caller node base = (
+    λ h. absurd (subst (λ o. LacksCount o node base) (finds_none m caller empty) h),
+    λ it. absurd
+        (longer it.later _ it.earlier it.log_is),
+  )
     where
       longer : (a : List Event) (e : Event) (b : List Event) → [] ≡ a ++ e ∷ b → ⊥
       longer [] e b is = cc

@@ -1,5 +1,21 @@
 -- The numbers behind an event that may come fit into words. Serves `checking.rt`.
-use Rattle.std.proofs.Common.{◌≡◌, ◌∙◌, ◌+◌, ◌<◌, ◌^◌, ℕ, List, ◌∷◌, Some, length, refl, ap, subst, arith, option_map}
+use Rattle.std.proofs.Common.{
+  ◌≡◌,
+  ◌∙◌,
+  ◌+◌,
+  ◌<◌,
+  ◌^◌,
+  ℕ,
+  List,
+  ◌∷◌,
+  Some,
+  length,
+  refl,
+  ap,
+  subst,
+  arith,
+  option_map,
+}
 use Rattle.std.specs.Ordering.{nat_cmp}
 use Rattle.std.specs.BTreeMap as tree
 use Rattle.ist_core.specs.declared.pairs.Pair.{Pair}
@@ -7,7 +23,14 @@ use Rattle.ist_core.specs.declared.states.InnerRow.{InnerRow}
 use Rattle.ist_core.specs.declared.states.RebuildRow.{RebuildRow}
 use Rattle.ist_core.specs.declared.lists.Row.{Row}
 use Rattle.ist_core.specs.declared.events.Event.{Event}
-use Rattle.ist_core.specs.declared.events.Event.TheVariants.{Enter, Reserve, Install, Count, Finish, Draw}
+use Rattle.ist_core.specs.declared.events.Event.TheVariants.{
+  Enter,
+  Reserve,
+  Install,
+  Count,
+  Finish,
+  Draw,
+}
 use Rattle.ist_core.specs.Elements.{Each}
 use Rattle.ist_core.specs.Pieces.{with_status, row_at, Change}
 use Rattle.ist_core.specs.Snapshots.{HoldsRow}
@@ -21,22 +44,27 @@ use Rattle.ist_core.proofs.RowLemmas.{changed_at-same}
 use Rattle.ist_core.proofs.YesLemmas.{count_low}
 use Rattle.ist_rebuilds.proofs.FinishedLeafLemmas.{finished_few}
 use Rattle.ist_rebuilds.proofs.LowLemmas.{draw_low}
-use Rattle.ist_enabled.specs.declared.replicas.Replica.{Replica}
-use Rattle.ist_enabled.specs.Mirroring.{Mirrors}
-use Rattle.ist_enabled.proofs.MirrorLemmas.{inner_stands, rebuild_stands}
-use Rattle.ist_replay.specs.Room.{HasRoom}
+use Rattle.ist_check_events.specs.declared.replicas.Replica.{Replica}
+use Rattle.ist_check_events.specs.Mirroring.{Mirrors}
+use Rattle.ist_check_events.proofs.MirrorLemmas.{inner_stands, rebuild_stands}
+use Rattle.ist_check_state.specs.Room.{HasRoom}
 
-module _ (pairs : List Pair) (words : ℕ) (log : Log) (replica : Replica) (mirrors : Mirrors replica (state_of pairs words log)) where
+module _ (pairs : List Pair) (words : ℕ) (log : Log) (replica : Replica)
+    (mirrors : Mirrors replica (state_of pairs words log)) where
   -- the row of an installed change lies within the table
-  install_low : (caller base : ℕ) (rows : List Row) → Lawful pairs words (Install caller base rows ∷ log) → base < 2 ^ 28
+  install_low : (caller base : ℕ) (rows : List Row) → Lawful pairs words
+      (Install caller base rows ∷ log) → base < 2 ^ 28
   install_low caller base rows lawful =
       let can : CanInstall (start pairs words) log caller base rows = lawful.enabled.1 in
-      let held : Each (λ row. HoldsRow (state_of pairs words log) caller row.base (length row.words)) (row_at base (Change can.change) ∷ can.fresh) =
-      subst (Each (λ row. HoldsRow (state_of pairs words log) caller row.base (length row.words))) can.rows_are can.held in
+      let held : Each (λ row. HoldsRow (state_of pairs words log) caller row.base
+      (length row.words)) (row_at base (Change can.change) ∷ can.fresh) =
+      subst (Each (λ row. HoldsRow (state_of pairs words log) caller row.base (length row.words)))
+      can.rows_are can.held in
       (held_good pairs words lawful.opens log caller base _ lawful.enabled.0 held.0).below_limit
 
   -- what a caller reserves lies within the table
-  reserve_low : (caller base size : ℕ) → Lawful pairs words (Reserve caller base size ∷ log) → base + size < 2 ^ 64
+  reserve_low : (caller base size : ℕ) → Lawful pairs words (Reserve caller base size ∷ log)
+      → base + size < 2 ^ 64
   reserve_low caller base size lawful =
       let can = lawful.enabled.1 in
       let same = words_same pairs words lawful.opens log in
@@ -55,24 +83,34 @@ module _ (pairs : List Pair) (words : ℕ) (log : Log) (replica : Replica) (mirr
       omega arith
 
   -- a finished row has no more keys than the table has places
-  finish_low : (caller node keys : ℕ) → Lawful pairs words (Finish caller node keys ∷ log) → keys < 2 ^ 61
+  finish_low : (caller node keys : ℕ) → Lawful pairs words (Finish caller node keys ∷ log)
+      → keys < 2 ^ 61
   finish_low caller node keys lawful =
       let can = lawful.enabled.1 in
-      let is = changed_at-same (state_of pairs words log).pieces node (with_status (finished_word keys)) ∙ ap (option_map (with_status (finished_word keys))) can.published in
-      let few = finished_few pairs words lawful.opens (Finish caller node keys ∷ log) lawful.enabled node keys
-      record { row = record (can.row) { status = finished_word keys }; published = is; status = refl } in
+      let is = changed_at-same (state_of pairs words log).pieces node
+      (with_status (finished_word keys)) ∙ ap (option_map (with_status (finished_word keys)))
+      can.published in
+      let few = finished_few pairs words lawful.opens (Finish caller node keys ∷ log) lawful.enabled
+      node keys
+      record {
+        row = record (can.row) { status = finished_word keys };
+        published = is;
+        status = refl;
+      } in
       omega arith
 
   count_room : (caller node : ℕ) → Lawful pairs words (Count caller node ∷ log)
       → (r : InnerRow) → tree.get nat_cmp replica.inners node ≡ Some r → r.count < 2 ^ 63
   count_room caller node lawful r found =
-      let low = count_low pairs words lawful.opens log lawful.enabled.0 node r (inner_stands replica (state_of pairs words log) node mirrors r found) in
+      let low = count_low pairs words lawful.opens log lawful.enabled.0 node r
+      (inner_stands replica (state_of pairs words log) node mirrors r found) in
       omega arith
 
   draw_room : (caller rebuild part : ℕ) → Lawful pairs words (Draw caller rebuild part ∷ log)
       → (r : RebuildRow) → tree.get nat_cmp replica.rebuilds rebuild ≡ Some r → r.draw < 2 ^ 63
   draw_room caller rebuild part lawful r found =
-      let low = draw_low pairs words lawful.opens log lawful.enabled.0 rebuild r (rebuild_stands replica (state_of pairs words log) rebuild mirrors r found) in
+      let low = draw_low pairs words lawful.opens log lawful.enabled.0 rebuild r
+      (rebuild_stands replica (state_of pairs words log) rebuild mirrors r found) in
       omega arith
 
   -- the numbers behind the event fit into words

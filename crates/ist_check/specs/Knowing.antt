@@ -6,13 +6,13 @@ use Rattle.ist_core.specs.declared.events.Event.TheVariants.{Root, Place}
 use Rattle.ist_core.specs.StartLayout.{start}
 use Rattle.ist_core.specs.Logs.{Log}
 use Rattle.ist_core.specs.Lawful.{Lawful, state_of}
-use Rattle.ist_enabled.specs.declared.pasts.Past.{Past}
-use Rattle.ist_enabled.specs.declared.replicas.Replica.{Replica}
-use Rattle.ist_enabled.specs.Mirroring.{Mirrors}
-use Rattle.ist_enabled.specs.Remembering.{KnowsOkays, KnowsCalls, KnowsDraws, KnowsPasses, KnowsUpdates, KnowsSlots, KnowsRefusals, KnowsStarts}
-use Rattle.ist_replay.specs.Remembered.{TellsBuilds}
+use Rattle.ist_check_events.specs.declared.pasts.Past.{Past}
+use Rattle.ist_check_events.specs.declared.replicas.Replica.{Replica}
+use Rattle.ist_check_events.specs.Mirroring.{Mirrors}
+use Rattle.ist_check_events.specs.Remembering.{KnowsOkays, KnowsCalls, KnowsDraws, KnowsPasses, KnowsUpdates, KnowsSlots, KnowsWays, KnowsRefusals, KnowsStarts}
+use Rattle.ist_check_state.specs.Remembered.{TellsBuilds}
 
--- each table but that of the slots holds what it should of the log
+-- each table but those of the slots and the ways holds what it should of the log
 pub record Remembers (past : Past) (pairs : List Pair) (words : ℕ) (log : Log) : Type 0 where
   pub okayed : KnowsOkays past.okayed log
   pub called : KnowsCalls past.called (state_of pairs words log) log
@@ -28,10 +28,11 @@ pub record Knows (replica : Replica) (past : Past) (pairs : List Pair) (words : 
   pub lawful : Lawful pairs words log
   pub mirrors : Mirrors replica (state_of pairs words log)
   pub slots : KnowsSlots past.slots (start pairs words) log
+  pub ways : KnowsWays past.ways (start pairs words) log
   pub remembers : Remembers past pairs words log
 
 -- the event puts in what a caller has built
-abbrev pub IsBuild : Event → Type 0
-IsBuild (Root caller rebuild word rows) = Unit {0}
-IsBuild (Place caller rebuild i word rows) = Unit {0}
-IsBuild _ = ⊥
+abbrev pub IsOfBuild : Event → Type 0
+IsOfBuild (Root caller rebuild word rows) = Unit {0}
+IsOfBuild (Place caller rebuild i word rows) = Unit {0}
+IsOfBuild _ = ⊥

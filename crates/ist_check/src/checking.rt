@@ -9,8 +9,8 @@ use crate::coming::may_come;
 use crate::faults::CheckFault;
 use crate::remembering::{open_past, remember};
 use crate::stating::state_of;
+use ist_check_state::{advance, open_replica, remember_links, remember_ways};
 use ist_core::{Event, Pair, State};
-use ist_replay::{advance, open_replica, remember_links};
 use std::alloc::Global;
 
 /// The state behind a lawful log, which is given as a list of events, the oldest first, over a table
@@ -34,7 +34,8 @@ pub fn check(alloc: Global, start: &[Pair], words: u32, log: &[Event]) -> Result
         }
         remember(alloc, &replica, &mut past, event)?;
         advance(alloc, &mut replica, event)?;
-        remember_links(&replica, &mut past.slots, event)?;
+        remember_links(alloc, &replica, &mut past.slots, event)?;
+        remember_ways(alloc, &replica, &past.slots, &mut past.ways, event)?;
     }
     Ok(state_of(alloc, replica)?)
 }

@@ -4,14 +4,14 @@ ghost use Rattle.ist_core.specs.declared.pairs.Pair.{Pair as APair};
 ghost use Rattle.ist_core.specs.StartLayout.{start};
 ghost use Rattle.ist_core.specs.Logs.{Log};
 ghost use Rattle.ist_core.specs.Enabled.{Enabled};
-ghost use Rattle.ist_check.specs.Knowing.{Knows, IsBuild};
+ghost use Rattle.ist_check.specs.Knowing.{Knows, IsOfBuild};
 
-use ist_core::Event;
-use ist_enabled::{
+use ist_check_builds::{can_place, can_root};
+use ist_check_events::{
     Past, Replica, can_count, can_decide, can_draw, can_enter, can_finish, can_install, can_lose,
     can_mark, can_okay, can_pass, can_reserve, can_resolve,
 };
-use ist_ideal::{can_place, can_root};
+use ist_core::Event;
 use std::alloc::{AllocError, Global};
 
 /// May the event come next?
@@ -72,7 +72,7 @@ fn may_build(
     event: &Event,
 ) -> Result<bool, AllocError>
     ensures exact { IfOk result (λ may. (pairs : List APair) → (words : ℕ) → (log : Log)
-        → Knows replica.now past.now pairs words log → IsBuild event.now
+        → Knows replica.now past.now pairs words log → IsOfBuild event.now
         → (IsTrue may ↔ Enabled (start pairs words) log event.now)) }
 {
     match event {

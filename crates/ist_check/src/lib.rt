@@ -1,7 +1,7 @@
 //! Whether a list of events is a lawful log, and the state behind it.
 //!
-//! Read `specs/Lib.antt`, then `faults.rt` and `checking.rt`. Stands on `ist_core`, `ist_enabled`,
-//! `ist_ideal`, `ist_replay` and `ist_rebuilds`.
+//! Read `specs/Lib.antt`, then `faults.rt` and `checking.rt`. Stands on `ist_core`, `ist_check_events`,
+//! `ist_check_builds`, `ist_check_state` and `ist_rebuilds`.
 #![tactic(auto)]
 
 mod checking;

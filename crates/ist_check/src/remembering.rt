@@ -4,16 +4,16 @@ ghost use Rattle.ist_core.specs.declared.pairs.Pair.{Pair as APair};
 ghost use Rattle.ist_core.specs.StartLayout.{start};
 ghost use Rattle.ist_core.specs.Logs.{Log};
 ghost use Rattle.ist_core.specs.Lawful.{Lawful, CanOpen, state_of as behind};
-ghost use Rattle.ist_enabled.specs.Mirroring.{Mirrors};
-ghost use Rattle.ist_enabled.specs.Remembering.{KnowsSlots};
+ghost use Rattle.ist_check_events.specs.Mirroring.{Mirrors};
+ghost use Rattle.ist_check_events.specs.Remembering.{KnowsSlots, KnowsWays};
 ghost use Rattle.ist_check.specs.Knowing.{Remembers};
 
-use ist_core::Event;
-use ist_enabled::{Past, Replica};
-use ist_replay::{
+use ist_check_events::{Past, Replica};
+use ist_check_state::{
     remember_build, remember_call, remember_draw, remember_okay, remember_pass, remember_refusal,
-    remember_start, remember_update, slots_of_start,
+    remember_start, remember_update, slots_of_start, ways_of_start,
 };
+use ist_core::Event;
 use std::alloc::{AllocError, Global};
 use std::collections::{BTreeMap, BTreeSet};
 
@@ -23,9 +23,12 @@ pub(crate) fn open_past(alloc: Global, replica: &Replica) -> Result<Past, AllocE
         → Mirrors replica.now (start pairs words) → Remembers past pairs words []) }
     ensures slots { IfOk result (λ past. (pairs : List APair) → (words : ℕ) → CanOpen pairs words
         → Mirrors replica.now (start pairs words) → KnowsSlots past.slots (start pairs words) []) }
+    ensures ways { IfOk result (λ past. (pairs : List APair) → (words : ℕ) → CanOpen pairs words
+        → Mirrors replica.now (start pairs words) → KnowsWays past.ways (start pairs words) []) }
     ensures few { IfOk result (λ past. past.builds.items ≡ []) }
 {
     let slots = slots_of_start(alloc, replica)?;
+    let ways = ways_of_start(alloc, replica, &slots)?;
     Ok(Past {
         okayed: BTreeSet::new(alloc),
         called: BTreeSet::new(alloc),
@@ -33,6 +36,7 @@ pub(crate) fn open_past(alloc: Global, replica: &Replica) -> Result<Past, AllocE
         passed: BTreeMap::new(alloc),
         updates: BTreeMap::new(alloc),
         slots,
+        ways,
         refused: BTreeSet::new(alloc),
         started: BTreeSet::new(alloc),
         builds: Vec::new(alloc),
@@ -40,7 +44,7 @@ pub(crate) fn open_past(alloc: Global, replica: &Replica) -> Result<Past, AllocE
     })
 }
 
-/// Brings each table but that of the slots forward by the event. The replica is that of the state
+/// Brings each table but those of the slots and the ways forward by the event. The replica is that of the state
 /// before.
 pub(crate) fn remember(
     alloc: Global,
@@ -55,6 +59,7 @@ pub(crate) fn remember(
         → Remembers past.old pairs words log
         → Remembers past.new pairs words (event.now ∷ log)) }
     ensures slots { OnOk result (past.new.slots ≡ past.old.slots) }
+    ensures ways { OnOk result (past.new.ways ≡ past.old.ways) }
     ensures few { OnOk result (length past.new.builds.items ≤ length past.old.builds.items + 1) }
 {
     remember_okay(&mut past.okayed, event)?;

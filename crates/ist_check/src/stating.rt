@@ -2,10 +2,10 @@
 ghost use Rattle.std.specs.Prelude.{◌≡◌, IfOk, map as each_of};
 ghost use Rattle.std.specs.List.Sorted.{IsStrictlyIncreasing};
 ghost use Rattle.ist_core.specs.Snapshots.{Snapshot, Shows};
-ghost use Rattle.ist_enabled.specs.Mirroring.{Mirrors};
+ghost use Rattle.ist_check_events.specs.Mirroring.{Mirrors};
 
+use ist_check_events::Replica;
 use ist_core::{Changes, HeldRows, Inners, Leaves, Rebuilds, State};
-use ist_enabled::Replica;
 use std::alloc::{AllocError, Global};
 use std::collections::BTreeMap;
 

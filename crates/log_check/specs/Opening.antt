@@ -11,4 +11,4 @@ LogOpens log = CanOpen log.pairs.items log.words
 -- so may that of the log, if the text is one
 abbrev pub Opens : Reading → Type 0
 Opens (Whole log) = LogOpens log
-Opens (OutOfForm line) = Unit {0}
+Opens (OutOfForm line fault) = Unit {0}

@@ -1,18 +1,19 @@
 //! A log in its text form: the table at its start, and then one event a line.
-ghost use Rattle.std.specs.Prelude.{◌↔◌, ◌≤◌, IsTrue, IfOk, IfSome, map};
+ghost use Rattle.std.specs.Prelude.{◌↔◌, ◌≤◌, IsTrue, IfOk, map};
 ghost use Rattle.std.specs.List.Sorted.{IsStrictlyIncreasing};
 ghost use Rattle.ist_core.specs.RowLayout.{place_limit};
 ghost use Rattle.ist_core.specs.Lawful.{CanOpen};
 ghost use Rattle.log_check.specs.Opening.{LogOpens, Opens};
 
 use crate::events::read_event;
+use crate::faults::{Fault, fault_of};
 use crate::fields::{Fields, parts_of};
 use ist_core::{Event, Pair};
 use ist_layout::{FIRST_ROW, PLACE_LIMIT};
 use ist_math::ideal_words;
 use std::alloc::{AllocError, Global};
 
-/// The line that may stand second: the numbers of the definitions.
+/// A line that may stand before the events: the numbers of the definitions.
 const NUMBERS: &[u8] = b"const SHARE_FROM=256 LIMIT_MIN=8 LIMIT_DIV=4";
 
 /// More pairs than a table has room for.
@@ -24,65 +25,104 @@ pub struct Log {
     pub pairs: Vec<Pair>,
     pub words: u32,
     pub events: Vec<Event>,
+    /// The number of each event's line, counted from 1.
+    pub lines: Vec<u64>,
 }
 
 /// What a text is.
 #[derive(Drop)]
 pub enum Reading {
     Whole(Log),
-    /// The first line that is out of form, counted from 1.
-    OutOfForm { line: u64 },
+    /// The first line that is out of form, counted from 1, and what is wrong with it.
+    OutOfForm { line: u64, fault: Fault },
 }
 
-/// The log of the text. Its first line is the table at its start.
+/// What a line says: without the carriage return at its end, and nothing where it is blank or a
+/// comment.
+fn said(line: &[u8]) -> Option<&[u8]> {
+    let line = line.strip_suffix(b"\r").unwrap_or(line);
+    if line.starts_with(b"#") || line.iter().all(|byte| *byte == b' ' || *byte == b'\t') {
+        return None;
+    }
+    Some(line)
+}
+
+/// The first line of the text that says something, with its number, counted from 0.
+fn first_said(text: &[u8]) -> Option<(usize, &[u8])> {
+    for (at, bytes) in text.split(|byte| *byte == b'\n').enumerate() {
+        if let Some(line) = said(bytes) {
+            return Some((at, line));
+        }
+    }
+    None
+}
+
+/// The log of the text. Its first line that says something is the table at its start.
 pub fn read_log(alloc: Global, text: &[u8]) -> Result<Reading, AllocError>
     ensures opens { IfOk result Opens }
 {
-    let text = text.strip_suffix(b"\n").unwrap_or(text);
-    let mut lines = text.split(|byte| *byte == b'\n');
-    let first = lines.next().unwrap_or(b"");
-    let mut log = match read_start(alloc, first)? {
-        None => return Ok(Reading::OutOfForm { line: 1 }),
-        Some(log) => log,
+    let (start, first) = match first_said(text) {
+        None => return Ok(bad_line(0, Fault::NoStart)),
+        Some(found) => found,
     };
-    for (at, line) in lines.enumerate() {
-        if at == 0 && line == NUMBERS {
+    let mut log = match read_start(alloc, first)? {
+        Err(fault) => return Ok(bad_line(start, fault)),
+        Ok(log) => log,
+    };
+    for (at, bytes) in text.split(|byte| *byte == b'\n').enumerate() {
+        if at <= start {
             continue;
         }
-        match read_event(alloc, line)? {
-            None => {
-                let line = (at as u64).saturating_add(2);
-                return Ok(Reading::OutOfForm { line });
+        if let Some(line) = said(bytes) {
+            if log.events.is_empty() && line == NUMBERS {
+                continue;
             }
-            Some(event) => log.events.push(event)?,
+            match read_event(alloc, line)? {
+                None => return Ok(bad_line(at, fault_of(line))),
+                Some(event) => {
+                    log.events.push(event)?;
+                    log.lines.push((at as u64).saturating_add(1))?;
+                }
+            }
         }
     }
     Ok(Reading::Whole(log))
 }
 
+/// The line, counted from 0, is out of form.
+fn bad_line(at: usize, fault: Fault) -> Reading
+    ensures opens { Opens result }
+{
+    Reading::OutOfForm {
+        line: (at as u64).saturating_add(1),
+        fault,
+    }
+}
+
 /// The table of the first line, if it may be opened: its words, and then its pairs.
-fn read_start(alloc: Global, line: &[u8]) -> Result<Option<Log>, AllocError>
-    ensures opens { IfOk result (λ log. IfSome log LogOpens) }
+fn read_start(alloc: Global, line: &[u8]) -> Result<Result<Log, Fault>, AllocError>
+    ensures opens { IfOk result (λ log. IfOk log LogOpens) }
 {
     let mut rest = parts_of(line, b' ');
     if rest.take() != Some(b"start") {
-        return Ok(None);
+        return Ok(Err(Fault::NoStart));
     }
     let words = match rest.number() {
         Some(words) if words <= PLACE_LIMIT => words as u32,
-        _ => return Ok(None),
+        _ => return Ok(Err(Fault::Words)),
     };
     let pairs = match read_pairs(alloc, &mut rest)? {
-        None => return Ok(None),
+        None => return Ok(Err(Fault::Pair)),
         Some(pairs) => pairs,
     };
     if !may_open(pairs.as_slice(), words) {
-        return Ok(None);
+        return Ok(Err(Fault::Table));
     }
-    Ok(Some(Log {
+    Ok(Ok(Log {
         pairs,
         words,
         events: Vec::new(alloc),
+        lines: Vec::new(alloc),
     }))
 }
 

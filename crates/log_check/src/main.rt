@@ -1,12 +1,15 @@
-//! The program `log_check`: it reads a log of events from standard input, and says whether it is
-//! lawful.
+//! The program `log_check`: it reads a log of events, and says whether it is lawful.
 //!
 //! Read `logs.rt`, which says the form of the text, and `verdicts.rt`. Stands on `ist_core`,
-//! `ist_math`, `ist_layout` and `ist_check`.
+//! `ist_math`, `ist_layout`, `ist_check` and `clap`.
 #![tactic(auto)]
 
+mod answers;
+mod command;
 mod events;
+mod faults;
 mod fields;
+mod kinds;
 mod logs;
 #[cfg(test)]
 mod samples;
@@ -14,21 +17,14 @@ mod samples;
 mod tests;
 mod verdicts;
 
-use logs::{Reading, read_log};
-use std::alloc::{AllocError, Global};
-use std::io;
+use answers::answer_to;
+use command::{Job, read_words};
 use std::io::Read;
 use std::process::ExitCode;
-use verdicts::judge;
-
-/// The status where the text is a log, lawful or not.
-const JUDGED: u8 = 0;
+use std::{env, fs, io};
 
 /// The status where reading, writing or memory failed.
-const FAILED: u8 = 1;
-
-/// The status where the text is out of form.
-const OUT_OF_FORM: u8 = 3;
+const FAILED: u8 = 4;
 
 fn main(rt: HostRuntime) -> ExitCode {
     match run(&rt) {
@@ -37,22 +33,43 @@ fn main(rt: HostRuntime) -> ExitCode {
     }
 }
 
-/// Reads the text, and prints what is said of it.
+/// Does what the words of the command line ask for, and gives the status.
 fn run(rt: &HostRuntime) -> io::Result<u8> {
-    let mut text = Vec::new(rt.alloc());
-    rt.stdin().read_to_end(&mut text)?;
-    let (answer, status) = answer_to(rt.alloc(), text.as_slice())?;
-    println!(rt; "{answer}")?;
-    Ok(status)
-}
-
-/// What is said of the text, and the status.
-fn answer_to(alloc: Global, text: &[u8]) -> Result<(String, u8), AllocError> {
-    match read_log(alloc, text)? {
-        Reading::OutOfForm { line } => Ok((format!(in alloc; "! form {line}")?, OUT_OF_FORM)),
-        Reading::Whole(log) => {
-            let verdict = judge(alloc, &log)?;
-            Ok((format!(in alloc; "{verdict}")?, JUDGED))
+    let mut words = Vec::new(rt.alloc());
+    for word in env::args(rt)? {
+        words.push(word)?;
+    }
+    match read_words(rt, words.as_slice())? {
+        Job::Done { status } => Ok(status),
+        Job::Check { path, progress } => {
+            let text = read_text(rt, path)?;
+            if progress {
+                let size = text.len();
+                eprintln!(rt; "{size} bytes read")?;
+            }
+            let (answer, status) = answer_to(rt.alloc(), text.as_slice())?;
+            println!(rt; "{answer}")?;
+            Ok(status)
         }
     }
+}
+
+/// The bytes of the file, or those of standard input where none is named. A failed read is said.
+fn read_text(rt: &HostRuntime, path: Option<&str>) -> io::Result<Vec<u8>> {
+    let read = match path {
+        Some(path) => fs::read(rt, path),
+        None => read_input(rt),
+    };
+    if read.is_err() {
+        let name = path.unwrap_or("standard input");
+        eprintln!(rt; "log_check: {name} can't be read")?;
+    }
+    read
+}
+
+/// The bytes of standard input.
+fn read_input(rt: &HostRuntime) -> io::Result<Vec<u8>> {
+    let mut text = Vec::new(rt.alloc());
+    rt.stdin().read_to_end(&mut text)?;
+    Ok(text)
 }

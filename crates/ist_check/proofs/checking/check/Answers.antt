@@ -1,12 +1,31 @@
-use Rattle.std.proofs.Common.{◌≡◌, ◌∙◌, true, false, length, reverse, take, take_all, sym, ap, subst, arith}
+use Rattle.std.proofs.Common.{
+  ◌≡◌,
+  ◌∙◌,
+  true,
+  false,
+  length,
+  reverse,
+  take,
+  take_all,
+  sym,
+  ap,
+  subst,
+  arith,
+}
 use Rattle.ist_core.specs.Snapshots.{Shows}
 use Rattle.ist_core.specs.StartLayout.{start}
 use Rattle.ist_core.specs.Lawful.{state_of}
-use Rattle.ist_enabled.specs.Mirroring.{Mirrors}
-use Rattle.ist_enabled.specs.Remembering.{KnowsSlots}
+use Rattle.ist_check_events.specs.Mirroring.{Mirrors}
+use Rattle.ist_check_events.specs.Remembering.{KnowsSlots, KnowsWays}
 use Rattle.ist_check.specs.Verdicts.{IsFirstUnlawful}
 use Rattle.ist_check.specs.Knowing.{Knows}
-use Rattle.ist_check.proofs.CheckingLemmas.{reverse_more, first_unlawful, at_number, lawful_more, known_more}
+use Rattle.ist_check.proofs.CheckingLemmas.{
+  reverse_more,
+  first_unlawful,
+  at_number,
+  lawful_more,
+  known_more,
+}
 use Rattle.ist_check.proofs.RoomLemmas.{has_room}
 use Rattle.ist_check.proofs.checking.check.Goals as goal
 
@@ -16,12 +35,14 @@ clash e = cc
 pub loop-at-init : goal.loop-at-init
 loop-at-init c =
     let pairs = c.args.start.now in
-    let mirrors = subst (λ n. Mirrors c.in_ok-replica.replica (start pairs n)) c.from.ensures c.in_ok-replica.ensures.mirrors in
+    let mirrors = subst (λ n. Mirrors c.in_ok-replica.replica (start pairs n)) c.from.ensures
+    c.in_ok-replica.ensures.mirrors in
     let few = ap length c.in_ok-past.ensures.few in (
       record {
         lawful = record { opens = c.requires.opens; enabled = tt };
         mirrors = mirrors;
         slots = c.in_ok-past.ensures.slots pairs c.args.words c.requires.opens mirrors;
+        ways = c.in_ok-past.ensures.ways pairs c.args.words c.requires.opens mirrors;
         remembers = c.in_ok-past.ensures.exact pairs c.args.words c.requires.opens mirrors;
       },
       omega arith,
@@ -32,14 +53,18 @@ returns-then-not-branch-clause-unlawful c at e =
     let knows = c.loop-at.invariant.0 in
     let refused = (c.in_ok-may_come.ensures.exact _ _ _ knows).1 in
     subst (IsFirstUnlawful c.args.start.now c.args.words c.args.log.now) (at_number _ _ e)
-    (first_unlawful c.args.log.now c.loop-at.at c.index-log-at.result c.loop-at-test.true c.index-log-at.is _ _ knows.lawful
+    (first_unlawful c.args.log.now c.loop-at.at c.index-log-at.result c.loop-at-test.true
+    c.index-log-at.is _ _ knows.lawful
     (λ can. clash (sym c.if-not-branch.true ∙ refused can)))
 
 pub advance-requires : goal.advance-requires
 advance-requires c =
     let knows = c.loop-at.invariant.0 in
     let may = (c.in_ok-may_come.ensures.exact _ _ _ knows).0 c.if-not-branch.false in
-    record { room = has_room _ _ _ c.loop-at.replica knows.mirrors c.index-log-at.result (lawful_more _ _ _ _ _ _ knows may) }
+    record {
+      room = has_room _ _ _ c.loop-at.replica knows.mirrors c.index-log-at.result
+          (lawful_more _ _ _ _ _ _ knows may);
+    }
 
 pub loop-at-preserved : goal.loop-at-preserved
 loop-at-preserved c =
@@ -48,15 +73,22 @@ loop-at-preserved c =
     let knows = c.loop-at.invariant.0 in
     let may = (c.in_ok-may_come.ensures.exact _ _ _ knows).0 c.if-not-branch.false in
     let lawful = lawful_more _ _ _ _ _ _ knows may in
-    let mirrors = c.in_ok-advance.ensures.exact (state_of c.args.start.now c.args.words before) knows.mirrors in
+    let mirrors = c.in_ok-advance.ensures.exact (state_of c.args.start.now c.args.words before)
+    knows.mirrors in
     let past = c.in_ok-remember.ensures.exact _ _ before lawful knows.mirrors knows.remembers in
-    let old_slots = subst (λ m. KnowsSlots m first before) (sym c.in_ok-remember.ensures.slots) knows.slots in
+    let old_slots = subst (λ m. KnowsSlots m first before) (sym c.in_ok-remember.ensures.slots)
+    knows.slots in
     let slots = c.in_ok-remember_links.ensures.exact _ _ before lawful mirrors old_slots in
+    let old_ways = subst (λ m. KnowsWays m first before) (sym c.in_ok-remember.ensures.ways)
+    knows.ways in
+    let ways = c.in_ok-remember_ways.ensures.exact _ _ before lawful mirrors slots old_ways in
     let few = c.in_ok-remember.ensures.few in
     let low = c.loop-at.invariant.1 in (
       subst (Knows _ _ c.args.start.now c.args.words)
-          (sym (reverse_more c.args.log.now c.loop-at.at c.index-log-at.result c.loop-at-test.true c.index-log-at.is))
-          (known_more _ _ _ _ _ _ knows may c.advance.new.replica c.remember.new.past c.remember_links.new.slots mirrors slots past),
+          (sym (reverse_more c.args.log.now c.loop-at.at c.index-log-at.result c.loop-at-test.true
+          c.index-log-at.is))
+          (known_more _ _ _ _ _ _ knows may c.advance.new.replica c.remember.new.past
+          c.remember_links.new.slots c.remember_ways.new.ways mirrors slots ways past),
       omega arith,
     )
 

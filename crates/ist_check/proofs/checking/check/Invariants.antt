@@ -3,4 +3,5 @@ use Rattle.ist_check.specs.Knowing.{Knows}
 use Rattle.ist_check.proofs.checking.check.Given as goal
 
 abbrev pub invariant-loop-at : goal.invariant-loop-at
-invariant-loop-at l = Knows l.replica l.past l.start l.words (reverse (take l.at l.log)) × (length l.past.builds.items ≤ l.at)
+invariant-loop-at l = Knows l.replica l.past l.start l.words (reverse (take l.at l.log))
+    × (length l.past.builds.items ≤ l.at)

@@ -3,8 +3,8 @@ use Rattle.ist_core.specs.declared.events.Event.TheVariants.{Root, Place}
 use Rattle.ist_core.specs.StartLayout.{start}
 use Rattle.ist_core.specs.Lawful.{state_of}
 use Rattle.ist_core.specs.Enabled.{Enabled}
-use Rattle.ist_enabled.proofs.AnswerLemmas.{if_ok}
-use Rattle.ist_check.proofs.StandingLemmas.{rows_rise, held_are_free}
+use Rattle.ist_check_events.proofs.AnswerLemmas.{if_ok}
+use Rattle.ist_check.proofs.StandingLemmas.{held_are_free}
 use Rattle.ist_check.proofs.coming.may_build.Goals as goal
 
 pub returns-in-Root : goal.returns-in-Root
@@ -14,8 +14,11 @@ returns-in-Root c =
           if_ok c.can_root.result _ _
           (λ may exact pairs words log knows build.
           let i = c.in-Root in
-          subst (λ e. IsTrue may ↔ Enabled (start pairs words) log e) (ap (Root i.caller i.rebuild i.word) c.as_slice.ensures.value ∙ sym i.is)
-          (exact (state_of pairs words log) knows.mirrors knows.remembers.started (rows_rise pairs words log knows.lawful) (held_are_free pairs words log knows.lawful)))
+          subst (λ e. IsTrue may ↔ Enabled (start pairs words) log e)
+          (ap (Root i.caller i.rebuild i.word) c.as_slice.ensures.value ∙ sym i.is)
+          (exact (state_of pairs words log) knows.mirrors knows.remembers.started
+          (held_are_free pairs words log
+          knows.lawful)))
           c.can_root.ensures.exact;
     }
 
@@ -26,7 +29,10 @@ returns-in-Place c =
           if_ok c.can_place.result _ _
           (λ may exact pairs words log knows build.
           let i = c.in-Place in
-          subst (λ e. IsTrue may ↔ Enabled (start pairs words) log e) (ap (Place i.caller i.rebuild i.part i.word) c.as_slice-in-Place.ensures.value ∙ sym i.is)
-          (exact (state_of pairs words log) knows.mirrors (rows_rise pairs words log knows.lawful) (held_are_free pairs words log knows.lawful)))
+          subst (λ e. IsTrue may ↔ Enabled (start pairs words) log e)
+          (ap (Place i.caller i.rebuild i.part i.word) c.as_slice-in-Place.ensures.value
+          ∙ sym i.is)
+          (exact (state_of pairs words log) knows.mirrors
+          (held_are_free pairs words log knows.lawful)))
           c.can_place.ensures.exact;
     }

@@ -3,16 +3,17 @@ use Rattle.ist_core.specs.declared.events.Event.TheVariants.{Install, Lose}
 use Rattle.ist_core.specs.StartLayout.{start}
 use Rattle.ist_core.specs.Lawful.{state_of}
 use Rattle.ist_core.specs.Enabled.{Enabled}
-use Rattle.ist_enabled.proofs.AnswerLemmas.{if_ok}
-use Rattle.ist_check.specs.Knowing.{IsBuild}
-use Rattle.ist_check.proofs.StandingLemmas.{keys_stay}
+use Rattle.ist_check_events.proofs.AnswerLemmas.{if_ok}
+use Rattle.ist_check.specs.Knowing.{IsOfBuild}
+use Rattle.ist_check_state.proofs.StayingLemmas.{keys_stay}
 use Rattle.ist_check.proofs.coming.may_come.Goals as goal
 
 pub returns-in-Enter : goal.returns-in-Enter
 returns-in-Enter c =
     record {
       exact = λ pairs words log knows.
-          subst (λ e. IsTrue c.can_enter.result ↔ Enabled (start pairs words) log e) (sym c.in-Enter.is) (c.can_enter.ensures.exact _ knows.mirrors);
+          subst (λ e. IsTrue c.can_enter.result ↔ Enabled (start pairs words) log e)
+          (sym c.in-Enter.is) (c.can_enter.ensures.exact _ knows.mirrors);
     }
 
 pub returns-in-Install : goal.returns-in-Install
@@ -21,8 +22,10 @@ returns-in-Install c =
       exact = λ pairs words log knows.
           let i = c.in-Install in
           let past = knows.remembers in
-          let may = c.can_install.ensures.exact (start pairs words) log knows.mirrors knows.slots past.refused past.started (keys_stay pairs words log knows.lawful) in
-          subst (λ e. IsTrue c.can_install.result ↔ Enabled (start pairs words) log e) (ap (Install i.caller i.change) c.as_slice.ensures.value ∙ sym i.is) may;
+          let may = c.can_install.ensures.exact (start pairs words) log knows.mirrors knows.slots
+          knows.ways past.refused past.started (keys_stay pairs words log knows.lawful) in
+          subst (λ e. IsTrue c.can_install.result ↔ Enabled (start pairs words) log e)
+          (ap (Install i.caller i.change) c.as_slice.ensures.value ∙ sym i.is) may;
     }
 
 pub returns-in-Root : goal.returns-in-Root
@@ -30,7 +33,8 @@ returns-in-Root c =
     record {
       exact =
           if_ok c.may_build.result _ _
-          (λ may exact pairs words log knows. exact pairs words log knows (subst IsBuild (sym c.in-Root.is) tt))
+          (λ may exact pairs words log knows. exact pairs words log knows
+          (subst IsOfBuild (sym c.in-Root.is) tt))
           c.may_build.ensures.exact;
     }
 
@@ -39,7 +43,8 @@ returns-in-Place c =
     record {
       exact =
           if_ok c.may_build-in-Place.result _ _
-          (λ may exact pairs words log knows. exact pairs words log knows (subst IsBuild (sym c.in-Place.is) tt))
+          (λ may exact pairs words log knows. exact pairs words log knows
+          (subst IsOfBuild (sym c.in-Place.is) tt))
           c.may_build-in-Place.ensures.exact;
     }
 
@@ -50,7 +55,9 @@ returns-in-Lose c =
           if_ok c.can_lose.result _ _
           (λ may exact pairs words log knows.
           let i = c.in-Lose in
-          subst (λ e. IsTrue may ↔ Enabled (start pairs words) log e) (ap (Lose i.caller) c.as_slice-in-Lose.ensures.value ∙ sym i.is)
-          (exact (state_of pairs words log) log knows.mirrors knows.remembers.started knows.remembers.builds.0))
+          subst (λ e. IsTrue may ↔ Enabled (start pairs words) log e)
+          (ap (Lose i.caller) c.as_slice-in-Lose.ensures.value ∙ sym i.is)
+          (exact (state_of pairs words log) log knows.mirrors knows.remembers.started
+          knows.remembers.builds.0))
           c.can_lose.ensures.exact;
     }

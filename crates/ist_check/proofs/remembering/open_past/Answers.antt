@@ -1,5 +1,5 @@
 use Rattle.std.proofs.Common.{[], map, sym, subst}
-use Rattle.ist_replay.specs.Remembered.{TellsBuilds}
+use Rattle.ist_check_state.specs.Remembered.{TellsBuilds}
 use Rattle.ist_check.proofs.OpeningLemmas as opening
 use Rattle.ist_check.proofs.remembering.open_past.Goals as goal
 
@@ -13,5 +13,6 @@ returns-clause-exact c pairs words opens mirrors =
       updates = opening.no_updates pairs words c.new-5.result c.new-5.ensures.empty;
       refused = opening.no_refusals pairs words c.new-6.result c.new-6.ensures.empty;
       started = opening.no_starts pairs words c.new-7.result c.new-7.ensures.empty;
-      builds = subst (λ items. TellsBuilds c.new-9.result (map (λ v. v.items) items) []) (sym c.new-8.ensures.items) (opening.no_builds c.new-9.result c.new-9.ensures.empty);
+      builds = subst (λ items. TellsBuilds c.new-9.result (map (λ v. v.items) items) [])
+          (sym c.new-8.ensures.items) (opening.no_builds c.new-9.result c.new-9.ensures.empty);
     }

@@ -1,6 +1,6 @@
 use Rattle.std.proofs.Common.{◌∷◌}
 use Rattle.ist_core.proofs.FrozenLemmas as frozen
-use Rattle.ist_replay.proofs.TableLemmas.{on_success}
+use Rattle.ist_check_state.proofs.TableLemmas.{on_success}
 use Rattle.ist_check.proofs.remembering.remember.Goals as goal
 
 pub returns-clause-exact : goal.returns-clause-exact
@@ -11,7 +11,9 @@ returns-clause-exact c =
       okayed = c.in_ok-remember_okay.ensures.exact log past.okayed;
       called = c.in_ok-remember_call.ensures.exact pairs words log law mirrors past.called;
       drawn = c.in_ok-remember_draw.ensures.exact log past.drawn;
-      passed = c.in_ok-remember_pass.ensures.exact log (λ node i word other p q. frozen.passes_agree pairs words law.opens (c.args.event.now ∷ log) law.enabled node i word other p q) past.passed;
+      passed = c.in_ok-remember_pass.ensures.exact log (λ node i word other p q. frozen.passes_agree
+          pairs words law.opens (c.args.event.now ∷ log) law.enabled node i word other p q)
+          past.passed;
       updates = c.in_ok-remember_update.ensures.exact pairs words log law mirrors past.updates;
       refused = c.in_ok-remember_refusal.ensures.exact pairs words log law mirrors past.refused;
       started = c.in_ok-remember_start.ensures.exact pairs words log law mirrors past.started;

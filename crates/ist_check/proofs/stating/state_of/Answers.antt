@@ -11,10 +11,17 @@ returns c =
             next = mirrors.next;
             callers = mirrors.callers;
             anchor = mirrors.anchor;
-            leaves = λ base. found c.from_vec.result c.args.replica.leaves base (c.from_vec.ensures.value ∙ c.in_ok-entries_of.ensures.value) ∙ mirrors.leaves base;
-            inners = λ base. found c.from_vec-2.result c.args.replica.inners base (c.from_vec-2.ensures.value ∙ c.in_ok-entries_of-2.ensures.value) ∙ mirrors.inners base;
-            changes = λ base. found c.from_vec-3.result c.args.replica.changes base (c.from_vec-3.ensures.value ∙ c.in_ok-entries_of-3.ensures.value) ∙ mirrors.changes base;
-            rebuilds = λ base. found c.from_vec-4.result c.args.replica.rebuilds base (c.from_vec-4.ensures.value ∙ c.in_ok-entries_of-4.ensures.value) ∙ mirrors.rebuilds base;
+            leaves = λ base. found c.from_vec.result c.args.replica.leaves base
+                (c.from_vec.ensures.value ∙ c.in_ok-entries_of.ensures.value) ∙ mirrors.leaves base;
+            inners = λ base. found c.from_vec-2.result c.args.replica.inners base
+                (c.from_vec-2.ensures.value ∙ c.in_ok-entries_of-2.ensures.value) ∙ mirrors.inners
+                base;
+            changes = λ base. found c.from_vec-3.result c.args.replica.changes base
+                (c.from_vec-3.ensures.value ∙ c.in_ok-entries_of-3.ensures.value) ∙ mirrors.changes
+                base;
+            rebuilds = λ base. found c.from_vec-4.result c.args.replica.rebuilds base
+                (c.from_vec-4.ensures.value ∙ c.in_ok-entries_of-4.ensures.value) ∙ mirrors.rebuilds
+                base;
             held = c.from_vec-5.ensures.value ∙ mirrors.held;
           };
     }

@@ -1,0 +1,322 @@
+-- What is tested of the rows of a Root or a Place is what its condition says. Serves `building.rt`.
+use Rattle.std.proofs.Common.{
+  ◌≡◌,
+  ◌↔◌,
+  ◌∙◌,
+  ◌<◌,
+  ℕ,
+  List,
+  [],
+  ◌∷◌,
+  length,
+  slice_get,
+  Option,
+  Some,
+  None,
+  true,
+  refl,
+  sym,
+  ap,
+  subst,
+  arith,
+}
+use Rattle.ist_core.specs.declared.lists.Row.{Row}
+use Rattle.ist_core.specs.declared.states.RebuildRow.{RebuildRow}
+use Rattle.ist_core.specs.Arithmetic.{part_lens}
+use Rattle.ist_core.specs.References.{Ref, InnerAt, ref_of, unset_word}
+use Rattle.ist_core.specs.Statuses.{finished_word}
+use Rattle.ist_core.specs.Elements.{Each}
+use Rattle.ist_core.specs.Parts.{parts}
+use Rattle.ist_core.specs.Pieces.{Pieces, Inner, Rebuild, with_inners}
+use Rattle.ist_core.specs.Snapshots.{Snapshot, bases_of}
+use Rattle.ist_core.specs.Leaves.{PlacedLeaf, HasLeaves}
+use Rattle.ist_core.specs.Rebuilding.{IsStarted, IsFinishedWith}
+use Rattle.ist_core.specs.Building.{IsRoot, root_whole, root_top, CanRoot, CanPlace}
+use Rattle.ist_core.proofs.LeafLemmas.{same_leaves}
+use Rattle.ist_core.proofs.RisingLemmas.{each_of_cut, part_of_each}
+use Rattle.ist_check_events.specs.Mirroring.{RowHolds}
+use Rattle.ist_check_events.proofs.MirrorLemmas.{one_inner, one_rebuild}
+use Rattle.ist_check_builds.specs.Standing.{HeldAreFree}
+use Rattle.ist_check_builds.specs.Reading.{Gathers}
+use Rattle.ist_check_builds.specs.Publishing.{MayPublish, HasRoot, HasPart, IsPartOf}
+use Rattle.ist_check_builds.specs.Built.{key_of_leaf, Builds, BuildsAt, IsRootOf, whole, top_alone}
+use Rattle.ist_check_builds.proofs.PublishLemmas.{
+  Stands,
+  LeafStands,
+  leaf_kept,
+  held_is_free,
+  rows_stand,
+  leaves_stand,
+  builds_ideal,
+  ideal_builds,
+}
+
+each_mapped : {A : Type 0} (P Q : A → Type 0) (xs : List A) → ((x : A) → P x → Q x) → Each P xs
+    → Each Q xs
+each_mapped P Q [] f h = tt
+each_mapped P Q (x ∷ xs) f h = (f x h.0, each_mapped P Q xs f h.1)
+
+-- ---- roots
+
+module _ (qs : Pieces) (word k : ℕ) (leaves : List PlacedLeaf) (target : ℕ) (rows : List Row)
+    (stand : Each (Stands qs) rows) where
+  root_by_rows : IsRoot qs word k leaves target (bases_of rows) → IsRootOf word k leaves target rows
+  root_by_rows (root_whole ref few e ideal) = whole few record {
+    ref = ref;
+    names = e;
+    builds =
+        ideal_builds qs ref leaves target (bases_of rows) ideal rows refl stand;
+  }
+  root_by_rows (root_top base row many e top unset one) = alone rows one stand
+    where
+      alone : (rs : List Row) → bases_of rs ≡ base ∷ [] → Each (Stands qs) rs → IsRootOf word k
+          leaves target rs
+      alone [] one stands = absurd (cc)
+      alone (x ∷ y ∷ rs) one stands = absurd (cc)
+      alone (x ∷ []) one stands =
+          let here : x.base ≡ base = cc in
+          top_alone many record {
+            row = x;
+            rows_are = refl;
+            names = e ∙ ap (λ b. Some (InnerAt b)) (sym here);
+            top = record {
+              top = row;
+              is_top = record {
+                read = sym stands.0 ∙ subst (λ b. qs b ≡ Some (Inner row)) (sym here) top.published;
+                two = top.two;
+                higher = subst (λ b. target < b) (sym here) top.higher;
+                status = top.status;
+                count = top.count;
+                degree = top.degree;
+                size = top.size;
+                keys = top.keys;
+              };
+              slots_are = unset;
+            };
+          }
+
+  root_by_bases : Each (LeafStands qs) leaves → IsRootOf word k leaves target rows
+      → IsRoot qs word k leaves target (bases_of rows)
+  root_by_bases there (whole few b) = root_whole b.ref few b.names (builds_ideal qs b.ref leaves
+      target rows b.builds stand there)
+  root_by_bases there (top_alone many t) =
+      let stands = subst (λ rs. Each (Stands qs) rs) t.rows_are stand in
+      let top = t.top.is_top in
+      root_top t.row.base t.top.top many t.names
+      record {
+        published = stands.0 ∙ top.read;
+        two = top.two;
+        higher = top.higher;
+        status = top.status;
+        count = top.count;
+        degree = top.degree;
+        size = top.size;
+        keys = top.keys;
+      } t.top.slots_are (ap bases_of t.rows_are)
+
+-- the rows and the leaves, published
+module _ (t : Snapshot) (caller : ℕ) (rows : List Row) (publish : MayPublish t caller rows)
+    (free : HeldAreFree t) where
+  pub rows_there : Each (Stands (with_inners t.pieces rows)) rows
+  rows_there = rows_stand t.pieces rows publish.once (held_is_free t caller rows publish.held free)
+
+  pub leaves_there : (ref : Option Ref) (leaves : List PlacedLeaf) → HasLeaves t.pieces ref leaves
+      → Each (LeafStands (with_inners t.pieces rows)) leaves
+  leaves_there ref leaves has =
+      each_mapped (LeafStands t.pieces) (LeafStands (with_inners t.pieces rows)) leaves
+      (λ leaf e. leaf_kept t caller rows publish.held free leaf e)
+      (leaves_stand t.pieces ref leaves has)
+
+  -- a root that the rows are is one that may be published
+  pub root_is : (rebuild word k : ℕ) (row : RebuildRow) → caller < t.callers
+      → t.pieces rebuild ≡ Some (Rebuild row) → IsStarted t rebuild → row.root ≡ unset_word
+      → IsFinishedWith t row.target k
+      → HasRoot t word k row.target rows ↔ CanRoot t caller rebuild word rows
+  root_is rebuild word k row known published started rootless finished = (
+    (λ h. record {
+      known = known;
+      row = row;
+      published = published;
+      started = started;
+      rootless = rootless;
+      k = k;
+      finished = finished;
+      leaves = h.leaves;
+      reached = h.reached;
+      root = root_by_bases (with_inners t.pieces rows) word k h.leaves row.target rows rows_there
+          (leaves_there (Some (InnerAt row.target)) h.leaves h.reached) h.root;
+      once = publish.once;
+      held = publish.held;
+    }),
+    (λ c.
+        let same = one_rebuild (t.pieces rebuild) c.row row c.published published in
+        let target : c.row.target ≡ row.target = ap (λ r. r.target) same in
+        let inner = one_inner (t.pieces row.target) (subst (λ n. IsFinishedWith t n c.k) target
+        c.finished).row finished.row (subst (λ n. IsFinishedWith t n c.k) target
+        c.finished).published finished.published in
+        let words : finished_word c.k ≡ finished_word k = sym (subst (λ n. IsFinishedWith t n c.k)
+        target c.finished).status ∙ ap (λ r. r.status) inner ∙ finished.status in
+        let keys : c.k ≡ k = omega arith in
+        record {
+          leaves = c.leaves;
+          reached = subst (λ n. HasLeaves t.pieces (Some (InnerAt n)) c.leaves) target c.reached;
+          root = subst (λ m. IsRootOf word m c.leaves row.target rows) keys
+              (subst (λ n. IsRootOf word c.k c.leaves n rows) target
+              (root_by_rows (with_inners t.pieces rows) word c.k c.leaves c.row.target rows
+              rows_there c.root));
+        }),
+  )
+
+-- what may not be published may not be a root
+pub root_publishes : (t : Snapshot) (caller rebuild word : ℕ) (rows : List Row)
+    → CanRoot t caller rebuild word rows → MayPublish t caller rows
+root_publishes t caller rebuild word rows c = record { held = c.held; once = c.once }
+
+-- the target of a root is finished
+pub root_finished : (t : Snapshot) (caller rebuild word : ℕ) (rows : List Row) (row : RebuildRow)
+    → t.pieces rebuild ≡ Some (Rebuild row) → CanRoot t caller rebuild word rows
+    → (k : ℕ) × IsFinishedWith t row.target k
+root_finished t caller rebuild word rows row published c = (
+  c.k,
+  subst (λ r. IsFinishedWith t r.target c.k) (one_rebuild (t.pieces rebuild) c.row row
+      c.published published) c.finished,
+)
+
+-- ---- leaves that were gathered
+
+module _ (t : Snapshot) (word k target : ℕ) (rows : List Row) where
+  -- these leaves lie below the target
+  abbrev pub Below : List PlacedLeaf → Type 0
+  Below ls = HasLeaves t.pieces (Some (InnerAt target)) ls
+
+  pub no_root : ((ls : List PlacedLeaf) → ¬ (Below ls)) → ¬ (HasRoot t word k target rows)
+  no_root none h = none h.leaves h.reached
+
+  pub root_over : (found : List PlacedLeaf) → Gathers Below [] true found
+      → IsRootOf word k found target rows ↔ HasRoot t word k target rows
+  root_over found g = (
+    (λ r. record {
+      leaves = g.0;
+      reached = g.2;
+      root = subst (λ ls. IsRootOf word k ls target rows)
+          g.1 r;
+    }),
+    (λ h. subst (λ ls. IsRootOf word k ls target rows) (same_leaves t.pieces (Some (InnerAt target))
+        h.leaves g.0 h.reached g.2 ∙ sym g.1) h.root),
+  )
+
+-- ---- parts
+
+module _ (t : Snapshot) (word i target above : ℕ) (rows : List Row) where
+  pub no_part : ((ls : List PlacedLeaf) → ¬ (HasLeaves t.pieces (Some (InnerAt target)) ls))
+      → ¬ (HasPart t word i target above rows)
+  no_part none h = none h.leaves h.reached
+
+  pub part_over : (found : List PlacedLeaf)
+      → Gathers (λ ls. HasLeaves t.pieces (Some (InnerAt target)) ls) [] true found
+      → IsPartOf word i found above rows ↔ HasPart t word i target above rows
+  part_over found g = (
+    (λ r. record {
+      leaves = g.0;
+      reached = g.2;
+      part = subst (λ ls. IsPartOf word i ls above rows)
+          g.1 r;
+    }),
+    (λ h. subst (λ ls. IsPartOf word i ls above rows) (same_leaves t.pieces (Some (InnerAt target))
+        h.leaves g.0 h.reached g.2 ∙ sym g.1) h.part),
+  )
+
+module _ (word i above : ℕ) (leaves : List PlacedLeaf) (rows : List Row) where
+  pub no_such_part : slice_get (parts leaves) i ≡ None → ¬ (IsPartOf word i leaves above rows)
+  no_such_part none h = clash (slice_get (parts leaves) i) none h.part_is
+    where
+      clash : (o : Option (List PlacedLeaf)) → o ≡ None → o ≡ Some h.part → ⊥
+      clash o a b = cc
+
+  pub such_part : (part : List PlacedLeaf) → slice_get (parts leaves) i ≡ Some part
+      → BuildsAt word part above rows ↔ IsPartOf word i leaves above rows
+  such_part part is = (
+    (λ b. record { part = part; part_is = is; builds = b }),
+    (λ h. subst (λ ls. BuildsAt word ls above rows) (same (slice_get (parts leaves) i) h.part part
+        h.part_is is) h.builds),
+  )
+    where
+      same : (o : Option (List PlacedLeaf)) (a b : List PlacedLeaf) → o ≡ Some a → o ≡ Some b → a
+          ≡ b
+      same o a b e f = cc
+
+-- a part that the rows are is one that may be placed
+module _ (t : Snapshot) (caller : ℕ) (rows : List Row) (publish : MayPublish t caller rows)
+    (free : HeldAreFree t) where
+  pub part_fits : (rebuild i word root : ℕ) (row : RebuildRow) → caller < t.callers
+      → t.pieces rebuild ≡ Some (Rebuild row) → ref_of row.root ≡ Some (InnerAt root)
+      → RowHolds t root i unset_word
+      → HasPart t word i row.target root rows ↔ CanPlace t caller rebuild i word rows
+  part_fits rebuild i word root row known published root_is holds = (
+    (λ h.
+        let all = leaves_there t caller rows publish free (Some (InnerAt row.target)) h.leaves
+        h.reached in
+        record {
+          known = known;
+          row = row;
+          published = published;
+          root = root;
+          root_is = root_is;
+          root_row = holds.row;
+          root_published = holds.published;
+          free = holds.in_slot;
+          leaves = h.leaves;
+          reached = h.reached;
+          part = h.part.part;
+          part_is = h.part.part_is;
+          ref = h.part.builds.ref;
+          ref_is = h.part.builds.names;
+          ideal = builds_ideal (with_inners t.pieces rows) h.part.builds.ref h.part.part root rows
+              h.part.builds.builds (rows_there t caller rows publish free)
+              (part_of_each key_of_leaf (LeafStands (with_inners t.pieces rows)) (parts h.leaves) i
+              h.part.part
+              (each_of_cut key_of_leaf (LeafStands (with_inners t.pieces rows))
+              (part_lens (length h.leaves)) h.leaves all) h.part.part_is);
+          once = publish.once;
+          held = publish.held;
+        }),
+    (λ c.
+        let same = one_rebuild (t.pieces rebuild) c.row row c.published published in
+        let target : c.row.target ≡ row.target = ap (λ r. r.target) same in
+        let base : c.root ≡ root = same_base (ref_of row.root) c.root root
+        (subst (λ r. ref_of r.root ≡ Some (InnerAt c.root)) same c.root_is) root_is in
+        record {
+          leaves = c.leaves;
+          reached = subst (λ n. HasLeaves t.pieces (Some (InnerAt n)) c.leaves) target c.reached;
+          part = record {
+            part = c.part;
+            part_is = c.part_is;
+            builds = record {
+              ref = c.ref;
+              names = c.ref_is;
+              builds = subst (λ b. Builds c.ref c.part b rows) base
+                  (ideal_builds (with_inners t.pieces rows) c.ref c.part c.root (bases_of rows)
+                  c.ideal rows refl (rows_there t caller rows publish free));
+            };
+          };
+        }),
+  )
+    where
+      same_base : (o : Option Ref) (a b : ℕ) → o ≡ Some (InnerAt a) → o ≡ Some (InnerAt b) → a ≡ b
+      same_base o a b e f = cc
+
+-- what a part that may be placed asks of its rows, and of the slot
+module _ (t : Snapshot) (caller rebuild i word : ℕ) (rows : List Row) (c : CanPlace t caller rebuild
+    i word rows) where
+  pub place_publishes : MayPublish t caller rows
+  place_publishes = record { held = c.held; once = c.once }
+
+  module _ (row : RebuildRow) (published : t.pieces rebuild ≡ Some (Rebuild row)) where
+    pub place_root : (root : ℕ) × (ref_of row.root ≡ Some (InnerAt root)) × RowHolds t root i
+        unset_word
+    place_root = (
+      c.root,
+      subst (λ r. ref_of r.root ≡ Some (InnerAt c.root)) (one_rebuild (t.pieces rebuild) c.row row
+          c.published published) c.root_is,
+      record { row = c.root_row; published = c.root_published; in_slot = c.free },
+    )

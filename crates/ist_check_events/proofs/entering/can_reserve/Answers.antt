@@ -1,0 +1,64 @@
+use Rattle.std.proofs.Common.{
+  ◌≡◌,
+  ◌∙◌,
+  ◌+◌,
+  ◌-◌,
+  ◌==◌,
+  ◌∷◌,
+  ◌++◌,
+  [],
+  List,
+  ℕ,
+  map,
+  filter,
+  refl,
+  sym,
+  ap,
+  subst,
+  arith,
+}
+use Rattle.ist_core.specs.Snapshots.{sizes_held}
+use Rattle.ist_check_events.specs.Searching.{AreBuilding}
+use Rattle.ist_check_events.proofs.AnswerLemmas.{if_ok}
+use Rattle.ist_check_events.proofs.FairLemmas.{reserves, spare_is_fair}
+use Rattle.ist_check_events.proofs.entering.can_reserve.Goals as goal
+
+pub returns-then-are_all_spare : goal.returns-then-are_all_spare
+returns-then-are_all_spare c =
+    record {
+      exact = λ t h k.
+          let words = h.words in
+          let next = h.next in
+          let callers = h.callers in
+          let held = c.as_slice.ensures.value ∙ h.held in
+          let sizes : c.as_slice-2.result.now ≡ sizes_held t c.args.caller ++ c.args.size ∷ [] =
+          c.as_slice-2.ensures.value ∙ c.in_ok-push.ensures.items
+          ∙ ap (λ (xs : List ℕ). xs ++ c.args.size ∷ []) (c.in_ok-sizes.ensures.value
+          ∙ ap (λ hs. map (λ x. x.size) (filter (λ x. x.caller == c.args.caller) hs)) held) in
+          let spare = c.are_all_spare.ensures.exact.0 c.if-are_all_spare.true in
+          reserves t c.args.caller c.args.base c.args.size c.as_slice-2.result.now _ (omega arith)
+          (omega arith) (omega arith) sizes
+          ((λ _. spare_is_fair t c.as_slice-2.result.now spare), (λ _. refl));
+    }
+
+pub returns : goal.returns
+returns c =
+    record {
+      exact = if_ok c.is_fair.result _ _
+          (λ b f t h k.
+          let words = h.words in
+          let next = h.next in
+          let callers = h.callers in
+          let room : t.words ≡ t.next + (c.args.replica.now.words - c.args.replica.now.next) = omega
+          arith in
+          let lists = subst (λ xs. AreBuilding t (map (λ v. v.items) xs))
+          (sym c.as_slice-3.ensures.value) (c.in_ok-lists.ensures.exact t h k) in
+          let held = c.as_slice.ensures.value ∙ h.held in
+          let sizes : c.as_slice-4.result.now ≡ sizes_held t c.args.caller ++ c.args.size ∷ [] =
+          c.as_slice-4.ensures.value ∙ c.in_ok-push.ensures.items
+          ∙ ap (λ (xs : List ℕ). xs ++ c.args.size ∷ []) (c.in_ok-sizes.ensures.value
+          ∙ ap (λ hs. map (λ x. x.size) (filter (λ x. x.caller == c.args.caller) hs)) held) in
+          reserves t c.args.caller c.args.base c.args.size c.as_slice-4.result.now b (omega arith)
+          (omega arith) (omega arith) sizes (f t lists room))
+          c.is_fair.ensures.exact;
+    }

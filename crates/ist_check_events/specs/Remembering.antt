@@ -1,0 +1,136 @@
+-- What the checker's tables hold of the log: each answers by a look-up what a condition asks of the events so far.
+use Rattle.std.specs.Prelude.{◌≡◌, ◌↔◌, ◌<◌, ◌≤◌, ◌+◌, ◌*◌, ◌^◌, ◌⊎◌, ℕ, true, ◌∷◌, ◌++◌, Option, Some, None, List, drop}
+use Rattle.std.specs.Ordering.{nat_cmp}
+use Rattle.std.specs.BTreeMap as tree
+use Rattle.std.specs.BTreeMap.{BTreeMap}
+use Rattle.std.specs.BTreeSet.{BTreeSet}
+use Rattle.ist_core.specs.Snapshots.{Snapshot}
+use Rattle.ist_core.specs.declared.states.ChangeRow.{ChangeRow}
+use Rattle.ist_core.specs.declared.events.Event.TheVariants.{Decide}
+use Rattle.ist_core.specs.RowLayout.{anchor}
+use Rattle.ist_core.specs.Statuses.{decided_no}
+use Rattle.ist_core.specs.Elements.{Among}
+use Rattle.ist_core.specs.Pieces.{Change}
+use Rattle.ist_core.specs.Logs.{Log, Ever, Happened, Okays, Passes, Draws, Counts}
+use Rattle.ist_core.specs.Links.{IsChild, Linked, WasLinked, WasLedTo, WasOnChain}
+use Rattle.ist_core.specs.Rebuilding.{IsStarted}
+use Rattle.ist_core.specs.Deciding.{IsUpdateOf, SaysYes}
+use Rattle.ist_core.specs.Building.{IsBeaten}
+use Rattle.ist_core.specs.Marking.{IsCalled}
+use Rattle.ist_check_events.specs.declared.pasts.LastUpdate.{LastUpdate}
+use Rattle.ist_check_events.specs.declared.pasts.Slot.{Slot}
+use Rattle.ist_check_events.specs.declared.pasts.Way.{Way}
+use Rattle.ist_check_events.specs.Answers.{FindsGreatest, Holds}
+
+-- numbers of two words, as one key
+abbrev pub pair_key : ℕ → ℕ → ℕ
+pair_key x y = x * 2 ^ 64 + y
+
+-- the set is that of the changes that an Okay named
+abbrev pub KnowsOkays : BTreeSet ℕ → Log → Type 0
+KnowsOkays okayed log = (change : ℕ) → Holds okayed change ↔ Happened (Okays change) log
+
+-- the set is that of the nodes that there is a cause to mark
+abbrev pub KnowsCalls : BTreeSet ℕ → Snapshot → Log → Type 0
+KnowsCalls called t log = (node : ℕ) → Holds called node ↔ IsCalled t log node
+
+-- the map has the greatest part that each caller drew of each rebuild
+abbrev pub KnowsDraws : BTreeMap ℕ ℕ → Log → Type 0
+KnowsDraws drawn log =
+    (caller rebuild : ℕ) → caller < 2 ^ 64 → rebuild < 2 ^ 64
+    → FindsGreatest (λ part. Happened (Draws caller rebuild part) log)
+    (tree.get nat_cmp drawn (pair_key caller rebuild))
+
+-- the map has the word with which each slot was passed
+abbrev pub KnowsPasses : BTreeMap ℕ ℕ → Log → Type 0
+KnowsPasses passed log =
+    (node i word : ℕ) → node < 2 ^ 64 → i < 2 ^ 64
+    → (tree.get nat_cmp passed (pair_key node i) ≡ Some word) ↔ Happened (Passes node i word) log
+
+-- ---- counts
+
+-- the change is the last put or remove of the caller that was decided yes, and was not counted at the node since
+pub record IsUncounted (t : Snapshot) (log : Log) (caller node base : ℕ) : Type 0 where
+  pub later : Log
+  pub by : ℕ
+  pub earlier : Log
+  pub log_is : log ≡ later ++ Decide by base true ∷ earlier
+  pub update : IsUpdateOf t caller base
+  pub last : ¬ (Happened (SaysYes t caller) later)
+  pub uncounted : ¬ (Happened (Counts caller node) later)
+
+-- the entry, if there is one, is of this change, and doesn't have the node
+abbrev pub LacksCount : Option LastUpdate → ℕ → ℕ → Type 0
+LacksCount None node base = ⊥
+LacksCount (Some last) node base = (last.change ≡ base) × ¬ (Holds last.counted node)
+
+-- the map has the last put or remove of each caller that was decided yes, with the nodes at which it was counted since
+abbrev pub KnowsUpdates : BTreeMap ℕ LastUpdate → Snapshot → Log → Type 0
+KnowsUpdates updates t log =
+    (caller node base : ℕ)
+    → LacksCount (tree.get nat_cmp updates caller) node base ↔ IsUncounted t log caller node base
+
+-- ---- ways
+
+-- the inner row was the logical child in slot i of a linked node
+abbrev pub WasChild : Snapshot → Log → ℕ → ℕ → ℕ → Type 0
+WasChild first log node i child = Ever first (λ t. Linked t node × IsChild t node i child) log
+
+-- each slot that the map names is of a lower node, and of none below the anchor
+abbrev pub Rises : BTreeMap ℕ Slot → Type 0
+Rises slots =
+    (child : ℕ) (slot : Slot) → tree.get nat_cmp slots child ≡ Some slot
+    → (anchor ≤ slot.node) × (slot.node < child)
+
+-- the map has for each node that was linked below the anchor the one slot in which it hung
+pub record KnowsSlots (slots : BTreeMap ℕ Slot) (first : Snapshot) (log : Log) : Type 0 where
+  pub entries : (node i child : ℕ)
+      → (tree.get nat_cmp slots child ≡ Some record { node = node; index = i }) ↔ WasChild first log node i child
+  pub rises : Rises slots
+
+-- the node is linked or was; the keys that lead to it are those from low to high, and the jump is on its chain or the anchor
+pub record IsWay (first : Snapshot) (log : Log) (node : ℕ) (way : Way) : Type 0 where
+  pub linked : WasLinked first log node
+  pub led : (key : ℕ) → key < 2 ^ 64
+      → WasLedTo first log key node ↔ ((way.low ≤ key) × (key ≤ way.high))
+  pub jump : (way.jump ≡ anchor) ⊎ WasOnChain first log node way.jump
+
+-- each way that the map has is one
+abbrev pub KnowsWays : BTreeMap ℕ Way → Snapshot → Log → Type 0
+KnowsWays ways first log =
+    (node : ℕ) (way : Way) → tree.get nat_cmp ways node ≡ Some way → IsWay first log node way
+
+-- ---- changes
+
+-- a change of the caller on the node was decided no
+pub record HasRefusal (t : Snapshot) (caller node : ℕ) : Type 0 where
+  pub base : ℕ
+  pub change : ChangeRow
+  pub published : t.pieces base ≡ Some (Change change)
+  pub owned : change.owner ≡ caller
+  pub on : change.node ≡ node
+  pub refused : change.decision ≡ decided_no
+
+-- the set is that of the callers and nodes of which a change was decided no
+abbrev pub KnowsRefusals : BTreeSet ℕ → Snapshot → Type 0
+KnowsRefusals refused t =
+    (caller node : ℕ) → caller < 2 ^ 64 → node < 2 ^ 64
+    → Holds refused (pair_key caller node) ↔ HasRefusal t caller node
+
+-- the set is that of the started rebuilds
+abbrev pub KnowsStarts : BTreeSet ℕ → Snapshot → Type 0
+KnowsStarts started t = (rebuild : ℕ) → Holds started rebuild ↔ IsStarted t rebuild
+
+-- ---- builds
+
+-- how many builds came up to the caller's last Root, Place or Lose
+abbrev pub seen_builds : Option ℕ → ℕ
+seen_builds None = 0
+seen_builds (Some n) = n
+
+-- the lists are the sizes of the rows of each Root and Place, and the map says from which on no one is the caller's, nor
+-- before a Lose of it
+abbrev pub KnowsBuilds : BTreeMap ℕ ℕ → List (List ℕ) → Log → Type 0
+KnowsBuilds since builds log =
+    (caller : ℕ) (sizes : List ℕ)
+    → Among sizes (drop (seen_builds (tree.get nat_cmp since caller)) builds) ↔ IsBeaten caller sizes log

@@ -1,0 +1,43 @@
+//! Decides of single events whether they may come next behind a log. Nothing here runs beside a
+//! table.
+//!
+//! Read `specs/Lib.antt`, then `replicas.rt` and `pasts.rt`, and the files that decide events:
+//! `entering.rt`, `installing.rt`, `deciding.rt`, `counting.rt`, `marking.rt`, `building.rt` and
+//! `giving_up.rt`. Stands on `ist_core`, `ist_math` and `ist_layout`.
+#![tactic(auto)]
+
+mod building;
+mod climbing;
+mod counting;
+mod deciding;
+mod entering;
+mod fairness;
+mod giving_up;
+mod installing;
+mod kinds;
+mod marking;
+mod naming;
+mod nodes;
+mod pairs;
+mod pasts;
+mod replicas;
+mod rows;
+mod shapes;
+mod shares;
+
+pub use building::can_draw;
+pub use counting::can_count;
+pub use deciding::{can_decide, can_okay, can_resolve};
+pub use entering::{can_enter, can_reserve};
+pub use giving_up::{are_distinct, can_lose};
+pub use installing::can_install;
+pub use marking::{can_finish, can_mark, can_pass};
+pub use naming::{inner_of_word, leaf_of_word, names_nothing, rebuild_of_word};
+pub use nodes::{finished_keys, holds_at, is_open, slot_holds};
+pub use pasts::{LastUpdate, Past, Slot, Way, pair_key};
+pub use replicas::Replica;
+pub use rows::{change_of_words, holds_rows};
+pub use shares::{degree_of, part_len_of};
+
+#[cfg(test)]
+mod tests;

@@ -1,0 +1,99 @@
+-- The state behind an event, as the code takes the event apart. Serves `advancing.rt`.
+use Rattle.std.proofs.Common.{
+  ◌≡◌,
+  ◌∙◌,
+  ℕ,
+  Bool,
+  true,
+  false,
+  List,
+  [],
+  ◌∷◌,
+  Option,
+  Some,
+  None,
+  refl,
+  sym,
+  ap,
+  subst,
+}
+use Rattle.ist_core.specs.declared.pairs.Pair.{Pair}
+use Rattle.ist_core.specs.declared.lists.Row.{Row}
+use Rattle.ist_core.specs.declared.states.ChangeRow.{ChangeRow}
+use Rattle.ist_core.specs.declared.states.RebuildRow.{RebuildRow}
+use Rattle.ist_core.specs.declared.events.Event.{Event}
+use Rattle.ist_core.specs.References.{InnerAt, ref_of}
+use Rattle.ist_core.specs.Pieces.{Pieces, change_of, changed_at, with_slot, with_decision}
+use Rattle.ist_core.specs.Snapshots.{Snapshot, bases_of, without}
+use Rattle.ist_core.specs.After.{after, decision_word, with_change, installed, with_part, placed}
+use Rattle.ist_core.specs.Logs.{Log}
+use Rattle.ist_core.specs.Lawful.{Lawful}
+use Rattle.ist_check_events.specs.declared.replicas.Replica.{Replica}
+use Rattle.ist_check_events.specs.Mirroring.{Mirrors}
+
+-- the event is the one that was matched
+pub by_event : (r : Replica) (t : Snapshot) (e f : Event) → e ≡ f → Mirrors r (after t f)
+    → Mirrors r (after t e)
+by_event r t e f is h = subst (λ x. Mirrors r (after t x)) (sym is) h
+
+-- what is right behind the event that was matched is right behind the event
+pub at_event : (pairs : List Pair) (words : ℕ) (log : Log) (Right : Log → Type 0) (e f : Event) → e
+    ≡ f
+    → Lawful pairs words (e ∷ log) → (Lawful pairs words (f ∷ log) → Right (f ∷ log))
+    → Right (e ∷ log)
+at_event pairs words log Right e f is law right =
+    subst (λ x. Right (x ∷ log)) (sym is) (right (subst (λ x. Lawful pairs words (x ∷ log)) is law))
+
+-- an Install holds as much as before, until its rows are taken away
+pub held_installed : (t : Snapshot) (base : ℕ) (rows : List Row) → (installed t base rows).held
+    ≡ t.held
+held_installed t base [] = refl
+held_installed t base (row ∷ fresh) = at (change_of row.words)
+  where
+    at : (o : Option ChangeRow) → (with_change t base fresh o).held ≡ t.held
+    at None = refl
+    at (Some change) = refl
+
+-- the held rows are taken away from what they were before the Install
+pub installed_given_up : (r : Replica) (t : Snapshot) (base : ℕ) (rows gone : List Row) → gone
+    ≡ rows
+    → Mirrors r (record (installed t base rows) {
+      held = without (bases_of gone)
+          (installed t base rows).held;
+    })
+    → Mirrors r (record (installed t base rows) { held = without (bases_of rows) t.held })
+installed_given_up r t base rows gone same h =
+    subst (λ xs. Mirrors r (record (installed t base rows) { held = without (bases_of rows) xs }))
+    (held_installed t base rows)
+    (subst (λ xs. Mirrors r (record (installed t base rows) {
+      held = without (bases_of xs)
+          (installed t base rows).held;
+    })) same h)
+
+-- the word of a decision
+pub decided_so : (r : Replica) (t : Snapshot) (base word : ℕ) (said : Bool) → word ≡ decision_word
+    said
+    → Mirrors r (record t { pieces = changed_at t.pieces base (with_decision word) })
+    → Mirrors r (record t {
+      pieces = changed_at t.pieces base (with_decision (decision_word said));
+    })
+decided_so r t base word said e h = subst
+    (λ w. Mirrors r (record t { pieces = changed_at t.pieces base (with_decision w) })) e h
+
+pub yes_word : (word : ℕ) (said : Bool) → said ≡ true → word ≡ 1 → word ≡ decision_word said
+yes_word word said e is = is ∙ ap decision_word (sym e)
+
+pub no_word : (word : ℕ) (said : Bool) → said ≡ false → word ≡ 2 → word ≡ decision_word said
+no_word word said e is = is ∙ ap decision_word (sym e)
+
+-- ---- a Place
+
+module _ (r : Replica) (t : Snapshot) (qs : Pieces) (part word : ℕ) (o : Option RebuildRow) where
+  -- the word stands in the slot of the root
+  pub placed_some : (row : RebuildRow) (root : ℕ) → o ≡ Some row → ref_of row.root
+      ≡ Some (InnerAt root)
+      → Mirrors r (record t { pieces = changed_at qs root (with_slot part word) })
+      → Mirrors r (record t { pieces = placed qs o part word })
+  placed_some row root e names h =
+      subst (λ x. Mirrors r (record t { pieces = placed qs x part word })) (sym e)
+      (subst (λ ref. Mirrors r (record t { pieces = with_part qs ref part word })) (sym names) h)

@@ -1,0 +1,117 @@
+-- Where the trees of parts lie within the words of the whole. Serves `opening.rt`.
+use Rattle.std.proofs.Common.{
+  ◌≡◌,
+  ◌∙◌,
+  ◌+◌,
+  ◌-◌,
+  ◌<◌,
+  ◌≤◌,
+  ◌^◌,
+  ℕ,
+  zero,
+  suc,
+  List,
+  length,
+  sym,
+  ap,
+  subst,
+  arith,
+}
+use Rattle.ist_core.specs.declared.pairs.Pair.{Pair}
+use Rattle.ist_core.specs.Arithmetic.{degree, part_len, part_lens}
+use Rattle.ist_core.specs.RowLayout.{first_row, inner_words}
+use Rattle.ist_core.specs.Shapes.{ideal_words}
+use Rattle.ist_core.specs.Lawful.{CanOpen}
+use Rattle.ist_core.proofs.PartLemmas.{sum_of_more, part_len-pos}
+use Rattle.ist_core.proofs.ShapeLemmas.{ideal_words_many}
+use Rattle.ist_core.proofs.WordLemmas.{ideal_words_is}
+use Rattle.ist_check_state.specs.Laying.{words_before, part_base, FitsAt}
+
+-- the trees of one part more
+pub words_before-suc : (n j : ℕ)
+    → words_before n (j + 1) ≡ words_before n j + ideal_words (part_len n j)
+words_before-suc n j = ap (words_before n) (let e : j + 1 ≡ suc j = omega arith in e) ∙ sum_of_more
+    ideal_words n j
+
+-- further parts take no less
+words_before-le : (n j more : ℕ) → words_before n j ≤ words_before n (j + more)
+words_before-le n j zero = let same : j + 0 ≡ j = omega arith in let e = ap (words_before n) same in
+    omega arith
+words_before-le n j (suc more) =
+    let next : j + suc more ≡ j + more + 1 = omega arith in
+    let e = ap (words_before n) next in
+    let one = words_before-suc n (j + more) in
+    let rest = words_before-le n j more in
+    omega arith
+
+-- the tree of the next part begins where this one ends
+pub part_base-suc : (base n j : ℕ)
+    → part_base base n j + ideal_words (part_len n j) ≡ part_base base n (j + 1)
+part_base-suc base n j = let one = words_before-suc n j in omega arith
+
+-- the first one lies behind the inner row
+pub part_base-first : (base n : ℕ) → base + inner_words (degree n) ≡ part_base base n 0
+part_base-first base n = omega arith
+
+-- the last one ends with the words of the whole
+pub part_base-last : (base n : ℕ) → 2 ≤ n → base + ideal_words n ≡ part_base base n (degree n)
+unfolding part_lens
+part_base-last base n two = let whole = ideal_words_many n two in omega arith
+
+-- a tree that fits has few keys
+pub few_fit : (base n : ℕ) → FitsAt base n → n < 2 ^ 28
+few_fit base n fits =
+    let low = fits.behind_fixed in
+    let high = fits.below_limit in
+    let words = ideal_words_is n in
+    omega arith
+
+-- a part fits where the whole does
+pub part_fits : (base n j : ℕ) → 2 ≤ n → j < degree n → FitsAt base n
+    → FitsAt (part_base base n j) (part_len n j)
+part_fits base n j two h fits =
+    let low = fits.behind_fixed in
+    let high = fits.below_limit in
+    let end = part_base-last base n two in
+    let next = part_base-suc base n j in
+    let last : j + 1 + (degree n - (j + 1)) ≡ degree n = omega arith in
+    let most = words_before-le n (j + 1) (degree n - (j + 1)) in
+    let same = ap (words_before n) last in
+    record { behind_fixed = omega arith; below_limit = omega arith }
+
+-- and its base is one of a row
+pub part_base_fits : (base n j : ℕ) → 2 ≤ n → j < degree n → FitsAt base n
+    → part_base base n j < 2 ^ 28
+part_base_fits base n j two h fits =
+    let part = part_fits base n j two h fits in
+    let high = part.below_limit in
+    let some = part_len-pos n j two in
+    let words = ideal_words_is (part_len n j) in
+    omega arith
+
+-- the same of a part that is known by its base and its length
+pub part_fits_at : (base n j at len : ℕ) → 2 ≤ n → j < degree n → FitsAt base n
+    → at ≡ part_base base n j
+    → len ≡ part_len n j → FitsAt at len
+part_fits_at base n j at len two h fits e i =
+    subst (λ b. FitsAt b len) (sym e) (subst (FitsAt (part_base base n j)) (sym i)
+    (part_fits base n j two h fits))
+
+-- the tree of the part before ends where this one begins
+pub part_before : (base n j at len words : ℕ) → 0 < j → at ≡ part_base base n j
+    → len ≡ part_len n (j - 1)
+    → words ≡ ideal_words len → (words ≤ at) × (at - words ≡ part_base base n (j - 1))
+part_before base n j at len words some e i w =
+    let one = part_base-suc base n (j - 1) in
+    let same : j - 1 + 1 ≡ j = omega arith in
+    let here = ap (part_base base n) same in
+    let size = ap ideal_words i in
+    (omega arith, omega arith)
+
+-- the tree of a table that may begin so fits
+pub opens_fit : (pairs : List Pair) (words : ℕ) → CanOpen pairs words
+    → FitsAt first_row (length pairs)
+opens_fit pairs words opens =
+    let room = opens.room in
+    let within = opens.within in
+    record { behind_fixed = omega arith; below_limit = omega arith }

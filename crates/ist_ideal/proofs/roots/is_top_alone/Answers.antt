@@ -1,9 +1,0 @@
-use Rattle.ist_enabled.proofs.AnswerLemmas.{never}
-use Rattle.ist_ideal.proofs.RootLemmas.{no_top_alone}
-use Rattle.ist_ideal.proofs.roots.is_top_alone.Goals as goal
-
-pub returns-in-None-top_slots : goal.returns-in-None-top_slots
-returns-in-None-top_slots c =
-    record {
-      exact = never (no_top_alone c.args.word 0 c.args.leaves.now c.args.target c.args.rows.now c.index-rows-0-in-Some.result c.index-rows-0-in-Some.is c.in-None-top_slots.ensures.exact);
-    }
