@@ -6,7 +6,7 @@ use Rattle.ist_core.specs.References.{ref_of}
 use Rattle.ist_core.specs.Statuses.{finished_word}
 use Rattle.ist_core.specs.Growing.{AllGrow, StatusGoesOn, status_stays, is_marked, is_finished, is_closed}
 use Rattle.ist_core.specs.Rebuilding.{IsStarted, IsFinishedWith}
-use Rattle.ist_core.specs.Fairness.{IsBuilding, AreBuilds, no_build, last_build, stuck_build, IsMerge, at_end, from_left, from_right}
+use Rattle.ist_core.specs.Fairness.{IsBuilding, IsStuck, AreBuilds, no_build, last_build, stuck_build, IsMerge, at_end, from_left, from_right}
 use Rattle.ist_core.proofs.GrowingLemmas.{inner_there, change_there, rebuild_there}
 
 -- the second state came behind the first
@@ -65,6 +65,20 @@ module _ (t u : Snapshot) (b : ComesBehind t u) where
         build = h.build;
       }
 
+  -- what is stuck stays stuck
+  pub stuck_on : (sizes : List ℕ) → IsStuck t sizes → IsStuck u sizes
+  stuck_on sizes s =
+      let size = b.words in
+      let more_used = b.next in
+      let short = s.no_room in
+      record {
+        next_size = s.next_size;
+        rest = s.rest;
+        building =
+            building_on (sizes ++ s.next_size ∷ s.rest) s.building;
+        no_room = omega arith;
+      }
+
   -- builds stay builds, and what is stuck stays stuck
   pub builds_on : (sizes : List ℕ) → AreBuilds t sizes → AreBuilds u sizes
   builds_on _ no_build = no_build
@@ -113,3 +127,12 @@ merge_more _ _ _ size (from_left {sizes = xs} {left = left} {right = right} n m)
     from_left n (merge_more xs left right size m)
 merge_more _ _ _ size (from_right {sizes = xs} {left = left} {right = right} n m) =
     from_right n (merge_more xs left right size m)
+
+-- one more comes last, from the left
+pub merge_first : (xs left right : List ℕ) (size : ℕ) → IsMerge xs left right
+    → IsMerge (xs ++ size ∷ []) (left ++ size ∷ []) right
+merge_first _ _ _ size at_end = from_left size at_end
+merge_first _ _ _ size (from_left {sizes = xs} {left = left} {right = right} n m) =
+    from_left n (merge_first xs left right size m)
+merge_first _ _ _ size (from_right {sizes = xs} {left = left} {right = right} n m) =
+    from_right n (merge_first xs left right size m)

@@ -40,7 +40,7 @@ use Rattle.ist_rows.proofs.CallerLemmas.{IsCallerIn, caller_later}
 -- ---- a caller's seat goes on
 
 -- the state that a seat has seen, where it went on from another
-now_is : (v w : View) → GoesOnTo v w → now w ≡ state_of v.start v.words w.log
+pub now_is : (v w : View) → GoesOnTo v w → now w ≡ state_of v.start v.words w.log
 now_is v w g = ap₂ (λ p n. state_of p n w.log) (ap (λ x. x.start) g.same) (ap (λ x. x.words) g.same)
 
 -- a caller whose seat made loads is a caller
@@ -66,10 +66,11 @@ caller_goes_on who seat c g =
 base_differs : (base x : ℕ) → base ≢ x → (base == x) ≡ false
 base_differs base x ne = ⊎_elim (λ k. absurd (ne k.1)) (λ k. k.0) (eqb_tells base x)
 
-base_same : (base : ℕ) → (base == base) ≡ true
+pub base_same : (base : ℕ) → (base == base) ≡ true
 base_same base = ⊎_elim (λ k. k.0) (λ k. absurd (k.1 refl)) (eqb_tells base base)
 
-or_any : (a : Bool) → (a || true) ≡ true
+-- either test, where the second holds
+pub or_any : (a : Bool) → (a || true) ≡ true
 or_any true = refl
 or_any false = refl
 

@@ -16,7 +16,8 @@ use Rattle.ist_core.proofs.RoomLemmas.{words_same}
 use Rattle.ist_core.proofs.SpendingLemmas.{next-state}
 use Rattle.ist_core.proofs.FateLemmas.{grow_between}
 use Rattle.ist_rule.specs.declared.view.Who.TheVariants.{Caller as CallerOf}
-use Rattle.ist_rule.specs.Authors.{Later, no_more, one_more}
+use Rattle.ist_core.specs.Authors.{no_more, one_more}
+use Rattle.ist_rule.specs.Authors.{Later}
 use Rattle.ist_rule.specs.Rule.{IsSound}
 use Rattle.ist_rule.proofs.LaterLemmas.{later-goes_on}
 use Rattle.ist_rule.proofs.HeldLemmas.{held_later}
@@ -27,7 +28,7 @@ use Rattle.ist_rows.specs.Kinds.{kind_words}
 use Rattle.ist_rows.specs.Rows.{Spares, spares_of, row_of, is_base, is_spare, held_by, build_sizes, IsCaller}
 use Rattle.ist_rows.specs.Fairly.{MayTake}
 use Rattle.ist_rows.proofs.HeldListLemmas.{distinct_filter, distinct_more, held_distinct, held_by_later}
-use Rattle.ist_rows.proofs.BuildLemmas.{ComesBehind, builds_on, merge_filter, merge_more}
+use Rattle.ist_rows.proofs.BuildLemmas.{ComesBehind, builds_on, merge_filter, merge_more, merge_first}
 
 -- the next word never falls along a longer log
 next_later : (pairs : List Pair) (words : ℕ) (number : ℕ) (old log : Log)
@@ -160,7 +161,7 @@ module _ (pairs : List Pair) (words : ℕ) (log : Log) (enabled : EachEnabled (s
             } held.0 (c.rows k.0 h.base k.1) refl),
       )
 
-  few_sizes : (xs : List HeldRow) → ((h : HeldRow) → Among h xs → Among h spares)
+  pub few_sizes : (xs : List HeldRow) → ((h : HeldRow) → Among h xs → Among h spares)
       → Each (λ size. Among size spare_sizes) (map (λ h. h.size) xs)
   few_sizes [] sub = tt
   few_sizes (h ∷ xs) sub =
@@ -181,7 +182,7 @@ module _ (pairs : List Pair) (words : ℕ) (log : Log) (enabled : EachEnabled (s
       let kinds = kind_of_words a.0 b.0 (sym a.2 ∙ same ∙ b.2) in
       some_one g.base h.base (sym a.1 ∙ ap (λ k. row_of k own) kinds ∙ b.1)
 
-  once_each : (xs : List HeldRow) → ((h : HeldRow) → Among h xs → Among h spares)
+  pub once_each : (xs : List HeldRow) → ((h : HeldRow) → Among h xs → Among h spares)
       → Distinct (map (λ h. h.base) xs) → Distinct (map (λ h. h.size) xs)
   once_each [] sub d = tt
   once_each (h ∷ xs) sub d = (
@@ -239,6 +240,30 @@ module _ (pairs : List Pair) (words : ℕ) (log : Log) (enabled : EachEnabled (s
           none_some h.base (sym none ∙ ap (λ k. row_of k own) (kind_of_words kind it.0 (e ∙ it.2)) ∙
           it.1)
       out (h ∷ xs) sub (inr i) = out xs (λ g j. sub g (inr j)) i
+
+  -- a row of a build is fair beside what the caller holds
+  pub fair_inner : (size : ℕ)
+      → AreBuilds (state_of pairs words log)
+      (build_sizes (state_of pairs words log) number own ++ size ∷ [])
+      → IsFair (state_of pairs words log)
+      (sizes_held (state_of pairs words log) number ++ size ∷ [])
+  fair_inner size builds =
+      let sizes = map (λ (h : HeldRow). h.size) spares in
+      let bases = distinct_filter (λ (h : HeldRow). h.base) (λ h. is_spare own h.base)
+      (held_by (state_of pairs words log) number)
+      (distinct_filter (λ (h : HeldRow). h.base) (λ h. h.caller == number)
+      (state_of pairs words log).held (held_distinct pairs words log enabled)) in
+      record {
+        building = build_sizes (state_of pairs words log) number own ++ size ∷ [];
+        spare = sizes;
+        merge = merge_first (map (λ h. h.size) (held_by (state_of pairs words log) number))
+            (build_sizes (state_of pairs words log) number own) sizes size
+            (merge_filter (λ (h : HeldRow). h.size) (λ h. is_spare own h.base)
+            (held_by (state_of pairs words log) number));
+        builds = builds;
+        few = few_sizes spares (λ h i. i);
+        one_each = once_each spares (λ h i. i) bases;
+      }
 
 -- a caller without a row of the kind may take one, whatever others do meanwhile
 pub may_take : (who : Caller) (kind : Kind) → IsSound who.seat.view → IsCaller who

@@ -15,8 +15,8 @@ use Rattle.ist_core.proofs.PlaceLemmas.{placed, claimed_within, next_behind_fixe
 use Rattle.ist_core.specs.Pieces.{Piece, size_of}
 use Rattle.ist_rule.specs.declared.view.View.{View}
 use Rattle.ist_rule.specs.declared.view.Who.TheVariants.{Maker, Caller as CallerOf, Note}
-use Rattle.ist_rule.specs.Authors.{Later}
-use Rattle.ist_rule.specs.Shown.{IsShown, shown_next, shown_callers, shown_status, shown_slot, shown_row, shown_free}
+use Rattle.ist_rule.specs.Authors.{Later, IsIdleIn}
+use Rattle.ist_core.specs.Shown.{IsShown, shown_next, shown_callers, shown_status, shown_slot, shown_row, shown_free}
 use Rattle.ist_rule.specs.Rule.{IsSound}
 use Rattle.ist_rule.specs.Learning.{now, logging, Logged}
 use Rattle.ist_rule.specs.Conditions.{MayCome, CanAdd}
@@ -27,6 +27,7 @@ use Rattle.ist_rows.specs.declared.callers.Caller.{Caller}
 use Rattle.ist_rows.specs.declared.kinds.Kind.{Kind}
 use Rattle.ist_rows.specs.declared.kinds.Kind.TheVariants.{Leaf, Pair, Change, Rebuild}
 use Rattle.ist_rows.specs.Rows.{held_by, spares_of, row_of, is_spare, IsCaller}
+use Rattle.ist_rows.specs.Entering.{HasEntered}
 
 -- ---- what is shown at the fixed places
 
@@ -122,21 +123,14 @@ entered v w found s who l =
 
 -- a maker that has a seat to give gives it to the caller that it entered last
 pub gives_seat : (w : View) → w.who ≡ Maker → w.given < w.made
-    → (split_left w ≡ record w { given = w.given + 1 }) × ((split_right w).who ≡ CallerOf w.given)
-    × ((split_right w).log ≡ w.log)
-    × ((split_right w).start ≡ w.start) × ((split_right w).words ≡ w.words)
+    → (split_left w ≡ record w { given = w.given + 1 })
+    × (split_right w ≡ plain w (CallerOf w.given) [])
 gives_seat w who less =
     let t : nat_lt w.given w.made ≡ true = grind (arith, nat_tests) in
     let is : awaits_seat w ≡ true = ap (λ x. is_maker x && nat_lt w.given w.made) who ∙ t in (
       ap (λ b. if b then record w { given = w.given + 1 } else w) is,
-      ap (λ b. (if b then plain w (CallerOf w.given) [] else plain w (Note (noted_by w.who))
-          w.calls).who) is,
-      ap (λ b. (if b then plain w (CallerOf w.given) [] else plain w (Note (noted_by w.who))
-          w.calls).log) is,
-      ap (λ b. (if b then plain w (CallerOf w.given) [] else plain w (Note (noted_by w.who))
-          w.calls).start) is,
-      ap (λ b. (if b then plain w (CallerOf w.given) [] else plain w (Note (noted_by w.who))
-          w.calls).words) is,
+      ap (λ b. if b then plain w (CallerOf w.given) [] else plain w (Note (noted_by w.who)) w.calls)
+          is,
     )
 
 none_held : (held : List HeldRow) (number : ℕ) → ((h : HeldRow) → Among h held → h.caller ≢ number)
@@ -160,6 +154,33 @@ new_holds_none w number s who above =
     none_held (now w).held number (idle_holds w.start w.words w.log number s.lawful.enabled
     (s.is_true.idle who number above))
 
+-- what the maker that has entered a caller and its seat are, once they are split
+pub record Parts (v : View) (number : ℕ) (left right : View) : Type 0 where
+  pub entered : HasEntered v number left
+  pub seat : right ≡ plain left (CallerOf number) []
+  pub idle : IsIdleIn (CallerOf number) right.log
+  pub held : held_by (now right) number ≡ []
+
+pub parts : (v w : View) (number : ℕ) → v.who ≡ Maker → Logged v (Enter number) w → IsSound w
+    → w.given ≡ number → w.given < w.made → Parts v number (split_left w) (split_right w)
+parts v w number who l s given less =
+    let maker : w.who ≡ Maker = ap (λ x. x.who) l.view ∙ who in
+    let g = gives_seat w maker less in
+    let right : split_right w ≡ plain w (CallerOf number) [] =
+    g.1 ∙ ap (λ n. plain w (CallerOf n) []) given in
+    record {
+      entered = record {
+        before = l.before;
+        later = l.later;
+        view = g.0 ∙ ap (λ (x : View). record x { given = x.given + 1 }) l.view;
+      };
+      seat = right ∙ ap (λ x. plain x (CallerOf number) []) (sym g.0);
+      idle = subst (λ x. IsIdleIn (CallerOf number) x.log) (sym right)
+          (s.is_true.idle maker number (omega arith));
+      held = subst (λ x. held_by (now x) number ≡ []) (sym right)
+          (new_holds_none w number s maker (omega arith));
+    }
+
 no_rows : (kind : Kind) (base : ℕ)
     → row_of kind record { leaf = None; pair = None; change = None; rebuild = None } ≡ Some base → ⊥
 no_rows Leaf base e = cc
@@ -174,13 +195,11 @@ pub new_caller : (w : View) (who : Caller) → IsSound w → w.who ≡ Maker →
     → IsCaller who
 new_caller w who s maker less view number none =
     let g = gives_seat w maker less in
-    let now_is : now who.seat.view ≡ now w =
-    ap now view ∙ ap₂ (λ p n. state_of p n (split_right w).log) g.3 g.4 ∙ ap
-    (state_of w.start w.words) g.2 in
+    let now_is : now who.seat.view ≡ now w = ap now (view ∙ g.1) in
     let held : held_by (now who.seat.view) who.number ≡ [] =
     ap₂ held_by now_is number ∙ new_holds_none w w.given s maker (le_refl w.given) in
     record {
-      mine = ap (λ x. x.who) view ∙ g.1 ∙ ap CallerOf (sym number);
+      mine = ap (λ x. x.who) (view ∙ g.1) ∙ ap CallerOf (sym number);
       rows = λ kind base e. absurd (no_rows kind base (sym (ap (row_of kind) none) ∙ e));
       builds = subst (λ xs. AreBuilds (now who.seat.view)
           (map (λ h. h.size) (filter (λ h. not (is_spare (spares_of who) h.base)) xs))) (sym held)

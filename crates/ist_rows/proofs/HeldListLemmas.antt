@@ -20,14 +20,15 @@ use Rattle.ist_core.proofs.MoveLemmas.{IsSound}
 use Rattle.ist_core.proofs.SoundLemmas.{sound}
 use Rattle.ist_core.proofs.StartLemmas.{sound_start}
 use Rattle.ist_rule.specs.declared.view.Who.TheVariants.{Caller}
-use Rattle.ist_rule.specs.Authors.{author, Later, no_more, one_more}
+use Rattle.ist_core.specs.Authors.{no_more, one_more}
+use Rattle.ist_rule.specs.Authors.{whose, Later}
 use Rattle.ist_rule.proofs.HeldLemmas.{rows_holder, lost_holder, held-resolved}
 use Rattle.ist_rows.specs.Rows.{held_by}
 
 -- ---- lists
 
 -- an element that the test keeps, before others
-filter_here : {A : Type 0} (test : A → Bool) (x : A) (xs : List A) (b : Bool) → test x ≡ b
+pub filter_here : {A : Type 0} (test : A → Bool) (x : A) (xs : List A) (b : Bool) → test x ≡ b
     → filter test (x ∷ xs) ≡ (if b then x ∷ filter test xs else filter test xs)
 filter_here test x xs b e = ap (λ v. if v then x ∷ filter test xs else filter test xs) e
 
@@ -168,7 +169,7 @@ others_without t number bases apart =
 -- what a caller holds stays as a list, where another makes the event
 pub held_by_step : (pairs : List Pair) (words : ℕ) (log : Log) (event : Event) (number : ℕ)
     → EachEnabled (start pairs words) (event ∷ log)
-    → author event ≢ Caller number → held_by (state_of pairs words (event ∷ log)) number
+    → whose event ≢ Caller number → held_by (state_of pairs words (event ∷ log)) number
     ≡ held_by (state_of pairs words log) number
 held_by_step pairs words log event number enabled other = at event enabled.1 other
   where
@@ -195,7 +196,7 @@ held_by_step pairs words log event number enabled other = at event enabled.1 oth
           size = size;
         } [] false k.0) (eqb_tells caller number)
 
-    at : (e : Event) → Enabled (start pairs words) log e → author e ≢ Caller number
+    at : (e : Event) → Enabled (start pairs words) log e → whose e ≢ Caller number
         → held_by (state_of pairs words (e ∷ log)) number ≡ held_by (state_of pairs words log)
         number
     at (Reserve caller base size) can differ =

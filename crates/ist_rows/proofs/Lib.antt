@@ -5,3 +5,9 @@ pub mod ReserveLemmas
 pub mod CallerLemmas
 pub mod CallerGoingLemmas
 pub mod EmptyLemmas
+pub mod BuildingLemmas
+pub mod BuildingCallLemmas
+pub mod HeldBehindLemmas
+pub mod GivenRowsLemmas
+pub mod CallerLawLemmas
+pub mod DropLemmas

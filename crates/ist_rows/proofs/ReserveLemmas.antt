@@ -8,12 +8,13 @@ use Rattle.ist_core.specs.Lawful.{state_of}
 use Rattle.ist_core.proofs.RoomLemmas.{next_within, words_same}
 use Rattle.ist_rule.specs.declared.view.View.{View}
 use Rattle.ist_rule.specs.declared.view.Who.TheVariants.{Caller}
-use Rattle.ist_rule.specs.Shown.{shown_next}
+use Rattle.ist_core.specs.Shown.{shown_next}
 use Rattle.ist_rule.specs.Rule.{IsSound}
 use Rattle.ist_rule.specs.Learning.{now, GoesOnTo, Looked}
 use Rattle.ist_rule.specs.Conditions.{CanExchange}
 use Rattle.ist_rule.proofs.GoingOnLemmas.{callers_later, may_come_before}
-use Rattle.ist_rows.specs.Fairly.{MayTake, number_of, reserving}
+use Rattle.ist_rule.specs.Watching.{number_of}
+use Rattle.ist_rows.specs.Fairly.{MayTake, reserving}
 use Rattle.ist_rows.proofs.EnterLemmas.{shown_next_is}
 
 -- a caller may reserve what is fair and fits, whatever others do meanwhile

@@ -7,9 +7,8 @@ use Rattle.ist_core.specs.Lawful.{state_of}
 use Rattle.ist_core.specs.declared.events.Event.{Event}
 use Rattle.ist_core.specs.declared.events.Event.TheVariants.{Reserve}
 use Rattle.ist_rule.specs.declared.view.View.{View}
-use Rattle.ist_rule.specs.declared.view.Who.{Who}
-use Rattle.ist_rule.specs.declared.view.Who.TheVariants.{Caller}
 use Rattle.ist_rule.specs.Conditions.{MayCome}
+use Rattle.ist_rule.specs.Watching.{number_of}
 
 -- behind each log that may come what the caller holds is fair with a row of this size
 abbrev pub MayTake : View → ℕ → ℕ → Type 0
@@ -19,11 +18,6 @@ MayTake v number size =
     (sizes_held (state_of v.start v.words log) number ++ size ∷ [])
 
 -- ---- naming the event of an exchange
-
--- the number of a caller
-abbrev pub number_of : Who → ℕ
-number_of (Caller number) = number
-number_of _ = 0
 
 -- the reserving that an exchange of the first word is
 abbrev pub reserving : View → ℕ → ℕ → Event

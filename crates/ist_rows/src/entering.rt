@@ -1,8 +1,12 @@
 //! Entering: one caller more.
 ghost use Rattle.std.specs.Prelude.{◌≡◌, ◌+◌, ◌<◌, ◌-◌, ◌^◌, [], None};
-ghost use Rattle.ist_rule.specs.declared.view.Who.TheVariants.{Maker};
 ghost use Rattle.ist_core.specs.Enabled.{caller_limit};
-ghost use Rattle.ist_rows.specs.Rows.{IsCaller, spares_of, no_spares};
+ghost use Rattle.ist_rule.specs.declared.view.Who.TheVariants.{Maker, Caller as CallerOf};
+ghost use Rattle.ist_rule.specs.Authors.{IsIdleIn};
+ghost use Rattle.ist_rule.specs.Learning.{now};
+ghost use Rattle.ist_rule.specs.Seating.{plain};
+ghost use Rattle.ist_rows.specs.Rows.{IsCaller, spares_of, no_spares, held_by};
+ghost use Rattle.ist_rows.specs.Entering.{HasEntered};
 
 use crate::callers::Caller;
 use ist_layout::CALLERS_PLACE;
@@ -10,7 +14,8 @@ use ist_rule::{TreeSeat, TreeTable, add, know, split};
 
 /// The next caller. Its number is the count of the callers before it.
 ///
-/// The caller holds no row, has made no call, and has seen what the maker has seen.
+/// The caller holds no row, has made no call and no event, and has the maker's start pairs, log and
+/// stamp. The entering is the last event of that log; what else the maker knew is as it was.
 pub fn enter(table: &TreeTable, maker: &mut TreeSeat) -> Caller
     requires same_table { maker.old.table ≡ table.now.table }
     requires maker { maker.old.view.who ≡ Maker }
@@ -21,13 +26,18 @@ pub fn enter(table: &TreeTable, maker: &mut TreeSeat) -> Caller
     ensures maker_table { maker.new.table ≡ table.now.table }
     ensures number { result.number ≡ maker.old.view.made }
     ensures no_rows { spares_of result ≡ no_spares }
+    ensures holds_none { held_by (now result.seat.view) result.number ≡ [] }
+    ensures idle { IsIdleIn (CallerOf result.number) result.seat.view.log }
+    ensures seat { result.seat.view ≡ plain maker.new.view (CallerOf result.number) [] }
     ensures no_calls { result.seat.view.calls ≡ [] }
     ensures in_none { result.seat.view.pending ≡ None }
     ensures seen { result.seat.view.log ≡ maker.new.view.log }
+    ensures entered { HasEntered maker.old.view result.number maker.new.view }
     ensures made { (maker.new.view.who ≡ Maker) × (maker.new.view.made ≡ maker.old.view.made + 1) }
     ensures given { maker.new.view.given ≡ maker.new.view.made }
 {
     know(maker);
+    // Enter. Meets no other's: a table has one maker.
     let number = add(table, maker, CALLERS_PLACE) as u32;
     know(maker);
     let seat = split(table, maker);

@@ -5,13 +5,16 @@
 #![tactic(auto)]
 
 mod callers;
+mod dropping;
 mod entering;
 mod kinds;
+pub mod laws;
 mod reserving;
 #[cfg(test)]
 mod tests;
 
 pub use callers::Caller;
+pub use dropping::drop_pair;
 pub use entering::enter;
 pub use kinds::Kind;
-pub use reserving::{fill, reserve};
+pub use reserving::{fill, reserve, reserve_inner};

@@ -1,16 +1,18 @@
 //! Reserving a row of one's own, and filling it.
-ghost use Rattle.std.specs.Prelude.{◌≡◌, ◌+◌, ◌<◌, ◌≤◌, ◌^◌, IfSome, IfOk, IfErr, Ok};
+ghost use Rattle.std.specs.Prelude.{◌≡◌, ◌+◌, ◌<◌, ◌≤◌, ◌^◌, [], ◌∷◌, IfSome, IfOk, IfErr, Ok};
+ghost use Rattle.ist_core.specs.RowLayout.{inner_words, place_limit};
 ghost use Rattle.ist_rule.specs.declared.view.Who.TheVariants.{Caller as CallerOf};
 ghost use Rattle.ist_rule.specs.Faces.{word_count_of};
 ghost use Rattle.ist_rule.specs.Learning.{storing};
 ghost use Rattle.ist_rows.specs.Kinds.{kind_words};
 ghost use Rattle.ist_rows.specs.Rows.{spares_of, row_of, IsCaller, Reserved, IsFull, IsFresh, IsRefused, HoldsPlace};
+ghost use Rattle.ist_rows.specs.Building.{IsNext, HasTaken, HasRefused};
 ghost use Rattle.ist_rows.specs.Fairly.{MayTake};
 
 use crate::callers::Caller;
 use crate::kinds::Kind;
 use ist_core::Full;
-use ist_layout::NEXT_PLACE;
+use ist_layout::{NEXT_PLACE, inner_words};
 use ist_rule::{TreeSeat, TreeTable, exchange, know, load, store, word_count};
 use std::sync::Wait;
 
@@ -34,6 +36,7 @@ fn take<R: Wait>(
     let words = word_count(table);
     know(seat);
     for _ in rt.forever() {
+        // No event. Meets another caller's Reserve.
         let next = load(table, seat, NEXT_PLACE);
         if next + size > words {
             return Err(Full {
@@ -42,6 +45,7 @@ fn take<R: Wait>(
                 words,
             });
         }
+        // Reserve. Meets another caller's.
         if exchange(table, seat, NEXT_PLACE, next, next + size) == next {
             return Ok(next as u32);
         }
@@ -81,6 +85,36 @@ pub fn reserve<R: Wait>(
     Ok(base)
 }
 
+/// A fresh inner row of this degree, which is the next of the build that the caller is in.
+///
+/// `Full` comes where a load of the first word in this call gave `next` with `next + asked > words`.
+/// The build is refused then: nothing is reserved, and the rows that it has stay held. Retries while
+/// others reserve.
+pub fn reserve_inner<R: Wait>(
+    table: &TreeTable,
+    rt: &R,
+    who: &mut Caller,
+    degree: u64,
+) -> Result<u32, Full>
+    requires same_table { who.old.seat.table ≡ table.now.table }
+    requires caller { IsCaller who.old }
+    requires next { IsNext who.old (inner_words degree) }
+    requires small { degree < place_limit }
+    ensures same_table { who.new.seat.table ≡ table.now.table }
+    ensures caller { IsCaller who.new }
+    ensures number { who.new.number ≡ who.old.number }
+    ensures rows { spares_of who.new ≡ spares_of who.old }
+    ensures reserved { IfOk result (λ base.
+        Reserved who.old.seat.view who.old.number base (inner_words degree) who.new.seat.view) }
+    ensures taken { IfOk result (λ base. HasTaken who.old (inner_words degree ∷ []) who.new) }
+    ensures full { IfErr result (λ full. let asked = inner_words degree in
+        IsFull who.old.seat.view (word_count_of table.now) asked full who.new.seat.view) }
+    ensures refused { IfErr result (λ full. HasRefused who.new) }
+{
+    know(&who.seat);
+    take(table, rt, &mut who.seat, who.number, inner_words(degree))
+}
+
 /// Stores a word into a row that the caller holds, as many places behind its base as `at` says.
 pub fn fill(table: &TreeTable, who: &mut Caller, base: u32, at: u64, word: u64)
     requires same_table { who.old.seat.table ≡ table.now.table }
@@ -92,5 +126,6 @@ pub fn fill(table: &TreeTable, who: &mut Caller, base: u32, at: u64, word: u64)
         who.new ≡ record who.old { seat = record who.old.seat { view = view } } }
 {
     know(&who.seat);
+    // No event. Meets no other's step: the row is its caller's alone.
     store(table, &mut who.seat, u64::from(base) + at, word);
 }

@@ -1,4 +1,4 @@
-//! A worked example, seats that part and meet, and two threads that reserve until the table is full.
+//! A caller that reserves, seats that part and meet, and two threads that reserve until the table is full.
 ghost use Rattle.std.specs.Prelude.{◌≡◌, ◌≤◌, [], IfOk};
 ghost use Rattle.ist_core.specs.RowLayout.{place_limit};
 ghost use Rattle.ist_rule.specs.Rule.{opened_view};
@@ -22,12 +22,12 @@ fn empty_table(alloc: Global, words: usize) -> Result<(TreeTable, TreeSeat), All
 {
     let pairs = Vec::new(alloc);
     let mut image = vec![in alloc; 0; words]?;
-    image[0] = 4;
+    image[NEXT_PLACE as usize] = 4;
     open_table(alloc, image, &pairs)
 }
 
 #[test]
-fn the_worked_example(rt: HostRuntime) -> Result<(), Fail> {
+fn a_caller_reserves_a_leaf_once_and_is_refused_a_change(rt: HostRuntime) -> Result<(), Fail> {
     let (table, mut maker) = empty_table(rt.alloc(), 14)?;
     let mut first = enter(&table, &mut maker);
     let second = enter(&table, &mut maker);

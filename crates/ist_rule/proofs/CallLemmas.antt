@@ -21,16 +21,17 @@ use Rattle.ist_core.specs.Changes.{changes_of, command_of}
 use Rattle.ist_core.specs.Standing.{entries_by}
 use Rattle.ist_rule.specs.declared.view.Pending.{Pending}
 use Rattle.ist_rule.specs.declared.view.Who.TheVariants.{Caller}
-use Rattle.ist_rule.specs.Authors.{author, Later, no_more, one_more}
+use Rattle.ist_core.specs.Authors.{no_more, one_more}
+use Rattle.ist_rule.specs.Authors.{whose, Later}
 use Rattle.ist_rule.specs.Standings.{entries_made, HasMade, IsUndecided, IsBetween, IsAtWork, IsEntered, CallStands}
 use Rattle.ist_rule.proofs.StandingLemmas.{EntriesMove, same_entries, new_entry, entries_move}
 use Rattle.ist_rule.proofs.UndecidedLemmas.{UndecidedComes, undecided_comes, decided_now, none_undecided, resolved_on, was_undecided, now_installed}
 
 -- an event of another installs nothing for the caller
-pub installs_not : (number : ℕ) (event : Event) → author event ≢ Caller number
+pub installs_not : (number : ℕ) (event : Event) → whose event ≢ Caller number
     → (base : ℕ) (rows : List Row)
     → event ≢ Install number base rows
-installs_not number event other base rows e = other (ap author e)
+installs_not number event other base rows e = other (ap whose e)
 
 -- what is known of an Install of the caller: all before is resolved, and a put or remove is the
 -- call's first
@@ -228,7 +229,7 @@ module _ (pairs : List Pair) (words : ℕ) (number : ℕ) (calls : List Call) wh
   -- nothing that others do takes a call further than that
   pub call_by_others : (log : Log) (event : Event) → EachEnabled (start pairs words) (event ∷ log)
       → (o : Option Pending)
-      → author event ≢ Caller number
+      → whose event ≢ Caller number
       → CallStands pairs words log number calls o
       → CallStands pairs words (event ∷ log) number calls o
   call_by_others log event enabled o other b =

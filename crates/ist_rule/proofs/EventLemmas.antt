@@ -1,35 +1,18 @@
 -- What one event does to the number of callers and to what callers hold. Serves what the rule says
 -- of other seats.
-use Rattle.std.proofs.Common.{◌≡◌, ◌≢◌, ℕ, ◌≤◌, List, [], ◌∷◌, Option, Some, None, refl, sym, subst, arith}
+use Rattle.std.proofs.Common.{◌≡◌, ◌≢◌, ℕ, ◌≤◌, [], ◌∷◌, Option, refl, sym, subst, arith}
 use Rattle.ist_core.specs.declared.events.Event.{Event}
 use Rattle.ist_core.specs.declared.events.Event.TheVariants.{Enter, Reserve, Install, Okay, Decide, Resolve, Count, Mark, Pass, Finish, Root, Draw, Place, Lose}
-use Rattle.ist_core.specs.declared.lists.Row.{Row}
-use Rattle.ist_core.specs.declared.states.ChangeRow.{ChangeRow}
-use Rattle.ist_core.specs.Pieces.{as_change, change_of}
+use Rattle.ist_core.specs.Pieces.{as_change}
 use Rattle.ist_core.specs.Snapshots.{Snapshot, HoldsRows}
-use Rattle.ist_core.specs.After.{with_change, installed, resolved}
 use Rattle.ist_core.specs.Logs.{Log, state}
 use Rattle.ist_core.specs.Enabled.{Enabled}
 use Rattle.ist_core.specs.Writing.{published_by}
+use Rattle.ist_core.proofs.CallerLemmas.{callers-installed, callers-resolved}
 use Rattle.ist_rule.specs.declared.view.Who.TheVariants.{Maker, Caller, Note}
-use Rattle.ist_rule.specs.Authors.{author}
+use Rattle.ist_rule.specs.Authors.{whose}
 use Rattle.ist_rule.specs.Rule.{IsNamed}
 use Rattle.ist_rule.specs.Learning.{made_behind}
-
-callers-with_change : (t : Snapshot) (base : ℕ) (fresh : List Row) (change : Option ChangeRow)
-    → (with_change t base fresh change).callers ≡ t.callers
-callers-with_change t base fresh None = refl
-callers-with_change t base fresh (Some change) = refl
-
-callers-installed : (t : Snapshot) (base : ℕ) (rows : List Row)
-    → (installed t base rows).callers ≡ t.callers
-callers-installed t base [] = refl
-callers-installed t base (row ∷ fresh) = callers-with_change t base fresh (change_of row.words)
-
-callers-resolved : (t : Snapshot) (change : Option ChangeRow)
-    → (resolved t change).callers ≡ t.callers
-callers-resolved t None = refl
-callers-resolved t (Some change) = refl
 
 -- an Enter adds a caller, and no other event does
 pub callers-state : (first : Snapshot) (log : Log) (event : Event)
@@ -70,8 +53,8 @@ made_behind-grows (Lose caller bases) made = omega arith
 
 -- an event is an Enter, which is the maker's, or is a caller's and adds no caller
 pub data Authored (event : Event) : Type 0 where
-  by_maker : (caller : ℕ) → event ≡ Enter caller → author event ≡ Maker → Authored event
-  by_caller : (caller : ℕ) → author event ≡ Caller caller
+  by_maker : (caller : ℕ) → event ≡ Enter caller → whose event ≡ Maker → Authored event
+  by_caller : (caller : ℕ) → whose event ≡ Caller caller
       → ((made : ℕ) → made_behind event made ≡ made) → Authored event
 
 pub authored : (event : Event) → Authored event
@@ -91,19 +74,19 @@ authored (Place caller rebuild i word rows) = by_caller caller refl (λ made. re
 authored (Lose caller bases) = by_caller caller refl (λ made. refl)
 
 -- whose event it is has a name
-pub author_named : (event : Event) → IsNamed (author event)
+pub author_named : (event : Event) → IsNamed (whose event)
 author_named event = at (authored event)
   where
-    at : Authored event → IsNamed (author event)
+    at : Authored event → IsNamed (whose event)
     at (by_maker caller is who) = subst IsNamed (sym who) tt
     at (by_caller caller who same) = subst IsNamed (sym who) tt
 
 -- no event is a note's
-pub author_no_note : (event : Event) (of : Option ℕ) → author event ≢ Note of
+pub author_no_note : (event : Event) (of : Option ℕ) → whose event ≢ Note of
 author_no_note event of e = subst IsNamed e (author_named event)
 
 -- only the maker's event adds a caller
-pub made_by_others : (event : Event) (made : ℕ) → author event ≢ Maker
+pub made_by_others : (event : Event) (made : ℕ) → whose event ≢ Maker
     → made_behind event made ≡ made
 made_by_others event made ne = at (authored event)
   where
@@ -114,10 +97,10 @@ made_by_others event made ne = at (authored event)
 -- the author of the event holds the rows that it publishes
 pub record Published (t : Snapshot) (event : Event) : Type 0 where
   pub caller : ℕ
-  pub author_is : author event ≡ Caller caller
+  pub author_is : whose event ≡ Caller caller
   pub held : HoldsRows t caller (published_by event)
 
--- an event publishes no row, or its author holds those that it publishes
+-- an event publishes no row, or its whose holds those that it publishes
 pub data Publishes (t : Snapshot) (event : Event) : Type 0 where
   publishes_none : published_by event ≡ [] → Publishes t event
   publishes_held : Published t event → Publishes t event

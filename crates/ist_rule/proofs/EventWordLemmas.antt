@@ -23,7 +23,7 @@ use Rattle.ist_core.proofs.RoomLemmas.{words-state}
 use Rattle.ist_core.proofs.ImageStepLemmas.{image_step}
 use Rattle.ist_rule.specs.declared.view.View.{View}
 use Rattle.ist_rule.specs.declared.view.Who.TheVariants.{Caller}
-use Rattle.ist_rule.specs.Authors.{author}
+use Rattle.ist_rule.specs.Authors.{whose}
 use Rattle.ist_rule.specs.Rule.{own_at, Owns}
 use Rattle.ist_rule.specs.Conditions.{StoredAll}
 use Rattle.ist_rule.proofs.ShownLemmas.{IsLoose, held_loose, touch_tight}
@@ -130,7 +130,7 @@ module _ (pairs : List Pair) (words : ℕ) (opens : CanOpen pairs words) (log : 
           (among-append h before.held (record { caller = r.caller; base = r.base; size = r.size }
           ∷ []) j)
 
-  -- the rows that the author publishes stand in the words, where it stored them
+  -- the rows that the whose publishes stand in the words, where it stored them
   rows_stand : (v : View) (caller : ℕ) → v.who ≡ Caller caller → Owns pairs words log image v
       → (rows : List Row)
       → HoldsRows before caller rows → StoredAll v rows → RowsStand image rows
@@ -146,7 +146,7 @@ module _ (pairs : List Pair) (words : ℕ) (opens : CanOpen pairs words) (log : 
   )
 
   -- the words behind an event of the seat are the image of the state behind it
-  pub image_behind : (v : View) → author event ≡ v.who → Owns pairs words log image v
+  pub image_behind : (v : View) → whose event ≡ v.who → Owns pairs words log image v
       → StoredAll v (published_by event)
       → IsImage (state_of pairs words (event ∷ log)) behind
   image_behind v mine owns stored =

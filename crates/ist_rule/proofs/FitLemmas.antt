@@ -14,12 +14,13 @@ use Rattle.ist_core.specs.Installing.{CanInstall}
 use Rattle.ist_core.specs.Lawful.{EachEnabled, state_of}
 use Rattle.ist_core.proofs.SpendingLemmas.{next-state}
 use Rattle.ist_rule.specs.declared.view.View.{View}
-use Rattle.ist_rule.specs.declared.view.Load.{Load}
+use Rattle.ist_core.specs.declared.loads.Load.{Load}
 use Rattle.ist_rule.specs.declared.view.Taken.{Taken}
 use Rattle.ist_rule.specs.declared.view.Pending.{Pending}
 use Rattle.ist_rule.specs.declared.view.Who.TheVariants.{Maker, Caller}
-use Rattle.ist_rule.specs.Authors.{author, Later}
-use Rattle.ist_rule.specs.Rule.{Recalls, IsWellMade, IsTakenBack, IsTrueIn}
+use Rattle.ist_core.specs.Authors.{one_more}
+use Rattle.ist_rule.specs.Authors.{whose, Later}
+use Rattle.ist_rule.specs.Rule.{Recalls, IsMet, IsWellMade, IsTakenBack, IsTrueIn}
 use Rattle.ist_rule.specs.Standings.{StandsInPrefix, HasMade}
 use Rattle.ist_rule.specs.Learning.{made_behind, logging}
 use Rattle.ist_rule.specs.Conditions.{MayInstall, SeatAllows}
@@ -68,11 +69,11 @@ well_made_on pairs words v log on w =
           (λ load _ r. recalls_on pairs words v.log log load on r) w.recalls;
       in_order = w.in_order;
       since = omega arith;
-      olds = each_map (λ old. GoesOn old v.log) (λ old. GoesOn old log) v.olds
-          (λ old _ g. goes_on_more g on) w.olds;
-      taken_stand = each_map (λ t. StandsInPrefix pairs words v.log t.number t.calls)
-          (λ t. StandsInPrefix pairs words log t.number t.calls) v.taken
-          (λ t _ s. stands_on pairs words v.log log t.number t.calls on s) w.taken_stand;
+      olds = each_map (IsMet v.log) (IsMet log) v.olds
+          (λ met _ m. record { later = m.later; seen = goes_on_more m.seen on }) w.olds;
+      taken_stand = w.taken_stand;
+      taken_seen = each_map (λ t. GoesOn t.log v.log) (λ t. GoesOn t.log log) v.taken
+          (λ t _ g. goes_on_more g on) w.taken_seen;
       taken_once = w.taken_once;
       taken_given = w.taken_given;
       maker_takes = w.maker_takes;
@@ -92,7 +93,7 @@ module _ (pairs : List Pair) (words : ℕ) (log : Log) (event : Event)
   next_grows = let more = next-state (start pairs words) log event enabled.1 in omega arith
 
   -- callers that were taken back, where others make the event
-  taken_behind : (taken : List Taken) → Each (λ t. author event ≢ Caller t.number) taken
+  taken_behind : (taken : List Taken) → Each (λ t. whose event ≢ Caller t.number) taken
       → Each (IsTakenBack pairs words log) taken
       → Each (IsTakenBack pairs words (event ∷ log)) taken
   taken_behind [] out all = tt
@@ -102,14 +103,15 @@ module _ (pairs : List Pair) (words : ℕ) (log : Log) (event : Event)
       between =
           between_on pairs words t.number t.calls log event enabled
           (installs_not t.number event out.0) all.0.between;
+      later = one_more event all.0.later out.0;
     },
     taken_behind more out.1 all.1,
   )
 
   -- the view of another seat
-  pub true_of_others : (v : View) → author event ≢ v.who
-      → (v.who ≡ Maker → (number : ℕ) → v.given ≤ number → author event ≢ Caller number)
-      → Each (λ t. author event ≢ Caller t.number) v.taken
+  pub true_of_others : (v : View) → whose event ≢ v.who
+      → (v.who ≡ Maker → (number : ℕ) → v.given ≤ number → whose event ≢ Caller number)
+      → Each (λ t. whose event ≢ Caller t.number) v.taken
       → IsTrueIn pairs words log v → IsTrueIn pairs words (event ∷ log) v
   true_of_others v other unseated out t =
       record {
@@ -165,7 +167,7 @@ module _ (pairs : List Pair) (words : ℕ) (log : Log) (event : Event)
   maker_no_caller number e = cc
 
   -- the maker's event is an Enter, and all callers had their seats
-  made_by_maker : (v : View) → author event ≡ v.who → v.who ≡ Maker → SeatAllows v event
+  made_by_maker : (v : View) → whose event ≡ v.who → v.who ≡ Maker → SeatAllows v event
       → (made_behind event v.made ≡ v.made + 1) × (v.given ≡ v.made)
       × ((made : ℕ) → made_behind event made ≡ made + 1)
   made_by_maker v mine who allows = at (authored event)
@@ -180,9 +182,9 @@ module _ (pairs : List Pair) (words : ℕ) (log : Log) (event : Event)
       at (by_caller caller a same) = absurd (maker_no_caller caller (sym who ∙ sym mine ∙ a))
 
   -- the view of the seat that made the event
-  pub true_of_own : (v : View) → author event ≡ v.who → Later v.who v.log log → v.start ≡ pairs
+  pub true_of_own : (v : View) → whose event ≡ v.who → Later v.who v.log log → v.start ≡ pairs
       → v.words ≡ words
-      → SeatAllows v event → Each (λ t. author event ≢ Caller t.number) v.taken
+      → SeatAllows v event → Each (λ t. whose event ≢ Caller t.number) v.taken
       → IsTrueIn pairs words log v → IsTrueIn pairs words (event ∷ log) (logging v log event)
   true_of_own v mine later start_is words_is allows out t =
       record {

@@ -6,7 +6,6 @@ use mathlib.Core.Option.{Option, some, some-injective, some-ne-none}
 use lib.ListN.{get_elem?}
 use Rattle.atomic_table.specs.Table as T
 use Rattle.atomic_table.proofs.Lists.{at_set}
-use Rattle.ist_core.specs.declared.events.Event.{Event}
 use Rattle.ist_core.specs.Elements.{Each}
 use Rattle.ist_core.specs.Images.{IsImage}
 use Rattle.ist_core.specs.Logs.{Log}
@@ -14,28 +13,13 @@ use Rattle.ist_core.specs.Lawful.{Lawful, state_of}
 use Rattle.ist_rule.specs.declared.view.View.{View}
 use Rattle.ist_rule.specs.declared.view.About.{About}
 use Rattle.ist_rule.specs.declared.view.Taken.{Taken}
-use Rattle.ist_rule.specs.declared.view.Who.{Who}
 use Rattle.ist_rule.specs.declared.view.Who.TheVariants.{Maker, Caller, Spent}
-use Rattle.ist_rule.specs.Authors.{author, Later, one_more}
 use Rattle.ist_rule.specs.Rule.{IsNamed, HasView, IsRetired, Fits, Kept}
 use Rattle.ist_rule.proofs.FitLemmas.{each_map}
 
 -- the table as the rule sees it
 abbrev pub Table : Type 0
 Table = T.State (Unit {0}) View
-
--- ---- logs
-
--- the log stays, or goes on by one event of this one
-pub data LogGoes (who : Who) (old : Log) : Log → Type 0 where
-  as_it_was : LogGoes who old old
-  by_event : (event : Event) → author event ≡ who → LogGoes who old (event ∷ old)
-
--- what another has seen has all its events still
-pub later_goes : {who other : Who} {seen old new : Log} → LogGoes who old new → who ≢ other
-    → Later other seen old → Later other seen new
-later_goes as_it_was differ l = l
-later_goes (by_event event mine) differ l = one_more event l (λ e. differ (sym mine ∙ e))
 
 -- ---- one seat has a new view
 
@@ -55,18 +39,17 @@ was vs id v w mine who given i u at =
     (λ t. (u, t.1, refl, le_refl u.given))
     (at_set vs id i w u at)
 
--- a seat's new view, a log that went on by its event or stayed, and words that are its image
+-- a seat's new view, a lawful log, and words that are its image
 unfoldable pub moved : (k : About) (s : Table) (r : Kept k s) (id : ℕ) (v w : View)
     (homes : List (Option (Unit {0})))
     → HasView s id v → v.who ≢ Spent → w.who ≡ v.who → v.given ≤ w.given
-    → (log : Log) (words : List ℕ) → LogGoes v.who r.log log
-    → Lawful k.start.value.items k.words log
+    → (log : Log) (words : List ℕ) → Lawful k.start.value.items k.words log
     → IsImage (state_of k.start.value.items k.words log) words
     → ((i : ℕ) (u : View) → HasView s i u → u.who ≢ Spent → (IsNamed v.who → u.who ≢ v.who)
     → Fits k r.log s.words u → Fits k log words u)
-    → Fits k log words w → Each (IsRetired s log w) w.taken
+    → Fits k log words w → Each (IsRetired s) w.taken
     → Kept k (record { words = words; homes = homes; views = slice_set s.views id w })
-moved k s r id v w homes mine live who given log words goes lawful image others own retired =
+moved k s r id v w homes mine live who given log words lawful image others own retired =
     record {
       log = log;
       lawful = lawful;
@@ -86,29 +69,21 @@ moved k s r id v w homes mine live who given log words goes lawful image others 
           λ j x bt is. let p = was s.views id v w mine who given j x bt in old j p.0 p.1 (p.2 ∙ is);
       retired = λ i u at alive.
           ⊎_elim
-          (λ t. subst (λ x. Each (IsRetired
-          (record { words = words; homes = homes; views = slice_set s.views id w }) log x)
-          x.taken) t.1
-          (each_map (IsRetired s log w) (IsRetired
-          (record { words = words; homes = homes; views = slice_set s.views id w }) log w)
-          w.taken (λ x _ q. record { seen = q.seen; seatless = without x q.seatless }) retired))
-          (λ t. each_map (IsRetired s r.log u)
-          (IsRetired (record { words = words; homes = homes; views = slice_set s.views id w })
-          log u) u.taken
-          (λ x _ q. record {
-            seen = later_goes goes (q.seatless id v mine) q.seen;
-            seatless =
-                without x q.seatless;
-          }) (r.retired i u t.1 alive))
+          (λ t. subst (λ x. Each (IsRetired after) x.taken) t.1
+          (each_map (IsRetired s) (IsRetired after) w.taken (λ x _ q. without x q) retired))
+          (λ t. each_map (IsRetired s) (IsRetired after) u.taken (λ x _ q. without x q)
+          (r.retired i u t.1 alive))
           (at_set s.views id i w u at);
     }
   where
+    after : Table
+    after = record { words = words; homes = homes; views = slice_set s.views id w }
+
     -- a caller that had no seat has none
-    without : (t : Taken) → ((i : ℕ) (u : View) → HasView s i u → u.who ≢ Caller t.number)
-        → (i : ℕ) (u : View) → get_elem? (slice_set s.views id w) i ≡ some u
-        → u.who ≢ Caller t.number
-    without t none i u at is = let o =
-        was s.views id v w mine who given i u at in none i o.0 o.1 (o.2 ∙ is)
+    without : (t : Taken) → IsRetired s t → (i : ℕ) (u : View)
+        → get_elem? (slice_set s.views id w) i ≡ some u → u.who ≢ Caller t.number
+    without t none i u at is =
+        let o = was s.views id v w mine who given i u at in none i o.0 o.1 (o.2 ∙ is)
 
 -- ---- a new seat
 
@@ -153,26 +128,22 @@ grown k s r u fits none new not unborn untaken =
           (at_end s.views u v i at);
       retired = λ i v at live.
           ⊎_elim
-          (λ a. both v v.taken (r.retired i v a live) (untaken i v a live))
-          (λ a. subst (λ x. Each (IsRetired after r.log x) x.taken) a.0
-          (subst (Each (IsRetired after r.log u)) (sym none) tt))
+          (λ a. both v.taken (r.retired i v a live) (untaken i v a live))
+          (λ a. subst (λ x. Each (IsRetired after) x.taken) a.0
+          (subst (Each (IsRetired after)) (sym none) tt))
           (at_end s.views u v i at);
     }
   where
     after : Table
     after = record { words = s.words; homes = s.homes; views = s.views ++ u ∷ [] }
 
-    both : (v : View) (taken : List Taken) → Each (IsRetired s r.log v) taken
-        → Each (λ t. u.who ≢ Caller t.number) taken → Each (IsRetired after r.log v) taken
-    both v [] a b = tt
-    both v (t ∷ more) a b = (
-      record {
-        seen = a.0.seen;
-        seatless =
-            λ j x bt. ⊎_elim (λ c. a.0.seatless j x c) (λ c is. b.0 (ap (λ y. y.who) c.0 ∙ is))
-            (at_end s.views u x j bt);
-      },
-      both v more a.1 b.1,
+    both : (taken : List Taken) → Each (IsRetired s) taken
+        → Each (λ t. u.who ≢ Caller t.number) taken → Each (IsRetired after) taken
+    both [] a b = tt
+    both (t ∷ more) a b = (
+      (λ j x bt. ⊎_elim (λ c. a.0 j x c) (λ c is. b.0 (ap (λ y. y.who) c.0 ∙ is))
+          (at_end s.views u x j bt)),
+      both more a.1 b.1,
     )
 
 -- ---- a seat that is joined away
@@ -204,18 +175,14 @@ ended k s r id u dead =
           (at_set s.views id i u v at);
       retired = λ i v at live.
           ⊎_elim (λ a. absurd (live (ap (λ x. x.who) (sym a.1) ∙ dead)))
-          (λ a. each_map (IsRetired s r.log v)
-          (IsRetired (record {
-            words = s.words;
-            homes = s.homes;
-            views =
-                slice_set s.views id u;
-          }) r.log v) v.taken
-          (λ t _ q. record { seen = q.seen; seatless = without t.number q.seatless })
+          (λ a. each_map (IsRetired s) (IsRetired after) v.taken (λ t _ q. without t.number q)
           (r.retired i v a.1 live))
           (at_set s.views id i u v at);
     }
   where
+    after : Table
+    after = record { words = s.words; homes = s.homes; views = slice_set s.views id u }
+
     without : (number : ℕ) → ((i : ℕ) (w : View) → HasView s i w → w.who ≢ Caller number)
         → (i : ℕ) (w : View) → get_elem? (slice_set s.views id u) i ≡ some w → w.who ≢ Caller number
     without number none i w at is =

@@ -25,7 +25,8 @@ use Rattle.ist_core.proofs.SoundLemmas.{sound, moves_or_reserves}
 use Rattle.ist_core.proofs.StartLemmas.{sound_start}
 use Rattle.ist_core.specs.Pieces.{as_change}
 use Rattle.ist_rule.specs.declared.view.Who.TheVariants.{Caller}
-use Rattle.ist_rule.specs.Authors.{author, Later, no_more, one_more, IsIdleIn}
+use Rattle.ist_core.specs.Authors.{no_more, one_more}
+use Rattle.ist_rule.specs.Authors.{whose, Later, IsIdleIn}
 use Rattle.ist_rule.specs.Standings.{IsBetween}
 use Rattle.ist_rule.proofs.ChangeLemmas.{NoChange}
 use Rattle.ist_rule.proofs.CallLemmas.{installs_not, between_on}
@@ -80,7 +81,7 @@ held-resolved t (Some change) = refl
 -- a held row stays where another makes the event
 pub held_by_others : (first : Snapshot) (log : Log) (event : Event) → Enabled first log event
     → IsSound (state first log) → (h : HeldRow)
-    → Among h (state first log).held → author event ≢ Caller h.caller
+    → Among h (state first log).held → whose event ≢ Caller h.caller
     → Among h (state first (event ∷ log)).held
 held_by_others first log (Install caller change rows) can s h i other =
     ⊎_elim (λ k. k) (λ b. absurd (other
@@ -134,7 +135,7 @@ idle_holds pairs words (event ∷ log) number enabled idle h i is =
     ⊎_elim
     (λ m. idle_holds pairs words log number enabled.0 idle.1 h (m.kept h i) is)
     (λ r. ⊎_elim (λ old. idle_holds pairs words log number enabled.0 idle.1 h old is)
-    (λ new. ⊎_elim (λ e. idle.0 (ap author r.is ∙ ap Caller (sym (ap (λ x. x.caller) e) ∙ is)))
+    (λ new. ⊎_elim (λ e. idle.0 (ap whose r.is ∙ ap Caller (sym (ap (λ x. x.caller) e) ∙ is)))
     (λ n. absurd n) new)
     (among-append h (state_of pairs words log).held
     (record { caller = r.caller; base = r.base; size = r.size } ∷ [])

@@ -14,11 +14,13 @@ use Rattle.ist_rule.specs.declared.view.Who.{Who}
 use Rattle.ist_rule.specs.declared.view.Who.TheVariants.{Maker, Caller, Note, Spent}
 use Rattle.ist_rule.specs.Authors.{Later}
 use Rattle.ist_rule.specs.Standings.{StandsInPrefix, CallStands}
-use Rattle.ist_rule.specs.Rule.{Keeps, its_own, IsNamed, IsWellMade, IsTakenBack, IsRetired, HasView, Fits, Kept}
+use Rattle.ist_rule.specs.Rule.{KeepsCalls, its_own, IsNamed, IsMet, IsWellMade, IsTakenBack, IsRetired, HasView, Fits, Kept}
+use Rattle.ist_rule.specs.Learning.{Looked}
 use Rattle.ist_rule.specs.Seating.{longer, with_taken, joined, gone, CanJoin}
-use Rattle.ist_rule.proofs.LaterLemmas.{later-goes_on, goes_on_length, between, later_longer}
-use Rattle.ist_rule.proofs.FitLemmas.{each_map, stands_on, well_made_on}
-use Rattle.ist_rule.proofs.FrameLemmas.{Table, as_it_was, moved, ended, spent_caller}
+use Rattle.ist_rule.proofs.LaterLemmas.{goes_on_more, later-goes_on, goes_on_length, between, later_more, later_longer, later_before, later_any}
+use Rattle.ist_rule.proofs.EventLemmas.{author_no_note}
+use Rattle.ist_rule.proofs.FitLemmas.{each_map, well_made_on}
+use Rattle.ist_rule.proofs.FrameLemmas.{Table, moved, ended, spent_caller}
 
 -- ---- lists
 
@@ -87,11 +89,12 @@ module _ (k : About) (s : Table) (r : Kept k s) (id other : ℕ) (v w : View) (l
 
   -- what is asked of the callers that were taken back, with one that is joined now
   with_one : (P : Taken → Type 0) → Each P v.taken
-      → ((number : ℕ) → w.who ≡ Caller number → P (record { number = number; calls = w.calls }))
+      → ((number : ℕ) → w.who ≡ Caller number
+      → P (record { number = number; calls = w.calls; log = w.log }))
       → Each P both.taken
   with_one P all one = at w.who refl
     where
-      at : (x : Who) → w.who ≡ x → Each P (with_taken x w.calls v.taken)
+      at : (x : Who) → w.who ≡ x → Each P (with_taken x w.calls w.log v.taken)
       at Maker e = all
       at (Caller number) e = (one number e, all)
       at (Note of) e = all
@@ -99,15 +102,16 @@ module _ (k : About) (s : Table) (r : Kept k s) (id other : ℕ) (v w : View) (l
 
   -- a caller whose seat is there was not taken back
   not_taken : (number : ℕ) → w.who ≡ Caller number → (taken : List Taken)
-      → Each (IsRetired s r.log v) taken → ¬ (Among number (map (λ t. t.number) taken))
+      → Each (IsRetired s) taken → ¬ (Among number (map (λ t. t.number) taken))
   not_taken number is [] all i = absurd i
-  not_taken number is (t ∷ more) all (inl e) = all.0.seatless other w theirs (is ∙ ap Caller e)
+  not_taken number is (t ∷ more) all (inl e) = all.0 other w theirs (is ∙ ap Caller e)
   not_taken number is (t ∷ more) all (inr i) = not_taken number is more all.1 i
 
   taken_once : Distinct (map (λ t. t.number) both.taken)
   taken_once = at w.who refl
     where
-      at : (x : Who) → w.who ≡ x → Distinct (map (λ t. t.number) (with_taken x w.calls v.taken))
+      at : (x : Who) → w.who ≡ x
+          → Distinct (map (λ t. t.number) (with_taken x w.calls w.log v.taken))
       at Maker e = f.well_made.taken_once
       at (Caller number) e = (
         not_taken number e v.taken (r.retired id v mine live),
@@ -119,7 +123,7 @@ module _ (k : About) (s : Table) (r : Kept k s) (id other : ℕ) (v w : View) (l
   maker_takes : both.who ≢ Maker → both.taken ≡ []
   maker_takes not = at w.who refl
     where
-      at : (x : Who) → w.who ≡ x → with_taken x w.calls v.taken ≡ []
+      at : (x : Who) → w.who ≡ x → with_taken x w.calls w.log v.taken ≡ []
       at Maker e = f.well_made.maker_takes not
       at (Caller number) e = absurd (not (can.to_maker number e))
       at (Note of) e = f.well_made.maker_takes not
@@ -143,11 +147,14 @@ module _ (k : About) (s : Table) (r : Kept k s) (id other : ℕ) (v w : View) (l
         recalls = m.recalls;
         in_order = m.in_order;
         since = m.since;
-        olds = (logs.0, (logs.1, tt));
-        taken_stand = with_one (λ t. StandsInPrefix k.start.value.items k.words both.log t.number
+        olds = (
+          record { later = later_before f.later logs.0 logs.2; seen = same_log },
+          (record { later = later_before g.later logs.1 logs.2; seen = same_log }, tt),
+        );
+        taken_stand = with_one (λ t. StandsInPrefix k.start.value.items k.words t.log t.number
             t.calls) m.taken_stand
-            (λ number is. stands_on k.start.value.items k.words w.log both.log number w.calls logs.1
-            (h.stands number (subst (Keeps number) (sym is) its_own)));
+            (λ number is. h.stands number (subst (KeepsCalls number) (sym is) its_own));
+        taken_seen = with_one (λ t. GoesOn t.log both.log) m.taken_seen (λ number is. logs.1);
         taken_once = taken_once;
         taken_given = with_one (λ t. t.number < v.given) m.taken_given given_low;
         maker_takes = maker_takes;
@@ -175,6 +182,7 @@ module _ (k : About) (s : Table) (r : Kept k s) (id other : ℕ) (v w : View) (l
                 low = u.low number is;
                 between = subst (CallStands k.start.value.items k.words r.log number w.calls)
                     can.in_none (u.call number is);
+                later = subst (λ x. Later x w.log r.log) is g.later;
               });
         };
       }
@@ -183,24 +191,15 @@ module _ (k : About) (s : Table) (r : Kept k s) (id other : ℕ) (v w : View) (l
   s1 = record { words = s.words; homes = s.homes; views = slice_set s.views other gone }
 
   -- once the other seat is spent, its caller has none
-  retired_both : Each (IsRetired s r.log v) v.taken → Each (IsRetired s1 r.log both) both.taken
+  retired_both : Each (IsRetired s) v.taken → Each (IsRetired s1) both.taken
   retired_both all =
-      with_one (IsRetired s1 r.log both)
-      (each_map (IsRetired s r.log v) (IsRetired s1 r.log both) v.taken
-      (λ t _ q. record {
-        seen = later_longer q.seen logs.2 (goes_on_length logs.0);
-        seatless =
-            seatless t.number q.seatless;
-      }) all)
-      (λ number is. record {
-        seen = later_longer (subst (λ x. Later x w.log r.log) is g.later) logs.2
-            (goes_on_length logs.1);
-        seatless = λ j x at same.
-            ⊎_elim
-            (λ b. spent_caller number (ap (λ y. y.who) b.1 ∙ same))
-            (λ b. b.0 (r.apart other j w x theirs b.1 (subst IsNamed (sym is) tt) (same ∙ sym is)))
-            (at_set s.views other j gone x at);
-      })
+      with_one (IsRetired s1)
+      (each_map (IsRetired s) (IsRetired s1) v.taken (λ t _ q. seatless t.number q) all)
+      (λ number is j x at same.
+      ⊎_elim
+      (λ b. spent_caller number (ap (λ y. y.who) b.1 ∙ same))
+      (λ b. b.0 (r.apart other j w x theirs b.1 (subst IsNamed (sym is) tt) (same ∙ sym is)))
+      (at_set s.views other j gone x at))
     where
       seatless : (number : ℕ) → ((i : ℕ) (x : View) → HasView s i x → x.who ≢ Caller number)
           → (i : ℕ) (x : View) → HasView s1 i x → x.who ≢ Caller number
@@ -220,7 +219,7 @@ module _ (k : About) (s : Table) (r : Kept k s) (id other : ℕ) (v w : View) (l
       (sym (set_set s.views id other both gone (λ e. apart (sym e))))
       (moved k s1 (ended k s r other gone refl) id v both s.homes
       (other_set s.views id other v gone (λ e. apart (sym e)) mine) live refl (le_refl v.given)
-      r.log s.words as_it_was r.lawful r.image
+      r.log s.words r.lawful r.image
       (λ i u at alive _ h. h) fits_both (retired_both (r.retired id v mine live)))
 
 -- a join keeps the rule
@@ -235,3 +234,31 @@ joins k id other v w live live' can s r mine apart there =
 -- the seat is live still
 pub joined_live : (v w : View) → v.who ≢ Spent → (joined v w).who ≢ Spent
 joined_live v w live = live
+
+-- ---- what a join tells
+
+module _ (v w u : View) (word : ℕ) (l : Looked (joined v w) 0 word u) where
+  -- both seats met, and their log is seen
+  met : Each (IsMet u.log) (joined v w).olds
+  met = subst (Each (IsMet u.log)) (ap (λ x. x.olds) l.view) l.sound.well_made.olds
+
+  -- the seat went on by events of others
+  pub joined_later : Later v.who v.log u.log
+  joined_later = later_more met.0.later l.later
+
+  -- and so did the one that was joined to it
+  pub joined_away_later : CanJoin v w → w.who ≢ Spent → Later w.who w.log u.log
+  joined_away_later can live = at w.who refl
+    where
+      taken : Each (IsTakenBack u.start u.words u.log) (joined v w).taken
+      taken = subst (Each (IsTakenBack u.start u.words u.log)) (ap (λ x. x.taken) l.view)
+          l.sound.is_true.taken
+
+      at : (x : Who) → w.who ≡ x → Later x w.log u.log
+      at Maker e = absurd (can.no_maker e)
+      at (Caller number) e =
+          (subst (λ x. Each (IsTakenBack u.start u.words u.log)
+          (with_taken x w.calls w.log v.taken)) e taken).0.later
+      at (Note of) e = later_any (λ event. author_no_note event of)
+          (goes_on_more (later-goes_on met.1.0.later) met.1.0.seen)
+      at Spent e = absurd (live e)

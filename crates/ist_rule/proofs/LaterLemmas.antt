@@ -4,7 +4,8 @@ use Rattle.std.proofs.Common.{◌≢◌, ◌≤◌, length, arith}
 use Rattle.ist_core.specs.declared.events.Event.{Event}
 use Rattle.ist_core.specs.Logs.{Log, GoesOn, same_log, one_event}
 use Rattle.ist_rule.specs.declared.view.Who.{Who}
-use Rattle.ist_rule.specs.Authors.{author, Later, no_more, one_more, IsIdleIn}
+use Rattle.ist_core.specs.Authors.{no_more, one_more}
+use Rattle.ist_rule.specs.Authors.{whose, Later, IsIdleIn}
 
 -- a prefix of a prefix is a prefix
 pub goes_on_more : {a b c : Log} → GoesOn a b → GoesOn b c → GoesOn a c
@@ -40,13 +41,21 @@ later_longer p same_log le = no_more
 later_longer no_more (one_event event q) le = let short = goes_on_length q in absurd (omega arith)
 later_longer (one_more event p ne) (one_event _ q) le = one_more event (later_longer p q le) ne
 
+-- who went on to a log by events of others went on so to each prefix between
+pub later_before : {who : Who} {a b log : Log} → Later who a log → GoesOn a b → GoesOn b log
+    → Later who a b
+later_before p on same_log = p
+later_before no_more on (one_event event q) =
+    let long = goes_on_length on in let short = goes_on_length q in absurd (omega arith)
+later_before (one_more event p ne) on (one_event _ q) = later_before p on q
+
 -- who made no event of a log has seen all of its own behind any prefix
 pub later_idle : {who : Who} {a log : Log} → GoesOn a log → IsIdleIn who log → Later who a log
 later_idle same_log idle = no_more
 later_idle (one_event event p) idle = one_more event (later_idle p idle.1) idle.0
 
 -- the same by those of events that went on
-pub later_any : {who : Who} → ((event : Event) → author event ≢ who) → {a b : Log} → GoesOn a b
+pub later_any : {who : Who} → ((event : Event) → whose event ≢ who) → {a b : Log} → GoesOn a b
     → Later who a b
 later_any none same_log = no_more
 later_any none (one_event event p) = one_more event (later_any none p) (none event)

@@ -3,7 +3,6 @@
 use Rattle.std.proofs.Common.{◌≡◌, ◌≢◌, ℕ, ◌+◌, ◌⊎◌, inl, inr, eqb, slice_index, slice_set, Option, Some, None, refl, sym, ap, ◌∙◌, subst, ⊎_elim}
 use Rattle.std.proofs.lemmas.List.{set-get_or}
 use Rattle.std.proofs.lemmas.Bool.Decides.{eqb_tells}
-use Rattle.std.proofs.lemmas.Option.{get_or_from_slice_get}
 use mathlib.Core.Option as maybe
 use mathlib.Core.Option.{some}
 use prog.Atomic.{either}
@@ -17,16 +16,15 @@ use Rattle.ist_core.specs.Lawful.{state_of}
 use Rattle.ist_rule.specs.declared.view.View.{View}
 use Rattle.ist_rule.specs.declared.view.About.{About}
 use Rattle.ist_rule.specs.declared.view.Who.TheVariants.{Spent}
-use Rattle.ist_rule.specs.Shown.{IsShown}
+use Rattle.ist_core.specs.Shown.{IsShown}
 use Rattle.ist_rule.specs.Rule.{HasView, Kept, IsSound}
 use Rattle.ist_rule.specs.Playing.{Seated, loads_as, exchanges_or_loses}
 use Rattle.ist_rule.specs.Learning.{logging_load, LoggedLoad, Naming, LoadedAs, as_event, as_load, ExchangedOrLost}
 use Rattle.ist_rule.specs.Conditions.{CanMake, LeavesAt, CanLoadAs, CanExchangeOrLose}
-use Rattle.ist_rule.proofs.ShownLemmas.{image_shows}
 use Rattle.ist_rule.proofs.FrameLemmas.{Table}
-use Rattle.ist_rule.proofs.SoundViewLemmas.{as_view, as_table}
+use Rattle.ist_rule.proofs.SoundViewLemmas.{as_table}
 use Rattle.ist_rule.proofs.LookLemmas.{Goes, sees}
-use Rattle.ist_rule.proofs.LogLemmas.{sound_now, kept, logs, shown_there, comes_here, may_come}
+use Rattle.ist_rule.proofs.LogLemmas.{sound_now, kept, logs, shown_here, shown_there, comes_here, may_come}
 
 -- ---- steps that leave the word, and are events
 
@@ -78,10 +76,7 @@ module _ (k : About) (s : Table) (r : Kept k s) (id : ℕ) (me : Seated) (live :
         view = refl;
         sound = sound_now k s r id me live mine event make there.0 s.words (me.0.loaded + 1)
             (words_stay s place _ there.1);
-        stood = as_view k r.log s.words me.0 f (λ p n. (shown : ℕ)
-            → IsShown (state_of p n r.log) place shown → slice_index s.words place ≡ shown)
-            (λ shown is. get_or_from_slice_get s.words place shown 0
-            (image_shows (state_of k.start.value.items k.words r.log) s.words r.image is));
+        stood = shown_here k s r me.0 place f;
       }
 
   pub stays : (tells : ℕ → Seated → Type 0)
@@ -143,7 +138,7 @@ exchanges_or_loses_moves k slots id me place old new events live can s r _ mine 
     (can.hit.comes r.log (may_come k s r v f)
     (subst (IsShown (state_of v.start v.words r.log) place) hit shown)) in
     logs k s r id me live mine events.0 can.hit.make it.0 place old new it.1 tells
-    (λ l. (((λ _. l), (λ miss. absurd (miss hit))), refl)))
+    (λ l _. (((λ _. l), (λ miss. absurd (miss hit))), refl)))
     (λ miss.
     stays k s r id me live mine place events.1 can.make
     (can.miss r.log (may_come k s r v f) x shown miss) tells

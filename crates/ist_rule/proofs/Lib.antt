@@ -21,6 +21,9 @@ pub mod SplitSeatLemmas
 pub mod JoinLemmas
 pub mod OpenLemmas
 pub mod GoingOnLemmas
+pub mod HeldBetweenLemmas
+pub mod WentOnLemmas
+pub mod KeptSearchLemmas
 pub mod WatchLemmas
 pub mod WatchedLoadLemmas
 pub mod KnownPlaceLemmas

@@ -20,18 +20,19 @@ use Rattle.ist_rule.specs.declared.view.View.{View}
 use Rattle.ist_rule.specs.declared.view.Taken.{Taken}
 use Rattle.ist_rule.specs.declared.view.About.{About}
 use Rattle.ist_rule.specs.declared.view.Who.TheVariants.{Caller, Spent}
-use Rattle.ist_rule.specs.Authors.{author, no_more, one_more}
-use Rattle.ist_rule.specs.Shown.{IsShown}
+use Rattle.ist_core.specs.Authors.{no_more, one_more}
+use Rattle.ist_rule.specs.Authors.{whose}
+use Rattle.ist_core.specs.Shown.{IsShown}
 use Rattle.ist_rule.specs.Rule.{IsNamed, IsRetired, Owns, HasView, Fits, Kept, IsSound}
 use Rattle.ist_rule.specs.Playing.{Seated, adds, exchanges}
-use Rattle.ist_rule.specs.Learning.{seeing, logging, Logged, Exchanged}
+use Rattle.ist_rule.specs.Learning.{seeing, logging, Logged, LoggedAdd, Exchanged}
 use Rattle.ist_rule.specs.Conditions.{CanMake, MayCome, ComesAt, IsKnown, CanExchange, CanAdd}
 use Rattle.ist_rule.proofs.LaterLemmas.{later-goes_on}
 use Rattle.ist_rule.proofs.EventLemmas.{author_named}
-use Rattle.ist_rule.proofs.ShownLemmas.{image_shows}
+use Rattle.ist_core.proofs.ShownLemmas.{image_shows}
 use Rattle.ist_rule.proofs.EventWordLemmas.{owns_behind, image_behind}
-use Rattle.ist_rule.proofs.FitLemmas.{each_map, well_made_on, true_of_others, true_of_own}
-use Rattle.ist_rule.proofs.FrameLemmas.{Table, by_event, moved}
+use Rattle.ist_rule.proofs.FitLemmas.{well_made_on, true_of_others, true_of_own}
+use Rattle.ist_rule.proofs.FrameLemmas.{Table, moved}
 use Rattle.ist_rule.proofs.SoundViewLemmas.{as_view, as_table, sound_of}
 use Rattle.ist_rule.proofs.LookLemmas.{Goes, sees}
 
@@ -64,17 +65,17 @@ module _ (k : About) (s : Table) (r : Kept k s) (id : ℕ) (me : Seated) (live :
       g.owns g.is_true.fresh)
 
   -- the callers that were taken back are others
-  taken_by_others : (u : View) (taken : List Taken) → Each (IsRetired s r.log u) taken
-      → Each (λ t. author event ≢ Caller t.number) taken
-  taken_by_others u [] all = tt
-  taken_by_others u (t ∷ more) all =
-      ((λ e. all.0.seatless id v mine (sym make.mine ∙ e)), taken_by_others u more all.1)
+  taken_by_others : (taken : List Taken) → Each (IsRetired s) taken
+      → Each (λ t. whose event ≢ Caller t.number) taken
+  taken_by_others [] all = tt
+  taken_by_others (t ∷ more) all =
+      ((λ e. all.0 id v mine (sym make.mine ∙ e)), taken_by_others more all.1)
 
   -- another seat
   others : (i : ℕ) (u : View) → HasView s i u → u.who ≢ Spent → (IsNamed v.who → u.who ≢ v.who)
       → Fits k r.log s.words u → Fits k log' words' u
   others i u at alive apart g =
-      let other : author event ≢ u.who =
+      let other : whose event ≢ u.who =
       λ e. apart (subst IsNamed make.mine (author_named event)) (sym e ∙ make.mine) in
       record {
         start_is = g.start_is;
@@ -84,7 +85,7 @@ module _ (k : About) (s : Table) (r : Kept k s) (id : ℕ) (me : Seated) (live :
         well_made = g.well_made;
         is_true = true_of_others k.start.value.items k.words r.log event enabled' u other
             (λ is number above e. r.unborn i u at is number above id v mine (sym make.mine ∙ e))
-            (taken_by_others u u.taken (r.retired i u at alive)) g.is_true;
+            (taken_by_others u.taken (r.retired i u at alive)) g.is_true;
       }
 
   abbrev pub w : View
@@ -96,7 +97,7 @@ module _ (k : About) (s : Table) (r : Kept k s) (id : ℕ) (me : Seated) (live :
       (one_event event (later-goes_on f.later)) f.well_made in
       let t = true_of_own k.start.value.items k.words r.log event enabled' v make.mine f.later
       f.start_is f.words_is make.allowed
-      (taken_by_others v v.taken (r.retired id v mine live)) f.is_true in
+      (taken_by_others v.taken (r.retired id v mine live)) f.is_true in
       record {
         start_is = f.start_is;
         words_is = f.words_is;
@@ -110,6 +111,7 @@ module _ (k : About) (s : Table) (r : Kept k s) (id : ℕ) (me : Seated) (live :
           since = m.since;
           olds = m.olds;
           taken_stand = m.taken_stand;
+          taken_seen = m.taken_seen;
           taken_once = m.taken_once;
           taken_given = m.taken_given;
           maker_takes = m.maker_takes;
@@ -131,14 +133,11 @@ module _ (k : About) (s : Table) (r : Kept k s) (id : ℕ) (me : Seated) (live :
 
   pub kept : Kept k (record { words = words'; homes = s.homes; views = slice_set s.views id w })
   kept =
-      moved k s r id v w s.homes mine live refl (le_refl v.given) log' words'
-      (by_event event make.mine) lawful'
+      moved k s r id v w s.homes mine live refl (le_refl v.given) log' words' lawful'
       (subst (IsImage (state_of k.start.value.items k.words log')) words_behind
       (image_behind k.start.value.items k.words r.lawful.opens r.log event enabled' s.words r.image
       v make.mine f.owns make.stored))
-      others fits_own
-      (each_map (IsRetired s r.log v) (IsRetired s log' w) v.taken
-      (λ t _ q. record { seen = no_more; seatless = q.seatless }) (r.retired id v mine live))
+      others fits_own (r.retired id v mine live)
 
 -- a step that writes the word of the event
 module _ (k : About) (s : Table) (r : Kept k s) (id : ℕ) (me : Seated) (live : me.0.who ≢ Spent)
@@ -161,19 +160,31 @@ module _ (k : About) (s : Table) (r : Kept k s) (id : ℕ) (me : Seated) (live :
       }
 
   pub logs : (tells : ℕ → Seated → Type 0)
-      → (Logged me.0 event (logging me.0 r.log event)
+      → ((l : Logged me.0 event (logging me.0 r.log event)) → l.before ≡ r.log
       → tells (slice_index s.words place) (logging me.0 r.log event, me.1))
       → Goes k s place id me tells left
+  unfolding logged
   logs tells told = (
     logging me.0 r.log event,
     keeps,
     tt,
     kept k s r id me live mine event make able
         (slice_set s.words place left) me.0.loaded (ap (touched s.words) touches),
-    told logged,
+    told logged refl,
   )
 
 -- ---- exchanges
+
+-- what the image shows at a place is the word there
+pub shown_here : (k : About) (s : Table) (r : Kept k s) (v : View) (place : ℕ)
+    → Fits k r.log s.words v → (shown : ℕ)
+    → IsShown (state_of v.start v.words r.log) place shown → slice_index s.words place ≡ shown
+shown_here k s r v place f =
+    as_view k r.log s.words v f
+    (λ p n. (shown : ℕ) → IsShown (state_of p n r.log) place shown
+    → slice_index s.words place ≡ shown)
+    (λ shown is. get_or_from_slice_get s.words place shown 0
+    (image_shows (state_of k.start.value.items k.words r.log) s.words r.image is))
 
 -- the word at a known place is what the image shows there
 pub shown_there : (k : About) (s : Table) (r : Kept k s) (v : View) (place : ℕ) → Fits k r.log s.words v
@@ -185,12 +196,8 @@ shown_there k s r v place f known =
       lawful =
           as_view k r.log s.words v f (λ p n. Lawful p n r.log) r.lawful;
     } in
-    let shows = as_table k r.log s.words v f (λ p n. IsShown (state_of p n r.log) place it.0)
-    it.1 in
-    let same : slice_index s.words place ≡ it.0 =
-    get_or_from_slice_get s.words place it.0 0
-    (image_shows (state_of k.start.value.items k.words r.log) s.words r.image shows) in
-    subst (IsShown (state_of v.start v.words r.log) place) (sym same) it.1
+    subst (IsShown (state_of v.start v.words r.log) place)
+    (sym (shown_here k s r v place f it.0 it.1)) it.1
 
 -- what comes behind the longest log
 pub comes_here : (k : About) (s : Table) (r : Kept k s) (v : View) (f : Fits k r.log s.words v)
@@ -238,7 +245,7 @@ exchange_moves k slots id me place old new event then live can told s r _ mine f
     (subst (IsShown (state_of v.start v.words r.log) place) hit
     (shown_there k s r v place f can.known))) in
     logs k s r id me live mine event can.make it.0 place old new it.1 then
-    (λ l. told x (logging v r.log event) ((λ _. l), (λ miss. absurd (miss hit)))))
+    (λ l _. told x (logging v r.log event) ((λ _. l), (λ miss. absurd (miss hit)))))
     (λ miss. sees k s r id me place then live mine fits
     (λ l. told x (seeing v r.log place x) ((λ hit. absurd (miss hit)), (λ _. l))))
 
@@ -246,7 +253,7 @@ exchange_moves k slots id me place old new event then live can told s r _ mine f
 pub add_moves : (k : About) (slots id : ℕ) (me : Seated) (place : ℕ) (named : ℕ → Event) (then : ℕ
     → Seated → Type 0)
     → me.0.who ≢ Spent → CanAdd me.0 place named
-    → ((found : ℕ) (w : View) → Logged me.0 (named found) w → then found (w, me.1))
+    → ((found : ℕ) (w : View) → LoggedAdd me.0 named place found w → then found (w, me.1))
     → Allows (Kept k) slots id me place (λ n. (n + 1) % 2 ^ 64) then
 add_moves k slots id me place named then live can told s r _ mine fits =
     let x : ℕ = slice_index s.words place in
@@ -258,7 +265,11 @@ add_moves k slots id me place named then live can told s r _ mine fits =
     subst (λ y. Goes k s place id me then y)
     (sym (mod-eq_of_lt (can.fits r.log (may_come k s r v f) x shows)))
     (logs k s r id me live mine (named x) (can.make x) it.0 place x (x + 1) it.1 then
-    (λ l. told x (logging v r.log (named x)) l))
+    (λ l at_log. told x (logging v r.log (named x)) record {
+      logged = l;
+      stood = subst (λ log. (shown : ℕ) → IsShown (state_of v.start v.words log) place shown
+          → x ≡ shown) (sym at_log) (shown_here k s r v place f);
+    }))
 
 -- an add that may be made keeps the rule
 pub adds_moves : (k : About) (slots id : ℕ) (me : Seated) (place : ℕ) (named : ℕ → Event)

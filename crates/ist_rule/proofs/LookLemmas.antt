@@ -11,18 +11,19 @@ use Rattle.ist_core.specs.Elements.{Among, Each}
 use Rattle.ist_core.specs.Logs.{Log, same_log}
 use Rattle.ist_core.specs.Lawful.{Lawful, state_of}
 use Rattle.ist_rule.specs.declared.view.View.{View}
-use Rattle.ist_rule.specs.declared.view.Load.{Load}
+use Rattle.ist_core.specs.declared.loads.Load.{Load}
 use Rattle.ist_rule.specs.declared.view.About.{About}
 use Rattle.ist_rule.specs.declared.view.Who.TheVariants.{Caller, Spent}
-use Rattle.ist_rule.specs.Authors.{Later, no_more}
-use Rattle.ist_rule.specs.Shown.{IsShown}
+use Rattle.ist_core.specs.Authors.{no_more}
+use Rattle.ist_rule.specs.Authors.{Later}
+use Rattle.ist_core.specs.Shown.{IsShown}
 use Rattle.ist_rule.specs.Rule.{own_at, Recalls, IsRetired, HasView, Fits, Kept, IsSound}
 use Rattle.ist_rule.specs.Playing.{Seated, looks}
 use Rattle.ist_rule.specs.Learning.{seeing, Looked, Turned}
 use Rattle.ist_rule.proofs.LaterLemmas.{later-goes_on, goes_on_length}
-use Rattle.ist_rule.proofs.ShownLemmas.{image_shows}
+use Rattle.ist_core.proofs.ShownLemmas.{image_shows}
 use Rattle.ist_rule.proofs.FitLemmas.{each_map, well_made_on}
-use Rattle.ist_rule.proofs.FrameLemmas.{Table, as_it_was, moved}
+use Rattle.ist_rule.proofs.FrameLemmas.{Table, moved}
 use Rattle.ist_rule.proofs.SoundViewLemmas.{as_view, sound_of}
 
 -- what is to be given at a step that finds a word at the place and leaves y: a new view under the
@@ -33,22 +34,10 @@ Goes k s place id me then y =
     × Kept k (stepped s place y id me.1 w a)
     × then (slice_index s.words place) (w, carried_after me.1 a)
 
--- the words that are retired to a view that has seen the whole log
-retired_here : (k : About) (s : Table) (r : Kept k s) (id : ℕ) (v : View) → HasView s id v
-    → v.who ≢ Spent → (w : View)
-    → w.taken ≡ v.taken → w.log ≡ r.log → Each (IsRetired s r.log w) w.taken
-retired_here k s r id v mine live w taken log =
-    subst (Each (IsRetired s r.log w)) (sym taken)
-    (each_map (IsRetired s r.log v) (IsRetired s r.log w) v.taken
-    (λ t _ q. record {
-      seen = subst (λ l. Later (Caller t.number) l r.log) (sym log) no_more;
-      seatless = q.seatless;
-    }) (r.retired id v mine live))
-
 -- the seat takes a view that fits, and no word changes
 pub quiet : (k : About) (s : Table) (r : Kept k s) (id : ℕ) (v w : View) → HasView s id v
     → v.who ≢ Spent
-    → w.who ≡ v.who → w.given ≡ v.given → w.taken ≡ v.taken → w.log ≡ r.log → Fits k r.log s.words w
+    → w.who ≡ v.who → w.given ≡ v.given → w.taken ≡ v.taken → Fits k r.log s.words w
     → (place : ℕ)
     → Kept k (record {
       words = slice_set s.words place (slice_index s.words place);
@@ -56,13 +45,13 @@ pub quiet : (k : About) (s : Table) (r : Kept k s) (id : ℕ) (v w : View) → H
           s.homes;
       views = slice_set s.views id w;
     })
-quiet k s r id v w mine live who given taken log f place =
+quiet k s r id v w mine live who given taken f place =
     subst (λ ws. Kept k (record { words = ws; homes = s.homes; views = slice_set s.views id w }))
     (sym (set-get_or s.words place 0))
     (moved k s r id v w s.homes mine live who
-    (subst (λ n. v.given ≤ n) (sym given) (le_refl v.given)) r.log s.words as_it_was r.lawful
+    (subst (λ n. v.given ≤ n) (sym given) (le_refl v.given)) r.log s.words r.lawful
     r.image (λ i u at alive _ g. g) f
-    (retired_here k s r id v mine live w taken log))
+    (subst (Each (IsRetired s)) (sym taken) (r.retired id v mine live)))
 
 -- ---- a load
 
@@ -114,6 +103,7 @@ module _ (k : About) (s : Table) (r : Kept k s) (v : View) (f : Fits k r.log s.w
             since = m.since;
             olds = m.olds;
             taken_stand = m.taken_stand;
+            taken_seen = m.taken_seen;
             taken_once = m.taken_once;
             taken_given = m.taken_given;
             maker_takes = m.maker_takes;
@@ -161,7 +151,7 @@ sees k s r id me place then live mine fits told =
       w k s r me.0 f place,
       keeps,
       tt,
-      quiet k s r id me.0 (w k s r me.0 f place) mine live refl refl refl refl
+      quiet k s r id me.0 (w k s r me.0 f place) mine live refl refl refl
           (fits_seeing k s r me.0 f place) place,
       told (looked k s r me.0 f place live fits),
     )
@@ -203,7 +193,7 @@ turns_moves k slots id me turn then live can told s r _ mine fits =
       w,
       keeps,
       tt,
-      quiet k s r id v w mine live (can.who r.log) (can.given r.log) (can.taken r.log) log g 0,
+      quiet k s r id v w mine live (can.who r.log) (can.given r.log) (can.taken r.log) g 0,
       told (slice_index s.words 0) w record {
         later =
             subst (Later v.who v.log) (sym log) f.later;

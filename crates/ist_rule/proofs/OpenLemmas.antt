@@ -12,15 +12,15 @@ use Rattle.ist_rule.specs.declared.view.View.{View}
 use Rattle.ist_rule.specs.declared.view.About.{About}
 use Rattle.ist_rule.specs.declared.view.Who.{Who}
 use Rattle.ist_rule.specs.declared.view.Who.TheVariants.{Maker, Caller, Spent}
-use Rattle.ist_rule.specs.Authors.{no_more}
-use Rattle.ist_rule.specs.Rule.{Keeps, its_own, noted, IsWellMade, IsTrueIn, IsSound, IsRetired, Fits, Kept, opened_view, first_view}
+use Rattle.ist_core.specs.Authors.{no_more}
+use Rattle.ist_rule.specs.Rule.{KeepsCalls, its_own, noted, IsWellMade, IsTrueIn, IsSound, IsRetired, Fits, Kept, opened_view, first_view}
 use Rattle.ist_rule.specs.Seating.{IsLast}
 use Rattle.ist_rule.proofs.SoundViewLemmas.{as_view}
 
 maker_caller : (number : ℕ) → Maker ≡ Caller number → ⊥
 maker_caller number e = cc
 
-maker_keeps : (number : ℕ) (w : Who) → Keeps number w → w ≡ Maker → ⊥
+maker_keeps : (number : ℕ) (w : Who) → KeepsCalls number w → w ≡ Maker → ⊥
 maker_keeps number _ its_own e = maker_caller number (sym e)
 maker_keeps number _ noted e = absurd (cc)
 
@@ -35,6 +35,7 @@ first_well_made pairs words =
       since = omega arith;
       olds = tt;
       taken_stand = tt;
+      taken_seen = tt;
       taken_once = tt;
       taken_given = tt;
       maker_takes = λ _. refl;
@@ -89,7 +90,7 @@ opens k words can image =
       apart = λ i j u x at bt named same. (only v j x bt).1 ∙ sym (only v i u at).1;
       unborn = λ i u at maker number above j x bt is. maker_caller number
           (sym (ap (λ y. y.who) (sym (only v j x bt).0)) ∙ is);
-      retired = λ i u at live. subst (λ y. Each (IsRetired (opening words [] v) [] y) y.taken)
+      retired = λ i u at live. subst (λ y. Each (IsRetired (opening words [] v)) y.taken)
           (only v i u at).0 tt;
     }
 

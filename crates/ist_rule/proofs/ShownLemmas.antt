@@ -7,7 +7,7 @@ use Rattle.ist_core.specs.declared.lists.HeldRow.{HeldRow}
 use Rattle.ist_core.specs.declared.events.Event.{Event}
 use Rattle.ist_core.specs.RowLayout.{first_row, next_place, callers_place, anchor_status_place, anchor_slot_place}
 use Rattle.ist_core.specs.Elements.{Among}
-use Rattle.ist_core.specs.Pieces.{Piece, words_of, size_of}
+use Rattle.ist_core.specs.Pieces.{Piece, size_of}
 use Rattle.ist_core.specs.Snapshots.{Snapshot}
 use Rattle.ist_core.specs.StartLayout.{start}
 use Rattle.ist_core.specs.Images.{IsImage}
@@ -16,25 +16,11 @@ use Rattle.ist_core.specs.Writing.{Touch, touch_of}
 use Rattle.ist_core.specs.Logs.{Log}
 use Rattle.ist_core.specs.Enabled.{Enabled}
 use Rattle.ist_core.specs.Lawful.{EachEnabled, CanOpen, state_of}
-use Rattle.ist_core.proofs.ImageLemmas.{get_below}
 use Rattle.ist_core.proofs.SlotLemmas.{get-set_same, get-set_other}
 use Rattle.ist_core.proofs.PlaceLemmas.{placed, claimed_within, claimed_apart, no_piece}
 use Rattle.ist_core.proofs.SoundLemmas.{sound}
 use Rattle.ist_core.proofs.StartLemmas.{sound_start}
 use Rattle.ist_core.proofs.TouchLemmas.{touches}
-use Rattle.ist_rule.specs.Shown.{IsShown, shown_next, shown_callers, shown_status, shown_slot, shown_row, shown_free}
-
--- the image has each word that is shown
-pub image_shows : (t : Snapshot) (image : List ℕ) → IsImage t image → {place word : ℕ}
-    → IsShown t place word
-    → slice_get image place ≡ Some word
-image_shows t image is shown_next = is.next
-image_shows t image is shown_callers = is.callers
-image_shows t image is shown_status = is.anchor_status
-image_shows t image is shown_slot = is.anchor_slot
-image_shows t image is (shown_row base p k e at) =
-    is.rows base p e k (get_below (words_of p) k _ at) ∙ at
-image_shows t image is (shown_free low high) = is.free _ low high
 
 -- ---- words that the image leaves to callers
 

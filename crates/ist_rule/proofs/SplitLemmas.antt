@@ -13,13 +13,13 @@ use Rattle.ist_rule.specs.declared.view.About.{About}
 use Rattle.ist_rule.specs.declared.view.Who.{Who}
 use Rattle.ist_rule.specs.declared.view.Who.TheVariants.{Maker, Caller, Note, Spent}
 use Rattle.ist_rule.specs.Standings.{StandsInPrefix, CallStands}
-use Rattle.ist_rule.specs.Rule.{Keeps, its_own, noted, IsNamed, IsWellMade, IsRetired, HasView, Fits, Kept}
+use Rattle.ist_rule.specs.Rule.{KeepsCalls, its_own, noted, IsNamed, IsWellMade, HasView, Fits, Kept}
 use Rattle.ist_rule.specs.Seating.{noted_by, plain}
 use Rattle.ist_rule.proofs.LaterLemmas.{later-goes_on, later_idle, later_any}
 use Rattle.ist_rule.proofs.EventLemmas.{author_no_note}
 use Rattle.ist_rule.proofs.HeldLemmas.{idle_holds, idle_between}
 use Rattle.ist_rule.proofs.FitLemmas.{each_map}
-use Rattle.ist_rule.proofs.FrameLemmas.{Table, as_it_was, moved, grown}
+use Rattle.ist_rule.proofs.FrameLemmas.{Table, moved, grown}
 
 pub note_caller : (of : Option ℕ) (number : ℕ) → Note of ≡ Caller number → ⊥
 note_caller of number e = cc
@@ -49,20 +49,21 @@ pub same_number : (m n : ℕ) → Caller m ≡ Caller n → m ≡ n
 same_number m n e = cc
 
 -- what a note keeps its seat kept
-pub keeps_note : (number : ℕ) (w : Who) → Keeps number (Note (noted_by w)) → Keeps number w
+pub keeps_note : (number : ℕ) (w : Who) → KeepsCalls number (Note (noted_by w))
+    → KeepsCalls number w
 keeps_note number w k = at k refl
   where
     some_one : (a b : ℕ) → Some a ≡ Some b → a ≡ b
     some_one a b e = cc
 
-    from : (x : Who) → noted_by x ≡ Some number → Keeps number x
+    from : (x : Who) → noted_by x ≡ Some number → KeepsCalls number x
     from Maker e = absurd (cc)
-    from (Caller other) e = subst (λ n. Keeps number (Caller n)) (sym (some_one other number e))
+    from (Caller other) e = subst (λ n. KeepsCalls number (Caller n)) (sym (some_one other number e))
         its_own
-    from (Note of) e = subst (λ o. Keeps number (Note o)) (sym e) noted
+    from (Note of) e = subst (λ o. KeepsCalls number (Note o)) (sym e) noted
     from Spent e = absurd (cc)
 
-    at : {x : Who} → Keeps number x → x ≡ Note (noted_by w) → Keeps number w
+    at : {x : Who} → KeepsCalls number x → x ≡ Note (noted_by w) → KeepsCalls number w
     at its_own e = absurd (note_caller (noted_by w) number (sym e))
     at noted e = from w (note_of (sym e))
       where
@@ -114,6 +115,7 @@ module _ (k : About) (s : Table) (r : Kept k s) (id : ℕ) (v : View) (live : v.
           since = omega arith;
           olds = tt;
           taken_stand = tt;
+          taken_seen = tt;
           taken_once = tt;
           taken_given = tt;
           maker_takes = λ _. refl;
@@ -170,6 +172,7 @@ module _ (k : About) (s : Table) (r : Kept k s) (id : ℕ) (v : View) (live : v.
           since = omega arith;
           olds = tt;
           taken_stand = tt;
+          taken_seen = tt;
           taken_once = tt;
           taken_given = tt;
           maker_takes = λ _. refl;
@@ -209,6 +212,7 @@ module _ (k : About) (s : Table) (r : Kept k s) (id : ℕ) (v : View) (live : v.
           since = m.since;
           olds = m.olds;
           taken_stand = m.taken_stand;
+          taken_seen = m.taken_seen;
           taken_once = m.taken_once;
           taken_given = each_map (λ t. t.number < v.given) (λ t. t.number < v.given + 1) v.taken
               (λ t _ le. omega arith) m.taken_given;
@@ -248,10 +252,8 @@ splits_caller k s r id v live mine maker less =
     let born = r.unborn id v mine maker v.given (le_refl v.given) in
     let s' : Table = record { words = s.words; homes = s.homes; views = slice_set s.views id w } in
     let r' : Kept k s' = moved k s r id v w s.homes mine live refl (omega arith) r.log s.words
-    as_it_was r.lawful r.image (λ i x at alive _ g. g)
-    (fits_giving k s r id v live mine maker less)
-    (each_map (IsRetired s r.log v) (IsRetired s r.log w) v.taken
-    (λ t _ q. record { seen = q.seen; seatless = q.seatless }) (r.retired id v mine live)) in
+    r.lawful r.image (λ i x at alive _ g. g)
+    (fits_giving k s r id v live mine maker less) (r.retired id v mine live) in
     let here : HasView s' id w = here_set s.views id v w mine in
     let only = λ (i : ℕ) (x : View) (at : HasView s' i x) (is : x.who ≡ Maker).
     some-injective w x (sym here ∙ ap (get_elem? s'.views)

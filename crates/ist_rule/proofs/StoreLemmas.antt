@@ -19,18 +19,17 @@ use Rattle.ist_rule.specs.declared.view.OwnWord.{OwnWord}
 use Rattle.ist_rule.specs.declared.view.About.{About}
 use Rattle.ist_rule.specs.declared.view.Who.TheVariants.{Caller, Spent}
 use Rattle.ist_rule.specs.Authors.{Later}
-use Rattle.ist_rule.specs.Rule.{own_at, IsNamed, IsRetired, Owns, HasView, Fits, Kept, IsSound}
+use Rattle.ist_rule.specs.Rule.{own_at, IsNamed, Owns, HasView, Fits, Kept, IsSound}
 use Rattle.ist_rule.specs.Playing.{Seated, stores}
 use Rattle.ist_rule.specs.Learning.{now, storing}
 use Rattle.ist_rule.specs.Conditions.{IsOwn}
 use Rattle.ist_rule.proofs.ShownLemmas.{IsLoose, held_loose, loose_set}
 use Rattle.ist_rule.proofs.HeldLemmas.{held_later}
-use Rattle.ist_rule.proofs.FitLemmas.{each_map}
-use Rattle.ist_rule.proofs.FrameLemmas.{Table, as_it_was, moved}
+use Rattle.ist_rule.proofs.FrameLemmas.{Table, moved}
 use Rattle.ist_rule.proofs.SoundViewLemmas.{as_table}
 
 -- what was stored last is what is there
-own_here : (own : List OwnWord) (place word : ℕ)
+pub own_here : (own : List OwnWord) (place word : ℕ)
     → own_at (record { place = place; word = word } ∷ own) place ≡ word
 own_here own place word = at (eqb_tells place place)
   where
@@ -41,7 +40,7 @@ own_here own place word = at (eqb_tells place place)
     at (inr k) = absurd (k.1 refl)
 
 -- elsewhere it is as it was
-own_else : (own : List OwnWord) (place word other : ℕ) → place ≢ other
+pub own_else : (own : List OwnWord) (place word other : ℕ) → place ≢ other
     → own_at (record { place = place; word = word } ∷ own) other ≡ own_at own other
 own_else own place word other ne = at (eqb_tells place other)
   where
@@ -144,6 +143,7 @@ module _ (k : About) (s : Table) (r : Kept k s) (id : ℕ) (v : View) (live : v.
           since = m.since;
           olds = m.olds;
           taken_stand = m.taken_stand;
+          taken_seen = m.taken_seen;
           taken_once = m.taken_once;
           taken_given = m.taken_given;
           maker_takes = m.maker_takes;
@@ -167,11 +167,9 @@ module _ (k : About) (s : Table) (r : Kept k s) (id : ℕ) (v : View) (live : v.
   })
   kept_storing =
       moved k s r id v (storing v place word) s.homes mine live refl (le_refl v.given) r.log
-      (slice_set s.words place word) as_it_was r.lawful
+      (slice_set s.words place word) r.lawful
       (loose_set (state_of k.start.value.items k.words r.log) s.words place word loose r.image)
-      others fits_storing
-      (each_map (IsRetired s r.log v) (IsRetired s r.log (storing v place word)) v.taken
-      (λ t _ q. record { seen = q.seen; seatless = q.seatless }) (r.retired id v mine live))
+      others fits_storing (r.retired id v mine live)
 
 -- a store into an own row keeps the rule
 pub stores_moves : (k : About) (slots id : ℕ) (me : Seated) (place word : ℕ) → me.0.who ≢ Spent
@@ -208,6 +206,7 @@ storing_sound v place word own s =
         since = m.since;
         olds = m.olds;
         taken_stand = m.taken_stand;
+        taken_seen = m.taken_seen;
         taken_once = m.taken_once;
         taken_given = m.taken_given;
         maker_takes = m.maker_takes;

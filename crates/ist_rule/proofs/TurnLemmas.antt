@@ -14,9 +14,10 @@ use Rattle.ist_rule.specs.declared.view.Pending.{Pending}
 use Rattle.ist_rule.specs.declared.view.About.{About}
 use Rattle.ist_rule.specs.declared.view.Who.{Who}
 use Rattle.ist_rule.specs.declared.view.Who.TheVariants.{Maker, Caller, Note}
-use Rattle.ist_rule.specs.Authors.{Later, no_more}
+use Rattle.ist_core.specs.Authors.{no_more}
+use Rattle.ist_rule.specs.Authors.{Later}
 use Rattle.ist_rule.specs.Standings.{StandsInPrefix, HasMade, IsBetween, CallStands}
-use Rattle.ist_rule.specs.Rule.{Keeps, its_own, noted, Fits}
+use Rattle.ist_rule.specs.Rule.{KeepsCalls, its_own, noted, Fits}
 use Rattle.ist_rule.specs.Learning.{beginning, searching, ending, giving_up}
 use Rattle.ist_rule.specs.Conditions.{CanEnd, CanGiveUp}
 use Rattle.ist_rule.proofs.LaterLemmas.{later-goes_on}
@@ -27,7 +28,7 @@ use Rattle.ist_rule.proofs.SoundViewLemmas.{as_table}
 use Rattle.ist_rule.proofs.LookLemmas.{CanTurn}
 
 -- a caller keeps its own calls
-keeps_own : (number other : ℕ) (w : Who) → Keeps number w → w ≡ Caller other → number ≡ other
+keeps_own : (number other : ℕ) (w : Who) → KeepsCalls number w → w ≡ Caller other → number ≡ other
 keeps_own number other _ its_own e = cc
 keeps_own number other _ noted e = absurd (note_caller e)
   where
@@ -86,6 +87,7 @@ can_begin v number command who none =
             since = m.since;
             olds = m.olds;
             taken_stand = m.taken_stand;
+            taken_seen = m.taken_seen;
             taken_once = m.taken_once;
             taken_given = m.taken_given;
             maker_takes = m.maker_takes;
@@ -138,6 +140,7 @@ can_search v =
             since = omega arith;
             olds = m.olds;
             taken_stand = m.taken_stand;
+            taken_seen = m.taken_seen;
             taken_once = m.taken_once;
             taken_given = m.taken_given;
             maker_takes = m.maker_takes;
@@ -197,6 +200,7 @@ can_end v call can =
             since = m.since;
             olds = m.olds;
             taken_stand = m.taken_stand;
+            taken_seen = m.taken_seen;
             taken_once = m.taken_once;
             taken_given = m.taken_given;
             maker_takes = m.maker_takes;
@@ -253,6 +257,7 @@ can_give_up v can =
             since = m.since;
             olds = m.olds;
             taken_stand = m.taken_stand;
+            taken_seen = m.taken_seen;
             taken_once = m.taken_once;
             taken_given = m.taken_given;
             maker_takes = m.maker_takes;

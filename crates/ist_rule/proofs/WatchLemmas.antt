@@ -21,8 +21,8 @@ use Rattle.ist_core.proofs.SoundLemmas.{sound}
 use Rattle.ist_core.proofs.StartLemmas.{sound_start}
 use Rattle.ist_core.proofs.GrowingLemmas.{inner_there}
 use Rattle.ist_core.proofs.StepLemmas.{grow_step}
-use Rattle.ist_rule.specs.Shown.{IsShown, shown_next, shown_callers, shown_status, shown_slot, shown_row, shown_free}
-use Rattle.ist_rule.specs.Watching.{is_change}
+use Rattle.ist_core.specs.Shown.{IsShown, shown_next, shown_callers, shown_status, shown_slot, shown_row, shown_free}
+use Rattle.ist_rule.specs.Watching.{IsNode, is_anchor, is_inner, is_change}
 use Rattle.ist_rule.proofs.HeldLemmas.{start_no_change}
 use Rattle.ist_rule.proofs.ChangeLemmas.{ChangeComes, stood, is_installed, change_comes}
 
@@ -73,11 +73,6 @@ module _ (pairs : List Pair) (words : ℕ) (log : Log) (enabled : EachEnabled (s
         ((placed pairs words log enabled).published base p e))
 
 -- ---- the node of a change
-
--- the node is the anchor, or a published inner row
-pub data IsNode (t : Snapshot) (node : ℕ) : Type 0 where
-  is_anchor : node ≡ anchor → IsNode t node
-  is_inner : (r : InnerRow) → t.pieces node ≡ Some (Inner r) → IsNode t node
 
 module _ (pairs : List Pair) (words : ℕ) where
   node_on : (log : Log) (event : Event) → EachEnabled (start pairs words) (event ∷ log) → (node : ℕ)

@@ -24,16 +24,16 @@ use Rattle.ist_core.proofs.GrowingLemmas.{inner_there, change_there}
 use Rattle.ist_core.proofs.FateLemmas.{grow_between}
 use Rattle.ist_rule.specs.declared.view.View.{View}
 use Rattle.ist_rule.specs.declared.view.Who.TheVariants.{Caller}
-use Rattle.ist_rule.specs.Authors.{author, Later}
-use Rattle.ist_rule.specs.Shown.{IsShown, shown_status, shown_row}
+use Rattle.ist_rule.specs.Authors.{whose, Later}
+use Rattle.ist_core.specs.Shown.{IsShown, shown_status, shown_row}
 use Rattle.ist_rule.specs.Rule.{IsSound}
 use Rattle.ist_rule.specs.Learning.{now}
 use Rattle.ist_rule.specs.Conditions.{MayCome, CanMake, LeavesAt, CanLoadAs}
-use Rattle.ist_rule.specs.Watching.{number_of, waits, okay_of, CanLoadOkay, is_marked, is_change, pass_of, CanLoadPass, past_of, CanLoadPast}
+use Rattle.ist_rule.specs.Watching.{IsNode, is_anchor, is_inner, number_of, waits, okay_of, CanLoadOkay, is_marked, is_change, pass_of, CanLoadPass, past_of, CanLoadPast}
 use Rattle.ist_rule.proofs.LaterLemmas.{later-goes_on}
 use Rattle.ist_rule.proofs.GoingOnLemmas.{callers_later}
 use Rattle.ist_rule.proofs.HeldLemmas.{held_later}
-use Rattle.ist_rule.proofs.WatchLemmas.{some_one, is_inner, is_anchor, shown_in_row, IsNode, change_node, both_true, if_some, eq_true, not_true, no_change, status_place_inner, status_place_anchor, place_inner}
+use Rattle.ist_rule.proofs.WatchLemmas.{some_one, shown_in_row, change_node, both_true, if_some, eq_true, not_true, no_change, status_place_inner, status_place_anchor, place_inner}
 
 -- ---- the three loads
 
@@ -127,7 +127,7 @@ can_load_okay v change place s can =
         let number = ap number_of can.mine in
         let opened = open_seen v s log m can.row.node node word
         (subst (λ p. IsShown t p word) can.at shown) zero_is in
-        let mine : author (Okay (number_of v.who) change) ≡ v.who =
+        let mine : whose (Okay (number_of v.who) change) ≡ v.who =
         ap Caller number ∙ sym can.mine in
         let enabled : Enabled (start v.start v.words) log (Okay (number_of v.who) change) =
         record {
@@ -217,7 +217,7 @@ can_load_pass v node i place s can =
           no_change = no_change (ref_of word) rest.0;
           set = not_true word unset_word rest.1;
         } in
-        let mine : author (Pass (number_of v.who) node i word) ≡ v.who =
+        let mine : whose (Pass (number_of v.who) node i word) ≡ v.who =
         ap Caller number ∙ sym can.mine in
         let at_place : place_of_slot t node i ≡ place =
         place_inner t node i r it.1 (not_anchor v s log m node r it.1) ∙ ap
@@ -269,7 +269,7 @@ can_load_past v pair node s can =
             above = can.above;
           };
         } in
-        let mine : author (Lose (number_of v.who) (pair ∷ [])) ≡ v.who =
+        let mine : whose (Lose (number_of v.who) (pair ∷ [])) ≡ v.who =
         ap Caller number ∙ sym can.mine in (
           subst (CanMake v) is record { mine = mine; stored = tt; allowed = tt },
           subst (λ e. LeavesAt v log e (node + inner_status_offset) word) is record {

@@ -20,8 +20,8 @@ use Rattle.ist_core.specs.Writing.{touch_of, published_by, first_change}
 use Rattle.ist_rule.specs.declared.view.View.{View}
 use Rattle.ist_rule.specs.declared.view.Pending.{Pending}
 use Rattle.ist_rule.specs.declared.view.Who.TheVariants.{Caller}
-use Rattle.ist_rule.specs.Authors.{author, Later}
-use Rattle.ist_rule.specs.Shown.{IsShown}
+use Rattle.ist_rule.specs.Authors.{whose, Later}
+use Rattle.ist_core.specs.Shown.{IsShown}
 use Rattle.ist_rule.specs.Rule.{own_at}
 use Rattle.ist_rule.specs.Standings.{HasMade}
 use Rattle.ist_rule.specs.Learning.{now, Naming}
@@ -64,7 +64,7 @@ SeatAllows v _ = Unit {0}
 
 -- the event is the seat's own, its rows are as the seat stored them, and the seat may make it
 pub record CanMake (v : View) (event : Event) : Type 0 where
-  pub mine : author event ≡ v.who
+  pub mine : whose event ≡ v.who
   pub stored : StoredAll v (published_by event)
   pub allowed : SeatAllows v event
 

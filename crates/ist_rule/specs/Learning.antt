@@ -10,11 +10,11 @@ use Rattle.ist_core.specs.Snapshots.{Snapshot}
 use Rattle.ist_core.specs.Logs.{Log}
 use Rattle.ist_core.specs.Lawful.{state_of}
 use Rattle.ist_rule.specs.declared.view.View.{View}
-use Rattle.ist_rule.specs.declared.view.Load.{Load}
+use Rattle.ist_core.specs.declared.loads.Load.{Load}
 use Rattle.ist_rule.specs.declared.view.Loads.{Loads}
 use Rattle.ist_rule.specs.declared.view.Who.TheVariants.{Caller}
 use Rattle.ist_rule.specs.Authors.{Later}
-use Rattle.ist_rule.specs.Shown.{IsShown}
+use Rattle.ist_core.specs.Shown.{IsShown}
 use Rattle.ist_rule.specs.Rule.{own_at, IsSound}
 
 -- the state behind the log that the seat has seen
@@ -76,6 +76,13 @@ pub record Logged (v : View) (event : Event) (w : View) : Type 0 where
   pub view : w ≡ logging v before event
   pub sound : IsSound w
 
+-- an add found this word, and is the event that is named for it: the last of the log, before which
+-- that word stood at the place
+pub record LoggedAdd (v : View) (named : ℕ → Event) (place found : ℕ) (w : View) : Type 0 where
+  pub logged : Logged v (named found) w
+  pub stood : (shown : ℕ) → IsShown (state_of v.start v.words logged.before) place shown
+      → found ≡ shown
+
 -- the view behind a load, or a failed exchange, that is an event of its own
 abbrev pub logging_load : View → Log → Event → View
 logging_load v before event = record (logging v before event) { loaded = v.loaded + 1 }
@@ -104,6 +111,10 @@ pub data LoadedAs (v : View) (named : Naming) (place word : ℕ) (w : View) : Ty
 abbrev pub ExchangedOrLost : View → Event → Event → ℕ → ℕ → ℕ → View → Type 0
 ExchangedOrLost v event lost place old found w =
     (found ≡ old → Logged v event w) × (found ≢ old → LoggedLoad v lost place found w)
+
+-- the same of a pair of events
+abbrev pub ExchangedEitherWay : View → Event × Event → ℕ → ℕ → ℕ → View → Type 0
+ExchangedEitherWay v events = ExchangedOrLost v events.0 events.1
 
 -- an exchange that found `old` is the event, and one that found another word is a load
 abbrev pub Exchanged : View → Event → ℕ → ℕ → ℕ → View → Type 0

@@ -1,10 +1,10 @@
 -- what the public contracts rest on, in the order to read them
 pub mod Authors
-pub mod Shown
 pub mod Standings
 pub mod Rule
 pub mod Faces
 pub mod Learning
+pub mod Going
 pub mod Conditions
 pub mod Seating
 pub mod Watching

@@ -5,7 +5,7 @@ use Rattle.ist_core.specs.declared.calls.Call.{Call}
 use Rattle.ist_core.specs.declared.commands.Command.{Command}
 use Rattle.ist_core.specs.declared.events.Event.{Event}
 use Rattle.ist_rule.specs.declared.view.View.{View}
-use Rattle.ist_rule.specs.Learning.{Looked, Logged, LoadedAs, Naming, Exchanged, ExchangedOrLost, Turned, storing, beginning, searching, ending, giving_up}
+use Rattle.ist_rule.specs.Learning.{Looked, LoggedAdd, LoadedAs, Naming, Exchanged, ExchangedOrLost, Turned, storing, beginning, searching, ending, giving_up}
 
 -- a seat: its view, and the slots that it has taken, of which there are none
 abbrev pub Seated : Type 0
@@ -30,7 +30,7 @@ exchanges event step me found you = Exchanged me.0 event step.word step.first fo
 
 -- an add, which is the event that is named for the word found
 abbrev pub adds : (ℕ → Event) → Told
-adds event step me found you = Logged me.0 (event found) you.0 × (you.1 ≡ me.1)
+adds event step me found you = LoggedAdd me.0 event step.word found you.0 × (you.1 ≡ me.1)
 
 -- a load that begins a call
 abbrev pub begins : Option Command → Told

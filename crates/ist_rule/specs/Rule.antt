@@ -11,13 +11,14 @@ use Rattle.ist_core.specs.Logs.{Log, GoesOn}
 use Rattle.ist_core.specs.Lawful.{Lawful, state_of}
 use Rattle.ist_rule.specs.declared.view.View.{View}
 use Rattle.ist_rule.specs.declared.view.OwnWord.{OwnWord}
-use Rattle.ist_rule.specs.declared.view.Load.{Load}
+use Rattle.ist_core.specs.declared.loads.Load.{Load}
+use Rattle.ist_rule.specs.declared.view.Met.{Met}
 use Rattle.ist_rule.specs.declared.view.Taken.{Taken}
 use Rattle.ist_rule.specs.declared.view.About.{About}
 use Rattle.ist_rule.specs.declared.view.Who.{Who}
 use Rattle.ist_rule.specs.declared.view.Who.TheVariants.{Maker, Caller, Note, Spent}
 use Rattle.ist_rule.specs.Authors.{Later, IsIdleIn}
-use Rattle.ist_rule.specs.Shown.{IsShown}
+use Rattle.ist_core.specs.Shown.{IsShown}
 use Rattle.ist_rule.specs.Standings.{StandsInPrefix, IsBetween, CallStands}
 
 -- the word that was stored at the place last, and 0 where none was
@@ -32,9 +33,9 @@ IsNamed Spent = ⊥
 IsNamed _ = Unit {0}
 
 -- the seat keeps the calls of the caller with this number: it is the caller's, or a note of it
-pub data Keeps (number : ℕ) : Who → Type 0 where
-  its_own : Keeps number (Caller number)
-  noted : Keeps number (Note (Some number))
+pub data KeepsCalls (number : ℕ) : Who → Type 0 where
+  its_own : KeepsCalls number (Caller number)
+  noted : KeepsCalls number (Note (Some number))
 
 -- ---- what a view says of the log that it has seen
 
@@ -51,15 +52,22 @@ NeverFall since [] = Unit {0}
 NeverFall since (load ∷ loads) = (since ≤ load.length) × Each (λ l. l.length ≤ load.length) loads
     × NeverFall since loads
 
--- the view by itself: where its calls stand, what its loads gave, which logs it was joined from
+-- the seat that met another went on to the log of both by events of others, and all that is seen
+pub record IsMet (log : Log) (met : Met) : Type 0 where
+  pub later : Later met.who met.log met.both
+  pub seen : GoesOn met.both log
+
+-- the view by itself: where its calls stand, what its loads gave, which seats met at its join
 pub record IsWellMade (pairs : List Pair) (words : ℕ) (v : View) : Type 0 where
-  pub stands : (number : ℕ) → Keeps number v.who → StandsInPrefix pairs words v.log number v.calls
+  pub stands : (number : ℕ) → KeepsCalls number v.who
+      → StandsInPrefix pairs words v.log number v.calls
   pub stamps : Each (λ call. call.stamp ≤ v.stamp) v.calls
   pub recalls : Each (Recalls pairs words v.log) v.loads.list
   pub in_order : NeverFall v.loads.since v.loads.list
   pub since : v.loads.since ≤ length v.log
-  pub olds : Each (λ old. GoesOn old v.log) v.olds
-  pub taken_stand : Each (λ t. StandsInPrefix pairs words v.log t.number t.calls) v.taken
+  pub olds : Each (IsMet v.log) v.olds
+  pub taken_stand : Each (λ t. StandsInPrefix pairs words t.log t.number t.calls) v.taken
+  pub taken_seen : Each (λ t. GoesOn t.log v.log) v.taken
   pub taken_once : Distinct (map (λ t. t.number) v.taken)
   pub taken_given : Each (λ t. t.number < v.given) v.taken
   pub maker_takes : v.who ≢ Maker → v.taken ≡ []
@@ -67,11 +75,12 @@ pub record IsWellMade (pairs : List Pair) (words : ℕ) (v : View) : Type 0 wher
 
 -- ---- what a view says of the longest log
 
--- the calls of a caller that was taken back: its number is below the callers', and its changes are
--- those of its calls
+-- a caller that was taken back: its number is below the callers', its changes are those of its
+-- calls, and it made no event behind what its seat had seen
 pub record IsTakenBack (pairs : List Pair) (words : ℕ) (log : Log) (t : Taken) : Type 0 where
   pub low : t.number < (state_of pairs words log).callers
   pub between : IsBetween pairs words log t.number t.calls
+  pub later : Later (Caller t.number) t.log log
 
 -- the view and the log: numbers of callers, own words, and what the changes of the caller have come
 -- to
@@ -113,10 +122,9 @@ pub record Fits (k : About) (log : Log) (image : List ℕ) (v : View) : Type 0 w
 abbrev pub HasView : T.State (Unit {0}) View → ℕ → View → Type 0
 HasView s i v = get_elem? s.views i ≡ some v
 
--- a caller that was taken back has no seat, and the view has seen all its events
-pub record IsRetired (s : T.State (Unit {0}) View) (log : Log) (v : View) (t : Taken) : Type 0 where
-  pub seen : Later (Caller t.number) v.log log
-  pub seatless : (i : ℕ) (w : View) → HasView s i w → w.who ≢ Caller t.number
+-- a caller that was taken back has no seat
+abbrev pub IsRetired : T.State (Unit {0}) View → Taken → Type 0
+IsRetired s t = (i : ℕ) (w : View) → HasView s i w → w.who ≢ Caller t.number
 
 -- the rule: there is a lawful log of which each seat has seen a prefix, and the words are its image
 pub record Kept (k : About) (s : T.State (Unit {0}) View) : Type 0 where
@@ -131,7 +139,7 @@ pub record Kept (k : About) (s : T.State (Unit {0}) View) : Type 0 where
   pub unborn : (i : ℕ) (v : View) → HasView s i v → v.who ≡ Maker → (number : ℕ) → v.given ≤ number
       → (j : ℕ) (w : View) → HasView s j w → w.who ≢ Caller number
   pub retired : (i : ℕ) (v : View) → HasView s i v → v.who ≢ Spent
-      → Each (IsRetired s log v) v.taken
+      → Each (IsRetired s) v.taken
 
 -- ---- a new table
 

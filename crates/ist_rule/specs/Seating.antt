@@ -5,6 +5,7 @@ use Rattle.ist_core.specs.Images.{IsImage}
 use Rattle.ist_core.specs.Logs.{Log}
 use Rattle.ist_core.specs.Lawful.{Lawful, state_of}
 use Rattle.ist_rule.specs.declared.view.View.{View}
+use Rattle.ist_rule.specs.declared.view.Met.{Met}
 use Rattle.ist_rule.specs.declared.view.Taken.{Taken}
 use Rattle.ist_rule.specs.declared.view.Who.{Who}
 use Rattle.ist_rule.specs.declared.view.Who.TheVariants.{Maker, Caller, Note, Spent}
@@ -62,19 +63,25 @@ abbrev pub longer : Log → Log → Log
 longer a b = if nat_le (length b) (length a) then a else b
 
 -- the callers that were taken back, with that of a seat that is joined now
-abbrev pub with_taken : Who → List Call → List Taken → List Taken
-with_taken (Caller number) calls taken = record { number = number; calls = calls } ∷ taken
-with_taken _ calls taken = taken
+abbrev pub with_taken : Who → List Call → Log → List Taken → List Taken
+with_taken (Caller number) calls log taken =
+    record { number = number; calls = calls; log = log } ∷ taken
+with_taken _ calls log taken = taken
 
--- the seat that another was joined to: it has the longer log and the greater stamp, and keeps both
--- logs
+-- a seat that met another, with the log of both
+abbrev pub met_as : View → Log → Met
+met_as v both = record { who = v.who; log = v.log; both = both }
+
+-- the seat that another was joined to: it has the longer log and the greater stamp, and keeps what
+-- both had seen
 abbrev pub joined : View → View → View
 joined v w =
+    let both = longer v.log w.log in
     record v {
-      log = longer v.log w.log;
-      olds = v.log ∷ w.log ∷ [];
+      log = both;
+      olds = met_as v both ∷ met_as w both ∷ [];
       stamp = max v.stamp w.stamp;
-      taken = with_taken w.who w.calls v.taken;
+      taken = with_taken w.who w.calls w.log v.taken;
     }
 
 -- the seat that was joined away

@@ -1,20 +1,20 @@
 -- Loads that are events: of a status that shows a node open, of a slot of a marked node, and beside
 -- a pair row that is given up.
-use Rattle.std.specs.Prelude.{◌≡◌, ℕ, ◌<◌, ◌==◌, ◌&&◌, not, Bool, true, false, if◌then◌else◌, [], ◌∷◌, Option, Some, None}
+use Rattle.std.specs.Prelude.{◌≡◌, ℕ, ◌+◌, ◌<◌, ◌==◌, ◌&&◌, not, Bool, true, false, if◌then◌else◌, [], ◌∷◌, Option, Some, None}
 use Rattle.ist_core.specs.declared.states.InnerRow.{InnerRow}
 use Rattle.ist_core.specs.declared.states.ChangeRow.{ChangeRow}
 use Rattle.ist_core.specs.declared.events.Event.TheVariants.{Okay, Pass, Lose}
-use Rattle.ist_core.specs.RowLayout.{pair_words, slot_place}
+use Rattle.ist_core.specs.RowLayout.{anchor, pair_words, inner_status_offset, slot_place}
 use Rattle.ist_core.specs.References.{Ref, ChangeAt, ref_of, unset_word}
 use Rattle.ist_core.specs.Statuses.{open_word, marked_word, undecided}
 use Rattle.ist_core.specs.Pieces.{Inner, Change, as_inner, as_change}
-use Rattle.ist_core.specs.Snapshots.{HoldsRow}
+use Rattle.ist_core.specs.Snapshots.{Snapshot, HoldsRow}
 use Rattle.ist_core.specs.Lawful.{state_of}
 use Rattle.ist_core.specs.Writing.{place_of_status}
 use Rattle.ist_rule.specs.declared.view.View.{View}
 use Rattle.ist_rule.specs.declared.view.Who.{Who}
 use Rattle.ist_rule.specs.declared.view.Who.TheVariants.{Caller}
-use Rattle.ist_rule.specs.Learning.{now, Naming}
+use Rattle.ist_rule.specs.Learning.{now, Naming, LoadedAs}
 
 -- the number of a caller
 abbrev pub number_of : Who → ℕ
@@ -22,6 +22,11 @@ number_of (Caller number) = number
 number_of _ = 0
 
 -- ---- Okay
+
+-- the node is the anchor, or a published inner row
+pub data IsNode (t : Snapshot) (node : ℕ) : Type 0 where
+  is_anchor : node ≡ anchor → IsNode t node
+  is_inner : (r : InnerRow) → t.pieces node ≡ Some (Inner r) → IsNode t node
 
 -- is this a change that no one has decided
 abbrev pub waits : Option ChangeRow → Bool
@@ -34,6 +39,10 @@ abbrev pub okay_of : View → ℕ → Naming
 okay_of v change log word =
     if (word == open_word) && waits (as_change ((state_of v.start v.words log).pieces change))
     then Some (Okay (number_of v.who) change) else None
+
+-- a load that may be the Okay of the change
+abbrev pub LoadedOkay : View → ℕ → ℕ → ℕ → View → Type 0
+LoadedOkay v change = LoadedAs v (okay_of v change)
 
 -- a caller may look whether the node of an installed change is open: at the place of the node's
 -- status
@@ -64,6 +73,10 @@ pass_of v node i log word =
     && (not (is_change (ref_of word)) && not (word == unset_word))
     then Some (Pass (number_of v.who) node i word) else None
 
+-- a load that may be the Pass of the slot
+abbrev pub LoadedPass : View → ℕ → ℕ → ℕ → ℕ → View → Type 0
+LoadedPass v node i = LoadedAs v (pass_of v node i)
+
 -- a caller may try to pass a slot of a published node: at the place of the slot
 -- Who meets it: who marks a subtree, at each slot of a node behind its mark
 pub record CanLoadPass (v : View) (node i place : ℕ) : Type 0 where
@@ -79,6 +92,10 @@ pub record CanLoadPass (v : View) (node i place : ℕ) : Type 0 where
 -- the load of the status of a node above a held pair row is the loss of that row
 abbrev pub past_of : View → ℕ → Naming
 past_of v pair log word = Some (Lose (number_of v.who) (pair ∷ []))
+
+-- a load of the status of the node that is the Lose of the pair row
+abbrev pub LoadedPast : View → ℕ → ℕ → ℕ → View → Type 0
+LoadedPast v pair node = LoadedAs v (past_of v pair) (node + inner_status_offset)
 
 -- a caller may give up a pair row below a published inner row
 -- Who meets it: who gives up a pair row before it may be too late

@@ -18,6 +18,7 @@ fn begin_as<A: Asked>(table: &TreeTable, seat: &mut TreeSeat, command: Option<Co
     ensures begun { Turned seat.old.view (beginning seat.old.view A.command) seat.new.view }
 {
     let _ = command;
+    // No event: a load of word 0, to begin a call. What others did up to here is seen.
     table.table.shared.load::<Begins<A>>(&mut seat.seat, 0);
 }
 
@@ -37,6 +38,7 @@ pub fn begin_search(table: &TreeTable, seat: &mut TreeSeat)
     ensures same_table { seat.new.table ≡ seat.old.table }
     ensures begun { Turned seat.old.view (searching seat.old.view) seat.new.view }
 {
+    // No event: a load of word 0, to begin a search. What others did up to here is seen.
     table.table.shared.load::<Searches>(&mut seat.seat, 0);
 }
 
@@ -48,6 +50,7 @@ fn end_as<A: Answered>(table: &TreeTable, seat: &mut TreeSeat, reply: Reply)
     ensures ended { Turned seat.old.view (ending seat.old.view A.call) seat.new.view }
 {
     let _ = reply;
+    // No event: a load of word 0, to end a call. What others did up to here is seen.
     table.table.shared.load::<Ends<A>>(&mut seat.seat, 0);
 }
 
@@ -71,5 +74,6 @@ pub fn give_up(table: &TreeTable, seat: &mut TreeSeat)
     ensures same_table { seat.new.table ≡ seat.old.table }
     ensures given_up { Turned seat.old.view (giving_up seat.old.view) seat.new.view }
 {
+    // No event: a load of word 0, to give up a call. What others did up to here is seen.
     table.table.shared.load::<GivesUp>(&mut seat.seat, 0);
 }

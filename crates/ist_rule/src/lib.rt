@@ -15,10 +15,10 @@ mod view;
 mod watching;
 
 pub use calling::{begin_call, begin_search, end_call, give_up};
-pub use opening::{close, know, open_table};
+pub use opening::{close, know, open_table, open_table_over};
 pub use plays::{Answered, Asked, Named, NamedByLog, NamedByWord, NamedEitherWay};
 pub use seating::{join, split};
 pub use steps::{add, exchange, exchange_or_lose, load, store};
 pub use table::{TreeSeat, TreeTable, word_count};
-pub use view::{About, Load, Loads, OwnWord, Pending, Taken, TreeRule, View, Who};
+pub use view::{About, Loads, Met, OwnWord, Pending, Taken, TreeRule, View, Who};
 pub use watching::{load_okay, load_pass, load_past};

@@ -30,11 +30,28 @@ pub fn open_table(
     ensures same_table { IfOk result (λ t. t.1.table ≡ t.0.table) }
     ensures seat { IfOk result (λ t. t.1.view ≡ opened_view pairs.now.items (length image.items)) }
 {
+    open_table_over(alloc, image.as_slice(), pairs)
+}
+
+/// As `open_table`, over words that stay the caller's. They are copied into the table, so their
+/// memory may serve for the image of the next one.
+pub fn open_table_over(
+    alloc: Global,
+    image: &[u64],
+    pairs: &Vec<Pair>,
+) -> Result<(TreeTable, TreeSeat), AllocError>
+    requires opens { CanOpen pairs.now.items (length image.now) }
+    requires image { IsImage (start pairs.now.items (length image.now)) image.now }
+    ensures words { IfOk result (λ t. word_count_of t.0 ≡ length image.now) }
+    ensures start { IfOk result (λ t. t.0.start ≡ pairs.now.items) }
+    ensures same_table { IfOk result (λ t. t.1.table ≡ t.0.table) }
+    ensures seat { IfOk result (λ t. t.1.view ≡ opened_view pairs.now.items (length image.now)) }
+{
     let about = About {
         start: Snapshot::of(pairs),
         words: image.len() as u64,
     };
-    let (table, seat) = Table::of_words(alloc, image.as_slice(), &about)?;
+    let (table, seat) = Table::of_words(alloc, image, &about)?;
     Ok((TreeTable { table }, TreeSeat { seat }))
 }
 

@@ -1,5 +1,6 @@
 //! Splitting a seat in two, and joining one to another.
 ghost use Rattle.std.specs.Prelude.{◌≡◌, ℕ};
+ghost use Rattle.ist_rule.specs.Authors.{Later};
 ghost use Rattle.ist_rule.specs.Learning.{Looked};
 ghost use Rattle.ist_rule.specs.Seating.{split_left, split_right, joined, CanJoin};
 
@@ -15,6 +16,7 @@ pub fn split(table: &TreeTable, seat: &mut TreeSeat) -> TreeSeat
     ensures old { (seat.new.table ≡ seat.old.table) × (seat.new.view ≡ split_left seat.old.view) }
     ensures new { (result.table ≡ seat.old.table) × (result.view ≡ split_right seat.old.view) }
 {
+    // No event, and no word: one view becomes two.
     TreeSeat {
         seat: table.table.shared.split_seat::<Cuts>(&mut seat.seat),
     }
@@ -22,18 +24,23 @@ pub fn split(table: &TreeTable, seat: &mut TreeSeat) -> TreeSeat
 
 /// Takes in what the other seat has seen: the longer log, and the greater stamp.
 ///
-/// The maker keeps the calls of a caller that is joined to it. Both logs are prefixes of the seat's
-/// log behind the call, as a load of word 0 tells.
+/// The seat's log behind the call goes on from each of the two logs by events of others than that
+/// log's owner, as a load of word 0 tells. The maker keeps the calls of a caller that is joined to
+/// it, and its log, from which each log to come goes on without an event of that caller.
 pub fn join(table: &TreeTable, seat: &mut TreeSeat, other: TreeSeat)
     requires same_table { seat.old.table ≡ table.now.table }
     requires other_table { other.table ≡ table.now.table }
     requires may_join { CanJoin seat.old.view other.view }
     ensures same_table { seat.new.table ≡ seat.old.table }
     ensures joined { (word : ℕ) × Looked (joined seat.old.view other.view) 0 word seat.new.view }
+    ensures later { Later seat.old.view.who seat.old.view.log seat.new.view.log }
+    ensures other_later { Later other.view.who other.view.log seat.new.view.log }
 {
+    // No event, and no word: two views become one.
     table
         .table
         .shared
         .join_seat::<Binds>(&mut seat.seat, other.seat);
+    // No event: a load of word 0, which tells that both logs are prefixes of one.
     table.table.shared.load::<Looks>(&mut seat.seat, 0);
 }

@@ -2,7 +2,7 @@
 ghost use Rattle.std.specs.Prelude.{◌≡◌, ◌<◌, ℕ};
 ghost use Rattle.ist_core.specs.declared.events.Event.{Event};
 ghost use Rattle.ist_rule.specs.Faces.{word_count_of};
-ghost use Rattle.ist_rule.specs.Learning.{Looked, Logged, Exchanged, ExchangedOrLost, storing};
+ghost use Rattle.ist_rule.specs.Learning.{Looked, LoggedAdd, Exchanged, ExchangedEitherWay, storing};
 ghost use Rattle.ist_rule.specs.Conditions.{IsOwn, CanExchange, CanAdd, CanExchangeOrLose};
 
 use crate::plays::{
@@ -18,6 +18,7 @@ pub fn load(table: &TreeTable, seat: &mut TreeSeat, place: u64) -> u64
     ensures same_table { seat.new.table ≡ seat.old.table }
     ensures looked { Looked seat.old.view place result seat.new.view }
 {
+    // No event. What others did up to here comes into the seat's log.
     table
         .table
         .shared
@@ -32,6 +33,7 @@ pub fn store(table: &TreeTable, seat: &mut TreeSeat, place: u64, word: u64)
     ensures same_table { seat.new.table ≡ seat.old.table }
     ensures stored { seat.new.view ≡ storing seat.old.view place word }
 {
+    // No event. Meets no other's step: the row is its caller's alone.
     table
         .table
         .shared
@@ -43,27 +45,32 @@ fn add_as<N: NamedByWord>(table: &TreeTable, seat: &mut TreeSeat, place: u64) ->
     requires within { place < word_count_of table.now }
     requires event { CanAdd seat.old.view place N.event }
     ensures same_table { seat.new.table ≡ seat.old.table }
-    ensures logged { Logged seat.old.view (N.event result) seat.new.view }
+    ensures added { LoggedAdd seat.old.view N.event place result seat.new.view }
 {
+    // Enter, Count or Draw, as `N.event` says for the word found. Meets another's add at the place.
     table
         .table
         .shared
         .fetch_add::<Adds<N>>(&mut seat.seat, place as usize, 1)
 }
 
-/// Adds 1 to the word at the place, and answers the word before. The step is the event that is named
-/// for that word: the last of the seat's log.
+/// Adds 1 to the word at the place, and answers the word before: the one that the place shows before
+/// the step. The step is the event that is named for that word: the last of the seat's log.
 pub fn add(table: &TreeTable, seat: &mut TreeSeat, place: u64) -> u64
     ghost event: { ℕ → Event }
     requires same_table { seat.old.table ≡ table.now.table }
     requires within { place < word_count_of table.now }
     requires event { CanAdd seat.old.view place event }
     ensures same_table { seat.new.table ≡ seat.old.table }
-    ensures logged { Logged seat.old.view (event result) seat.new.view }
+    ensures added { LoggedAdd seat.old.view event place result seat.new.view }
 {
     add_as::<Brand>(table, seat, place)
 }
 
+// `N` has no value: it carries an event for the proof alone. The step sees three words, and the same
+// words may be exchanged by a Decide and by a Mark. Which event this exchange is, if it finds `old`,
+// is what its caller says by `N.event`: of that event `CanExchange` asks that it is enabled behind
+// each log that may come, and that event is the one that the seat's log then ends with.
 fn exchange_as<N: Named>(
     table: &TreeTable,
     seat: &mut TreeSeat,
@@ -77,6 +84,7 @@ fn exchange_as<N: Named>(
     ensures same_table { seat.new.table ≡ seat.old.table }
     ensures exchanged { Exchanged seat.old.view N.event place old result seat.new.view }
 {
+    // `N.event` where `old` is found, and otherwise no event. Meets another's write of the word.
     table
         .table
         .shared
@@ -109,8 +117,9 @@ fn exchange_or_lose_as<N: NamedEitherWay>(
     requires within { place < word_count_of table.now }
     requires events { CanExchangeOrLose seat.old.view place old new N.events.0 N.events.1 }
     ensures same_table { seat.new.table ≡ seat.old.table }
-    ensures exchanged { ExchangedOrLost seat.old.view N.events.0 N.events.1 place old result seat.new.view }
+    ensures exchanged { ExchangedEitherWay seat.old.view N.events place old result seat.new.view }
 {
+    // Root or Place where `old` is found, and otherwise Lose. Meets another's Root or Place.
     table
         .table
         .shared
@@ -134,7 +143,7 @@ pub fn exchange_or_lose(
     requires within { place < word_count_of table.now }
     requires events { CanExchangeOrLose seat.old.view place old new events.0 events.1 }
     ensures same_table { seat.new.table ≡ seat.old.table }
-    ensures exchanged { ExchangedOrLost seat.old.view events.0 events.1 place old result seat.new.view }
+    ensures exchanged { ExchangedEitherWay seat.old.view events place old result seat.new.view }
 {
     exchange_or_lose_as::<Brand>(table, seat, place, old, new)
 }

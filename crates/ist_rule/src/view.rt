@@ -1,6 +1,6 @@
 //! What a seat knows, and the rule that ties all views to the words.
 use atomic_table::TableRule;
-use ist_core::{Call, Command, Event, Pair};
+use ist_core::{Call, Command, Event, Load, Pair};
 use std::collections::LinkedList;
 use std::snapshot::Snapshot;
 
@@ -20,13 +20,6 @@ pub struct OwnWord {
     pub word: u64,
 }
 
-/// A load of the search: its place, the word, and how long the log was then.
-pub struct Load {
-    pub place: u64,
-    pub word: u64,
-    pub length: u64,
-}
-
 /// How long the log was when the search began, and its loads, the newest first.
 pub struct Loads {
     pub since: u64,
@@ -39,25 +32,33 @@ pub struct Pending {
     pub length: u64,
 }
 
-/// The calls of a caller whose seat the maker took back.
+/// A seat that met another at a join: whose it was, what it had seen, and what both had.
+pub struct Met {
+    pub who: Who,
+    pub log: LinkedList<Event>,
+    pub both: LinkedList<Event>,
+}
+
+/// A caller whose seat the maker took back: its calls, and what its seat had seen.
 pub struct Taken {
     pub number: u64,
     pub calls: LinkedList<Call>,
+    pub log: LinkedList<Event>,
 }
 
 /// What a seat knows. No value of it is ever made: contracts alone see it.
 ///
 /// `start` and `words` are those of the table. `log` is what was seen, the newest event first, and
-/// `olds` the logs that met at the last join. `own` are the words of own rows, the newest first;
+/// `olds` the two seats that met at the last join. `own` are the words of own rows, the newest first;
 /// `calls` the calls that were ended, the oldest first; `loaded` counts loads and failed exchanges.
 /// `made`, `given` and `taken` are the maker's: how many callers it entered, how many of these have
-/// their seats, and the calls of those that it took back.
+/// their seats, and those that it took back.
 pub struct View {
     pub start: LinkedList<Pair>,
     pub words: u64,
     pub who: Who,
     pub log: LinkedList<Event>,
-    pub olds: LinkedList<LinkedList<Event>>,
+    pub olds: LinkedList<Met>,
     pub own: LinkedList<OwnWord>,
     pub calls: LinkedList<Call>,
     pub stamp: u64,

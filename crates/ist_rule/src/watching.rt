@@ -5,7 +5,8 @@ ghost use Rattle.ist_core.specs.RowLayout.{inner_status_offset};
 ghost use Rattle.ist_rule.specs.Faces.{word_count_of};
 ghost use Rattle.ist_rule.specs.Learning.{LoadedAs};
 ghost use Rattle.ist_rule.specs.Conditions.{CanLoadAs};
-ghost use Rattle.ist_rule.specs.Watching.{okay_of, CanLoadOkay, pass_of, CanLoadPass, past_of, CanLoadPast};
+ghost use Rattle.ist_rule.specs.Watching.{CanLoadOkay, LoadedOkay, CanLoadPass, LoadedPass};
+ghost use Rattle.ist_rule.specs.Watching.{CanLoadPast, LoadedPast};
 
 use crate::opening::know;
 use crate::plays::{LoadsAs, NamedByLog};
@@ -28,6 +29,7 @@ fn load_as<N: NamedByLog>(
     ensures loaded { LoadedAs seat.old.view N.event place result seat.new.view }
 {
     let _ = (row, index);
+    // Okay, Pass or Lose, as `N.event` says for the log before and the word; it may be no event.
     table
         .table
         .shared
@@ -42,7 +44,7 @@ pub fn load_okay(table: &TreeTable, seat: &mut TreeSeat, change: u32, place: u64
     requires same_table { seat.old.table ≡ table.now.table }
     requires may_load { CanLoadOkay seat.old.view change place }
     ensures same_table { seat.new.table ≡ seat.old.table }
-    ensures seen { LoadedAs seat.old.view (okay_of seat.old.view change) place result seat.new.view }
+    ensures seen { LoadedOkay seat.old.view change place result seat.new.view }
 {
     know(seat);
     load_as::<Brand>(table, seat, place, change, 0)
@@ -56,19 +58,19 @@ pub fn load_pass(table: &TreeTable, seat: &mut TreeSeat, node: u32, index: u64, 
     requires same_table { seat.old.table ≡ table.now.table }
     requires may_load { CanLoadPass seat.old.view node index place }
     ensures same_table { seat.new.table ≡ seat.old.table }
-    ensures seen { LoadedAs seat.old.view (pass_of seat.old.view node index) place result seat.new.view }
+    ensures seen { LoadedPass seat.old.view node index place result seat.new.view }
 {
     know(seat);
     load_as::<Brand>(table, seat, place, node, index)
 }
 
-/// Loads the status of an inner row above the held pair row `pair`, which is lost by this step.
+/// Loads the status of an inner row above the held pair row `pair`, which is lost by this step: a
+/// Lose. Meets no other's step.
 pub fn load_past(table: &TreeTable, seat: &mut TreeSeat, pair: u32, node: u32) -> u64
     requires same_table { seat.old.table ≡ table.now.table }
     requires may_load { CanLoadPast seat.old.view pair node }
     ensures same_table { seat.new.table ≡ seat.old.table }
-    ensures seen { let place = node + inner_status_offset in
-        LoadedAs seat.old.view (past_of seat.old.view pair) place result seat.new.view }
+    ensures seen { LoadedPast seat.old.view pair node result seat.new.view }
 {
     know(seat);
     load_as::<Brand>(table, seat, u64::from(node) + INNER_STATUS_OFFSET, pair, 0)

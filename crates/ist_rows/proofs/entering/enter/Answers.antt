@@ -1,5 +1,6 @@
-use Rattle.std.proofs.Common.{refl, ◌≡◌, ◌<◌, ap, sym, arith}
-use Rattle.ist_rows.proofs.EnterLemmas.{can_enter, entered, new_caller}
+use Rattle.std.proofs.Common.{refl, ◌≡◌, ◌<◌, ap, sym, subst, arith}
+use Rattle.ist_rule.specs.declared.view.View.{View}
+use Rattle.ist_rows.proofs.EnterLemmas.{can_enter, entered, new_caller, Parts, parts}
 use Rattle.ist_rows.proofs.entering.enter.Goals as goal
 
 -- the maker may enter a caller
@@ -19,7 +20,7 @@ add-number-requires c =
 -- and gives it its seat
 pub returns-clause-caller : goal.returns-clause-caller
 returns-clause-caller c =
-    let e = entered _ _ _ c.know.ensures.sound c.requires.maker c.add-number.ensures.logged in
+    let e = entered _ _ _ c.know.ensures.sound c.requires.maker c.add-number.ensures.added.logged in
     let given = c.requires.given in
     let number = e.number in
     let made = e.made in
@@ -28,3 +29,33 @@ returns-clause-caller c =
     let same : c.add-number.new.seat.view.given ≡ c.add-number.result = omega arith in
     new_caller c.add-number.new.seat.view _ c.know-2.ensures.sound e.who less
     c.split-seat.ensures.new.1 (sym same) refl
+
+-- what both seats are then
+split : (c : goal.After-split-seat)
+    → Parts c.args.maker.now.view c.add-number.result c.split-seat.new.seat.view
+    c.split-seat.result.view
+split c =
+    let e = entered _ _ _ c.know.ensures.sound c.requires.maker c.add-number.ensures.added.logged in
+    let given = c.requires.given in
+    let number = e.number in
+    let made = e.made in
+    let kept = e.given in
+    let less : c.add-number.new.seat.view.given < c.add-number.new.seat.view.made = omega arith in
+    let same : c.add-number.new.seat.view.given ≡ c.add-number.result = omega arith in
+    let p = parts c.args.maker.now.view c.add-number.new.seat.view c.add-number.result
+    c.requires.maker c.add-number.ensures.added.logged c.know-2.ensures.sound same less in
+    subst (λ (w : View). Parts c.args.maker.now.view c.add-number.result w
+    c.split-seat.result.view) (sym c.split-seat.ensures.old.1)
+    (subst (Parts c.args.maker.now.view c.add-number.result _) (sym c.split-seat.ensures.new.1) p)
+
+pub returns-clause-holds_none : goal.returns-clause-holds_none
+returns-clause-holds_none c = (split c).held
+
+pub returns-clause-idle : goal.returns-clause-idle
+returns-clause-idle c = (split c).idle
+
+pub returns-clause-seat : goal.returns-clause-seat
+returns-clause-seat c = (split c).seat
+
+pub returns-clause-entered : goal.returns-clause-entered
+returns-clause-entered c = (split c).entered

@@ -1,11 +1,21 @@
 use Rattle.std.proofs.Common.{sym, ap, subst, ◌∙◌, arith}
 use Rattle.ist_rule.specs.declared.view.View.{View}
 use Rattle.ist_rule.specs.Faces.{SeatFace, TableFace}
-use Rattle.ist_rule.specs.Seating.{CanJoin}
+use Rattle.ist_rule.specs.Authors.{Later}
+use Rattle.ist_rule.specs.Learning.{Looked}
+use Rattle.ist_rule.specs.Seating.{joined, CanJoin}
 use Rattle.ist_rule.specs.Playing.{Seated}
-use Rattle.ist_rule.proofs.JoinLemmas.{joins}
+use Rattle.ist_rule.proofs.JoinLemmas.{joins, joined_later, joined_away_later}
 use Rattle.ist_rule.proofs.LookLemmas.{looks_moves}
 use Rattle.ist_rule.proofs.seating.join.Goals as goal
+
+-- the seats may be joined
+can_join : (c : goal.After-load) → CanJoin c.seat.inside.seat.me.0 c.other.inside.seat.me.0
+can_join c =
+    subst (λ x. CanJoin x c.other.inside.seat.me.0)
+    (ap (λ (s : SeatFace). s.view) (sym c.seat.view_is))
+    (subst (λ x. CanJoin c.args.seat.now.view x)
+    (ap (λ (s : SeatFace). s.view) (sym c.other.view_is)) c.requires.may_join)
 
 -- a join keeps the rule
 pub join_seat-requires : goal.join_seat-requires
@@ -37,3 +47,24 @@ load-requires c =
       looks_moves _ _ _ _ _ (λ dead. c.seat.invariant.1.live
           (sym (ap (λ (m : Seated). m.0.who) e.2) ∙ dead)),
     )
+
+-- the load behind it told of both seats
+looked_behind : (c : goal.After-load)
+    → Looked (joined c.seat.inside.seat.me.0 c.other.inside.seat.me.0) 0 c.load.result
+    c.load.new.seat.me.0
+looked_behind c =
+    subst (λ (m : Seated). Looked m.0 0 c.load.result c.load.new.seat.me.0) c.join_seat.ensures.2
+    c.load.ensures.2.0
+
+-- others alone made events since the seat's log
+pub returns-clause-later : goal.returns-clause-later
+returns-clause-later c =
+    subst (λ (s : SeatFace). Later s.view.who s.view.log c.load.new.seat.me.0.log) c.seat.view_is
+    (joined_later c.seat.inside.seat.me.0 c.other.inside.seat.me.0 _ _ (looked_behind c))
+
+-- and since the other's
+pub returns-clause-other_later : goal.returns-clause-other_later
+returns-clause-other_later c =
+    subst (λ (s : SeatFace). Later s.view.who s.view.log c.load.new.seat.me.0.log) c.other.view_is
+    (joined_away_later c.seat.inside.seat.me.0 c.other.inside.seat.me.0 _ _ (looked_behind c)
+    (can_join c) c.other.invariant.1.live)

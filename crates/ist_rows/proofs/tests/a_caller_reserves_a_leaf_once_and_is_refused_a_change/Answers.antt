@@ -1,6 +1,6 @@
 use Rattle.std.proofs.Common.{arith}
 use Rattle.ist_rows.specs.declared.kinds.Kind.TheVariants.{Leaf}
-use Rattle.ist_rows.proofs.tests.the_worked_example.Goals as goal
+use Rattle.ist_rows.proofs.tests.a_caller_reserves_a_leaf_once_and_is_refused_a_change.Goals as goal
 
 -- the caller holds its leaf row
 pub fill-requires-clause-held : goal.fill-requires-clause-held

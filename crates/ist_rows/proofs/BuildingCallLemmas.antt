@@ -1,0 +1,176 @@
+-- A caller whose reserving took the next row of its build, or was refused. Serves `reserve_inner`
+-- and the crates above.
+use Rattle.std.proofs.Common.{◌≡◌, ℕ, List, [], ◌∷◌, ◌++◌, Result, Ok, Err, IfOk, IfErr, sym, ap, ap₂, ◌∙◌, subst, arith}
+use Rattle.ist_core.specs.declared.ports.Full.{Full}
+use Rattle.ist_core.specs.declared.events.Event.TheVariants.{Reserve}
+use Rattle.ist_core.specs.Logs.{Log}
+use Rattle.ist_core.specs.Lawful.{Lawful, state_of}
+use Rattle.ist_core.proofs.RoomLemmas.{words_same}
+use Rattle.ist_rule.specs.declared.view.View.{View}
+use Rattle.ist_rule.specs.declared.view.Who.TheVariants.{Caller as CallerOf}
+use Rattle.ist_rule.specs.Authors.{Later}
+use Rattle.ist_rule.specs.Faces.{SeatFace}
+use Rattle.ist_rule.specs.Learning.{now, GoesOnTo, storing}
+use Rattle.ist_rule.proofs.LaterLemmas.{later_more}
+use Rattle.ist_rule.proofs.GoingOnLemmas.{goes_on_who, goes_on_more, looked_goes_on}
+use Rattle.ist_rows.specs.declared.callers.Caller.{Caller}
+use Rattle.ist_rows.specs.Rows.{spares_of, IsCaller, Reserved, IsFull}
+use Rattle.ist_rows.specs.Building.{AreStuck, IsInBuild, IsNext, HasTaken, HasRefused}
+use Rattle.ist_rows.proofs.CallerLemmas.{IsCallerIn, caller_later}
+use Rattle.ist_rows.proofs.CallerGoingLemmas.{now_is, caller_refused}
+use Rattle.ist_rows.proofs.ReserveLemmas.{looked_next}
+use Rattle.ist_rows.proofs.BuildingLemmas.{IsInBuildIn, stuck_last, at_later, next_fair, taken_inner, taken_at}
+
+-- the log behind a reserving, as a list of enabled events, and where the caller was before
+pub record Took (v : View) (number base size : ℕ) (w : View) : Type 0 where
+  pub before : Log
+  pub lawful : Lawful v.start v.words (Reserve number base size ∷ before)
+  pub later : Later v.who v.log before
+  pub now_is : now w ≡ state_of v.start v.words (Reserve number base size ∷ before)
+  pub who_is : w.who ≡ v.who
+
+pub took : (v : View) (number base size : ℕ) (w : View) → Reserved v number base size w
+    → Took v number base size w
+took v number base size w r =
+    let l = r.reserved in
+    let event = Reserve number base size in
+    let start_is : w.start ≡ v.start = ap (λ x. x.start) l.view ∙ ap (λ x. x.start) r.seen.same in
+    let words_is : w.words ≡ v.words = ap (λ x. x.words) l.view ∙ ap (λ x. x.words) r.seen.same in
+    let log_is : w.log ≡ event ∷ l.before = ap (λ x. x.log) l.view in
+    record {
+      before = l.before;
+      lawful = subst (λ p. Lawful p v.words (event ∷ l.before)) start_is
+          (subst (λ n. Lawful w.start n (event ∷ l.before)) words_is
+          (subst (Lawful w.start w.words) log_is l.sound.lawful));
+      later = later_more r.seen.later (subst (λ x. Later x r.before.log l.before)
+          (goes_on_who r.seen) l.later);
+      now_is = ap₂ (λ p n. state_of p n w.log) start_is words_is ∙ ap (state_of v.start v.words)
+          log_is;
+      who_is = ap (λ x. x.who) l.view ∙ goes_on_who r.seen;
+    }
+
+-- a caller that took the next row of its build is a caller, and is at the row behind
+module _ (who : Caller) (seat : SeatFace) (base size : ℕ) (c : IsCaller who)
+    (r : Reserved who.seat.view who.number base size seat.view) where
+  abbrev v : View
+  v = who.seat.view
+
+  abbrev w : View
+  w = seat.view
+
+  it : Took v who.number base size w
+  it = took v who.number base size w r
+
+  later : Later (CallerOf who.number) v.log it.before
+  later = subst (λ x. Later x v.log it.before) c.mine it.later
+
+  before : Lawful v.start v.words it.before
+  before = record { opens = it.lawful.opens; enabled = it.lawful.enabled.0 }
+
+  caller_before : IsCallerIn (state_of v.start v.words it.before) who.number (spares_of who)
+  caller_before =
+      caller_later v.start v.words v.log it.before who.number (spares_of who) before later
+      record { rows = c.rows; builds = c.builds }
+
+  at_before : (stuck done rest : List ℕ) → IsInBuild who stuck done rest
+      → IsInBuildIn (state_of v.start v.words it.before) who.number (spares_of who) stuck done rest
+  at_before stuck done rest h =
+      at_later v.start v.words v.log it.before who.number (spares_of who) stuck done rest before
+      later record { sizes = h.sizes; all_stuck = h.all_stuck; building = h.building }
+
+  pub caller_took : IsNext who size → IsCaller (record who { seat = seat })
+  caller_took n =
+      let there = subst (λ t. IsCallerIn t who.number (spares_of who)) (sym it.now_is)
+      (taken_inner v.start v.words it.before who.number (spares_of who) size base it.lawful.enabled
+      caller_before (next_fair v.start v.words it.before it.lawful.enabled.0 who.number
+      (spares_of who) n.stuck n.done n.rest size caller_before
+      (at_before n.stuck n.done (size ∷ n.rest) n.at))) in
+      record { mine = it.who_is ∙ c.mine; rows = there.rows; builds = there.builds }
+
+  pub at_took : (stuck done rest : List ℕ) → IsInBuild who stuck done (size ∷ rest)
+      → IsInBuild (record who { seat = seat }) stuck (done ++ size ∷ []) rest
+  at_took stuck done rest h =
+      let there = subst (λ t. IsInBuildIn t who.number (spares_of who) stuck
+      (done ++ size ∷ []) rest) (sym it.now_is)
+      (taken_at v.start v.words it.before who.number (spares_of who) size base it.lawful.enabled
+      caller_before stuck done rest (at_before stuck done (size ∷ rest) h)) in
+      record { sizes = there.sizes; all_stuck = there.all_stuck; building = there.building }
+
+-- ---- the seat goes on
+
+-- a caller is at its build where its seat made loads
+pub at_goes_on : (who : Caller) (seat : SeatFace) (stuck done rest : List ℕ) → IsCaller who
+    → GoesOnTo who.seat.view seat.view → IsInBuild who stuck done rest
+    → IsInBuild (record who { seat = seat }) stuck done rest
+at_goes_on who seat stuck done rest c g h =
+    let v = who.seat.view in
+    let lawful : Lawful v.start v.words seat.view.log =
+    subst (λ p. Lawful p v.words seat.view.log) (ap (λ x. x.start) g.same)
+    (subst (λ n. Lawful seat.view.start n seat.view.log) (ap (λ x. x.words) g.same)
+    g.sound.lawful) in
+    let there = subst (λ t. IsInBuildIn t who.number (spares_of who) stuck done rest)
+    (sym (now_is v seat.view g))
+    (at_later v.start v.words v.log seat.view.log who.number (spares_of who) stuck done rest lawful
+    (subst (λ w. Later w v.log seat.view.log) c.mine g.later)
+    record { sizes = h.sizes; all_stuck = h.all_stuck; building = h.building }) in
+    record { sizes = there.sizes; all_stuck = there.all_stuck; building = there.building }
+
+-- and where it stored a word
+pub at_storing : (who : Caller) (place word : ℕ) (stuck done rest : List ℕ)
+    → IsInBuild who stuck done rest
+    → IsInBuild (record who { seat = record who.seat { view = storing who.seat.view place word } })
+    stuck done rest
+at_storing who place word stuck done rest h =
+    record { sizes = h.sizes; all_stuck = h.all_stuck; building = h.building }
+
+-- a caller whose build was refused has refused builds alone
+pub refused : (who : Caller) (seat : SeatFace) (words size : ℕ) (full : Full) → IsCaller who
+    → words ≡ who.seat.view.words
+    → IsNext who size → IsFull who.seat.view words size full seat.view
+    → HasRefused (record who { seat = seat })
+refused who seat words size full c words_is n f =
+    let v = who.seat.view in
+    let w = seat.view in
+    let g = goes_on_more _ _ _ f.seen (looked_goes_on _ _ _ _ f.looked) in
+    let h = at_goes_on who seat n.stuck n.done (size ∷ n.rest) c g n.at in
+    let next = looked_next f.before full.next w f.looked in
+    let all = words_same w.start w.words g.sound.lawful.opens w.log in
+    let same = ap (λ (x : View). x.words) g.same in
+    let small = f.small in
+    subst (AreStuck (now w)) (sym h.sizes)
+    (stuck_last (now w) n.stuck n.done h.all_stuck record {
+      next_size = size;
+      rest = n.rest;
+      building = h.building;
+      no_room = omega arith;
+    })
+
+-- ---- what a reserving answers
+
+-- a caller is one behind it, whatever it answers
+pub caller_behind : (who : Caller) (seat : SeatFace) (words size : ℕ) (answer : Result ℕ Full)
+    → IsCaller who → IsNext who size
+    → IfOk answer (λ base. Reserved who.seat.view who.number base size seat.view)
+    → IfErr answer (λ full. IsFull who.seat.view words size full seat.view)
+    → IsCaller (record who { seat = seat })
+caller_behind who seat words size (Ok base) c n ok err = caller_took who seat base size c ok n
+caller_behind who seat words size (Err full) c n ok err =
+    caller_refused who seat words size full c err
+
+-- where it answers a row, the caller has taken it
+pub taken_behind : (who : Caller) (seat : SeatFace) (size : ℕ) (answer : Result ℕ Full)
+    → IsCaller who
+    → IfOk answer (λ base. Reserved who.seat.view who.number base size seat.view)
+    → IfOk answer (λ base. HasTaken who (size ∷ []) (record who { seat = seat }))
+taken_behind who seat size (Ok base) c ok =
+    λ stuck done rest h. at_took who seat base size c ok stuck done rest h
+taken_behind who seat size (Err full) c ok = tt
+
+-- and otherwise its build was refused
+pub refused_behind : (who : Caller) (seat : SeatFace) (words size : ℕ) (answer : Result ℕ Full)
+    → IsCaller who → words ≡ who.seat.view.words → IsNext who size
+    → IfErr answer (λ full. IsFull who.seat.view words size full seat.view)
+    → IfErr answer (λ full. HasRefused (record who { seat = seat }))
+refused_behind who seat words size (Ok base) c words_is n err = tt
+refused_behind who seat words size (Err full) c words_is n err =
+    refused who seat words size full c words_is n err

@@ -1,0 +1,205 @@
+-- A caller whose seat went on by events of its own, in the words of its views. Serves `laws`.
+use Rattle.std.proofs.Common.{◌≡◌, ℕ, ◌==◌, not, List, ◌∷◌, map, filter, sym, ap, ◌∙◌, subst, inl, inr}
+use Rattle.ist_core.specs.declared.events.Event.{Event}
+use Rattle.ist_core.specs.declared.lists.HeldRow.{HeldRow}
+use Rattle.ist_core.specs.declared.pairs.Pair.{Pair}
+use Rattle.ist_core.specs.Authors.{no_more, one_more}
+use Rattle.ist_core.specs.Deciding.{AllResolvedOf}
+use Rattle.ist_core.specs.Elements.{Among}
+use Rattle.ist_core.specs.Lawful.{EachEnabled, Lawful, state_of}
+use Rattle.ist_core.specs.Logs.{Log, same_log, one_event}
+use Rattle.ist_core.specs.StartLayout.{start}
+use Rattle.ist_core.proofs.ElementLemmas.{among-filter, among_filter}
+use Rattle.ist_rule.specs.declared.view.View.{View}
+use Rattle.ist_rule.specs.declared.view.Who.TheVariants.{Caller as CallerOf}
+use Rattle.ist_rule.specs.Authors.{whose, Later, LaterBy}
+use Rattle.ist_rule.specs.Conditions.{IsResolved}
+use Rattle.ist_rule.specs.Faces.{SeatFace}
+use Rattle.ist_rule.specs.Going.{WentOn}
+use Rattle.ist_rule.specs.Learning.{now, Logged, LoggedLoad}
+use Rattle.ist_rule.specs.Rule.{IsSound}
+use Rattle.ist_rule.proofs.CallLemmas.{installs_not}
+use Rattle.ist_rule.proofs.LaterLemmas.{later-goes_on}
+use Rattle.ist_rule.proofs.UndecidedLemmas.{resolved_on}
+use Rattle.ist_rule.proofs.WentOnLemmas.{later_by-goes_on, went_who, went_now, went_lawful}
+use Rattle.ist_rows.specs.declared.callers.Caller.{Caller}
+use Rattle.ist_rows.specs.declared.kinds.Kind.{Kind}
+use Rattle.ist_rows.specs.Rows.{spares_of, is_spare, held_by, build_sizes, IsCaller}
+use Rattle.ist_rows.specs.Building.{AreStuck, HasRefused}
+use Rattle.ist_rows.specs.CallerLaws.{KeepsRows, InstallsNone, held_behind, GivesUp, AreBasesOf, without_rows, IsWithout}
+use Rattle.ist_rows.proofs.BuildLemmas.{ComesBehind}
+use Rattle.ist_rows.proofs.BuildingLemmas.{all_stuck_on}
+use Rattle.ist_rows.proofs.CallerLemmas.{IsCallerIn, caller_later}
+use Rattle.ist_rows.proofs.GivenRowsLemmas.{sizes_given, caller_given}
+use Rattle.ist_rows.proofs.HeldBehindLemmas.{own_number, held_by_own, held_by_went, behind_between, caller_between}
+use Rattle.ist_rows.proofs.HeldListLemmas.{held_by_later}
+
+-- ---- many events
+
+-- what the caller holds stays
+same_held : (who : Caller) (seat : SeatFace) → IsCaller who
+    → WentOn KeepsRows who.seat.view seat.view
+    → held_by (now seat.view) who.number ≡ held_by (now who.seat.view) who.number
+same_held who seat c g =
+    let v = who.seat.view in
+    ap (λ t. held_by t who.number) (went_now KeepsRows v seat.view g)
+    ∙ held_by_went v.start v.words who.number v.log seat.view.log
+    (went_lawful KeepsRows v seat.view g).enabled
+    (subst (λ w. LaterBy w KeepsRows v.log seat.view.log) c.mine g.later)
+
+-- a row that its seat's caller holds is held still
+pub row_went : (v w : View) → WentOn KeepsRows v w → (h : HeldRow) → v.who ≡ CallerOf h.caller
+    → Among h (now v).held → Among h (now w).held
+row_went v w g h mine i =
+    let same = ap (λ t. held_by t h.caller) (went_now KeepsRows v w g)
+    ∙ held_by_went v.start v.words h.caller v.log w.log (went_lawful KeepsRows v w g).enabled
+    (subst (λ who. LaterBy who KeepsRows v.log w.log) mine g.later) in
+    (among-filter (λ (x : HeldRow). x.caller == h.caller) h (now w).held
+    (subst (Among h) (sym same)
+    (among_filter (λ (x : HeldRow). x.caller == h.caller) h (now v).held i
+    (own_number h.caller)))).0
+
+pub caller_went : (who : Caller) (seat : SeatFace) → IsCaller who
+    → WentOn KeepsRows who.seat.view seat.view → IsCaller (record who { seat = seat })
+caller_went who seat c g =
+    let v = who.seat.view in
+    let lawful = went_lawful KeepsRows v seat.view g in
+    let is = went_now KeepsRows v seat.view g in
+    let it = caller_between v.start v.words v.log seat.view.log who.number (spares_of who) lawful
+    (later_by-goes_on g.later)
+    (ap (λ t. held_by t who.number) (sym is) ∙ same_held who seat c g)
+    record { rows = c.rows; builds = c.builds } in
+    let there = subst (λ t. IsCallerIn t who.number (spares_of who)) (sym is) it in
+    record {
+      mine = went_who KeepsRows v seat.view g ∙ c.mine;
+      rows = there.rows;
+      builds = there.builds;
+    }
+
+pub refused_went : (who : Caller) (seat : SeatFace) → IsCaller who → HasRefused who
+    → WentOn KeepsRows who.seat.view seat.view → HasRefused (record who { seat = seat })
+refused_went who seat c r g =
+    let v = who.seat.view in
+    let lawful = went_lawful KeepsRows v seat.view g in
+    let behind = subst (ComesBehind (now v)) (sym (went_now KeepsRows v seat.view g))
+    (behind_between v.start v.words v.log seat.view.log lawful (later_by-goes_on g.later)) in
+    subst (λ held. AreStuck (now seat.view)
+    (map (λ (h : HeldRow). h.size) (filter (λ h. not (is_spare (spares_of who) h.base)) held)))
+    (sym (same_held who seat c g)) (all_stuck_on (now v) (now seat.view) behind _ r)
+
+-- changes that are resolved stay so where the caller installs none
+resolved_by : (pairs : List Pair) (words : ℕ) (number : ℕ) (old log : Log)
+    → EachEnabled (start pairs words) log → LaterBy (CallerOf number) InstallsNone old log
+    → AllResolvedOf (state_of pairs words old) old number
+    → AllResolvedOf (state_of pairs words log) log number
+resolved_by pairs words number old _ enabled no_more all = all
+resolved_by pairs words number old _ enabled (one_more {log = log} event l (inl other)) all =
+    resolved_on pairs words log event enabled number (installs_not number event other)
+    (resolved_by pairs words number old log enabled.0 l all)
+resolved_by pairs words number old _ enabled (one_more {log = log} event l (inr is)) all =
+    resolved_on pairs words log event enabled number (λ base rows e. subst InstallsNone e is)
+    (resolved_by pairs words number old log enabled.0 l all)
+
+pub resolved_went : (v w : View) (number : ℕ) → v.who ≡ CallerOf number → IsResolved v number
+    → WentOn InstallsNone v w → IsResolved w number
+resolved_went v w number mine all g =
+    subst (λ t. AllResolvedOf t w.log number) (sym (went_now InstallsNone v w g))
+    (resolved_by v.start v.words number v.log w.log (went_lawful InstallsNone v w g).enabled
+    (subst (λ who. LaterBy who InstallsNone v.log w.log) mine g.later) all)
+
+-- ---- one event
+
+-- a seat has made the event, behind which it has seen this log
+pub record HasLogged (v : View) (event : Event) (before : Log) (w : View) : Type 0 where
+  pub later : Later v.who v.log before
+  pub lawful : Lawful v.start v.words (event ∷ before)
+  pub now_is : now w ≡ state_of v.start v.words (event ∷ before)
+  pub who_is : w.who ≡ v.who
+
+pub logged_made : (v : View) (event : Event) (w : View) (l : Logged v event w)
+    → HasLogged v event l.before w
+logged_made v event w l =
+    let s = subst IsSound l.view l.sound in
+    record {
+      later = l.later;
+      lawful = s.lawful;
+      now_is = ap now l.view;
+      who_is = ap (λ x. x.who) l.view;
+    }
+
+pub loaded_made : (v : View) (event : Event) (place word : ℕ) (w : View)
+    → (l : LoggedLoad v event place word w) → HasLogged v event l.before w
+loaded_made v event place word w l =
+    let s = subst IsSound l.view l.sound in
+    record {
+      later = l.later;
+      lawful = s.lawful;
+      now_is = ap now l.view;
+      who_is = ap (λ x. x.who) l.view;
+    }
+
+-- it changes what its caller holds just so
+pub held_made : (v w : View) (number : ℕ) (event : Event) (before : Log) → v.who ≡ CallerOf number
+    → whose event ≡ CallerOf number → HasLogged v event before w
+    → held_by (now w) number ≡ held_behind event (held_by (now v) number)
+held_made v w number event before mine its m =
+    ap (λ t. held_by t number) m.now_is
+    ∙ held_by_own v.start v.words before number event its
+    ∙ ap (held_behind event) (held_by_later v.start v.words number v.log before
+    m.lawful.enabled.0 (subst (λ who. Later who v.log before) mine m.later))
+
+module _ (old new : Caller) (kinds : List Kind) (event : Event) (bases : List ℕ) (c : IsCaller old)
+    (before : Log) (m : HasLogged old.seat.view event before new.seat.view)
+    (its : whose event ≡ CallerOf old.number) (gives : GivesUp event bases)
+    (a : AreBasesOf kinds (spares_of old) bases) (without : IsWithout kinds old new) where
+  abbrev v : View
+  v = old.seat.view
+
+  later : Later (CallerOf old.number) v.log before
+  later = subst (λ who. Later who v.log before) c.mine m.later
+
+  lawful_before : Lawful v.start v.words before
+  lawful_before = record { opens = m.lawful.opens; enabled = m.lawful.enabled.0 }
+
+  caller_before : IsCallerIn (state_of v.start v.words before) old.number (spares_of old)
+  caller_before = caller_later v.start v.words v.log before old.number (spares_of old) lawful_before
+      later record { rows = c.rows; builds = c.builds }
+
+  pub caller_made : IsCaller new
+  caller_made =
+      let it = caller_given v.start v.words before event m.lawful old.number its bases gives kinds
+      (spares_of old) a caller_before in
+      let there = subst (λ own. IsCallerIn (now new.seat.view) new.number own) (sym without.rows)
+      (subst (λ n. IsCallerIn (now new.seat.view) n (without_rows kinds (spares_of old)))
+      (sym without.number)
+      (subst (λ t. IsCallerIn t old.number (without_rows kinds (spares_of old))) (sym m.now_is)
+      it)) in
+      record {
+        mine = m.who_is ∙ c.mine ∙ ap CallerOf (sym without.number);
+        rows = there.rows;
+        builds = there.builds;
+      }
+
+  pub refused_made : HasRefused old → HasRefused new
+  refused_made r =
+      let t = state_of v.start v.words before in
+      let u = state_of v.start v.words (event ∷ before) in
+      let on = behind_between v.start v.words before (event ∷ before) m.lawful
+      (one_event event same_log) in
+      let first = behind_between v.start v.words v.log before lawful_before (later-goes_on later) in
+      let was : AreStuck t (build_sizes t old.number (spares_of old)) =
+      subst (λ held. AreStuck t
+      (map (λ (h : HeldRow). h.size) (filter (λ h. not (is_spare (spares_of old) h.base)) held)))
+      (sym (held_by_later v.start v.words old.number v.log before lawful_before.enabled later))
+      (all_stuck_on (now v) t first _ r) in
+      let is : AreStuck u (build_sizes u old.number (without_rows kinds (spares_of old))) =
+      subst (AreStuck u)
+      (sym (sizes_given v.start v.words before event m.lawful old.number its bases gives kinds
+      (spares_of old) a caller_before))
+      (all_stuck_on t u on _ was) in
+      subst (λ own. AreStuck (now new.seat.view) (build_sizes (now new.seat.view) new.number own))
+      (sym without.rows)
+      (subst (λ n. AreStuck (now new.seat.view)
+      (build_sizes (now new.seat.view) n (without_rows kinds (spares_of old)))) (sym without.number)
+      (subst (λ x. AreStuck x (build_sizes x old.number (without_rows kinds (spares_of old))))
+      (sym m.now_is) is))

@@ -1,0 +1,64 @@
+-- A caller that gives up its pair row. Serves `drop_pair`.
+use Rattle.std.proofs.Common.{◌≡◌, ℕ, ◌+◌, ◌<◌, [], ◌∷◌, Some, None, refl, sym, ap, ◌∙◌, subst}
+use Rattle.ist_core.specs.declared.events.Event.{Event}
+use Rattle.ist_core.specs.declared.events.Event.TheVariants.{Lose}
+use Rattle.ist_core.specs.RowLayout.{inner_status_offset}
+use Rattle.ist_rule.specs.declared.view.View.{View}
+use Rattle.ist_rule.specs.declared.view.Who.TheVariants.{Caller as CallerOf}
+use Rattle.ist_rule.specs.Faces.{SeatFace}
+use Rattle.ist_rule.specs.Learning.{LoggedLoad, LoadedAs, as_event, as_load}
+use Rattle.ist_rule.specs.Watching.{number_of, past_of, CanLoadPast}
+use Rattle.ist_rows.specs.declared.callers.Caller.{Caller}
+use Rattle.ist_rows.specs.declared.kinds.Kind.TheVariants.{Pair}
+use Rattle.ist_rows.specs.Rows.{IsCaller}
+use Rattle.ist_rows.specs.Dropping.{HasPairBelow, HasLost}
+use Rattle.ist_rows.proofs.CallerLawLemmas.{loaded_made, caller_made}
+
+-- it may load the node's status, and lose the row
+pub may_drop : (who : Caller) (pair node : ℕ) → IsCaller who → HasPairBelow who node
+    → who.pair ≡ Some pair → CanLoadPast who.seat.view pair node
+may_drop who pair node c h is =
+    let same : h.pair ≡ pair = one h.pair (sym h.held ∙ is) in
+    record {
+      number = who.number;
+      mine = c.mine;
+      held = c.rows Pair pair is;
+      row = h.row;
+      published = h.published;
+      above = subst (λ n. n < node) same h.below;
+    }
+  where
+    one : (p : ℕ) → Some p ≡ Some pair → p ≡ pair
+    one p e = cc
+
+-- the load is the loss
+pub has_lost : (v : View) (number pair node place word : ℕ) (w : View) → v.who ≡ CallerOf number
+    → place ≡ node + inner_status_offset → LoadedAs v (past_of v pair) place word w
+    → HasLost v number pair node w
+has_lost v number pair node place word w who at (as_load l none) = absurd (clash none)
+  where
+    clash : {event : Event} → Some event ≡ None → ⊥
+    clash e = cc
+has_lost v number pair node place word w who at (as_event event l e) = (
+  word,
+  subst (λ p. LoggedLoad v (Lose number (pair ∷ [])) p word w) at
+      (subst (λ x. LoggedLoad v x place word w) (sym is) l),
+)
+  where
+    one : (a b : Event) → Some a ≡ Some b → a ≡ b
+    one a b f = cc
+
+    is : Lose number (pair ∷ []) ≡ event
+    is = ap (λ x. Lose (number_of x) (pair ∷ [])) (sym who)
+        ∙ one (Lose (number_of v.who) (pair ∷ [])) event e
+
+-- who lost its pair row is a caller without it
+pub caller_dropped : (who : Caller) (seat : SeatFace) (pair place word : ℕ) → IsCaller who
+    → who.pair ≡ Some pair
+    → LoggedLoad who.seat.view (Lose who.number (pair ∷ [])) place word seat.view
+    → IsCaller (record who { seat = seat; pair = None })
+caller_dropped who seat pair place word c is l =
+    caller_made who (record who { seat = seat; pair = None }) (Pair ∷ [])
+    (Lose who.number (pair ∷ [])) (pair ∷ []) c l.before
+    (loaded_made who.seat.view (Lose who.number (pair ∷ [])) place word seat.view l) refl refl
+    (is, tt) record { number = refl; rows = refl }

@@ -1,0 +1,252 @@
+-- A caller without rows of some kinds, which it has published or lost. Serves
+-- `laws.given_rows_go`.
+use Rattle.std.proofs.Common.{◌≡◌, ℕ, ◌⊎◌, ◌==◌, ◌||◌, not, Bool, true, false, if◌then◌else◌, List, [], ◌∷◌, map, filter, Some, None, refl, sym, ap, ap₂, ◌∙◌, subst, inl, inr, ⊎_elim}
+use Rattle.std.specs.List.{list_any}
+use Rattle.ist_core.specs.declared.events.Event.{Event}
+use Rattle.ist_core.specs.declared.lists.HeldRow.{HeldRow}
+use Rattle.ist_core.specs.declared.pairs.Pair.{Pair}
+use Rattle.ist_core.specs.Elements.{Among}
+use Rattle.ist_core.specs.Fairness.{AreBuilds}
+use Rattle.ist_core.specs.Lawful.{Lawful, state_of}
+use Rattle.ist_core.specs.Logs.{Log, same_log, one_event}
+use Rattle.ist_core.specs.Snapshots.{without, HoldsRow}
+use Rattle.ist_core.specs.StartLayout.{start}
+use Rattle.ist_core.proofs.ElementLemmas.{among-filter, among_filter}
+use Rattle.ist_core.proofs.PublishingLemmas.{among_bases}
+use Rattle.ist_core.proofs.SoundLemmas.{sound}
+use Rattle.ist_core.proofs.StartLemmas.{sound_start}
+use Rattle.ist_rule.specs.declared.view.Who.TheVariants.{Caller as CallerOf}
+use Rattle.ist_rule.specs.Authors.{whose}
+use Rattle.ist_rows.specs.declared.kinds.Kind.{Kind}
+use Rattle.ist_rows.specs.declared.kinds.Kind.TheVariants.{Leaf, Pair as PairKind, Change, Rebuild}
+use Rattle.ist_rows.specs.Kinds.{kind_words}
+use Rattle.ist_rows.specs.Rows.{Spares, row_of, is_base, is_spare, held_by, build_sizes}
+use Rattle.ist_rows.specs.CallerLaws.{GivesUp, AreBasesOf, without_row, without_rows}
+use Rattle.ist_rows.proofs.BuildLemmas.{builds_on}
+use Rattle.ist_rows.proofs.CallerLemmas.{IsCallerIn, kind_of_words}
+use Rattle.ist_rows.proofs.CallerGoingLemmas.{base_same, or_any}
+use Rattle.ist_rows.proofs.HeldBehindLemmas.{filter_at, held_by_own, held_behind-given, behind_between}
+
+-- ---- rows of kinds
+
+none_some : (base : ℕ) → None ≡ Some base → ⊥
+none_some base e = cc
+
+some_one : (a b : ℕ) → Some a ≡ Some b → a ≡ b
+some_one a b e = cc
+
+-- without the row of one kind there is none of it, and those of the others are the same
+row_without : (kind other : Kind) (own : Spares)
+    → ((kind ≡ other) × (row_of other (without_row kind own) ≡ None))
+    ⊎ (row_of other (without_row kind own) ≡ row_of other own)
+row_without Leaf Leaf own = inl (refl, refl)
+row_without PairKind PairKind own = inl (refl, refl)
+row_without Change Change own = inl (refl, refl)
+row_without Rebuild Rebuild own = inl (refl, refl)
+row_without Leaf PairKind own = inr refl
+row_without Leaf Change own = inr refl
+row_without Leaf Rebuild own = inr refl
+row_without PairKind Leaf own = inr refl
+row_without PairKind Change own = inr refl
+row_without PairKind Rebuild own = inr refl
+row_without Change Leaf own = inr refl
+row_without Change PairKind own = inr refl
+row_without Change Rebuild own = inr refl
+row_without Rebuild Leaf own = inr refl
+row_without Rebuild PairKind own = inr refl
+row_without Rebuild Change own = inr refl
+
+none_here : (kind : Kind) (own : Spares) → row_of kind (without_row kind own) ≡ None
+none_here Leaf own = refl
+none_here PairKind own = refl
+none_here Change own = refl
+none_here Rebuild own = refl
+
+-- the row of a kind, where those of some kinds are gone
+row_left : (kinds : List Kind) (own : Spares) (other : Kind)
+    → (row_of other (without_rows kinds own) ≡ None)
+    ⊎ (row_of other (without_rows kinds own) ≡ row_of other own)
+row_left [] own other = inr refl
+row_left (kind ∷ kinds) own other =
+    ⊎_elim (λ k. inl k.1)
+    (λ same. ⊎_elim (λ e. inl (same ∙ e)) (λ e. inr (same ∙ e)) (row_left kinds own other))
+    (row_without kind other (without_rows kinds own))
+
+-- there is none of these kinds
+row_gone : (kinds : List Kind) (own : Spares) (other : Kind) → Among other kinds
+    → row_of other (without_rows kinds own) ≡ None
+row_gone [] own other i = absurd i
+row_gone (kind ∷ kinds) own other (inl e) =
+    subst (λ k. row_of k (without_row kind (without_rows kinds own)) ≡ None) (sym e)
+    (none_here kind (without_rows kinds own))
+row_gone (kind ∷ kinds) own other (inr i) =
+    ⊎_elim (λ k. k.1) (λ same. same ∙ row_gone kinds own other i)
+    (row_without kind other (without_rows kinds own))
+
+-- a base among those of some kinds is that of the row of one
+kind_given : (kinds : List Kind) (own : Spares) (bases : List ℕ) → AreBasesOf kinds own bases
+    → (base : ℕ) → Among base bases
+    → (kind : Kind) × Among kind kinds × (row_of kind own ≡ Some base)
+kind_given [] own [] a base i = absurd i
+kind_given [] own (b ∷ bases) a base i = absurd a
+kind_given (kind ∷ kinds) own [] a base i = absurd i
+kind_given (kind ∷ kinds) own (b ∷ bases) a base (inl e) =
+    (kind, inl refl, a.0 ∙ ap Some (sym e))
+kind_given (kind ∷ kinds) own (b ∷ bases) a base (inr i) =
+    let it = kind_given kinds own bases a.1 base i in (it.0, inr it.1, it.2)
+
+-- ---- spare rows
+
+-- the row of a kind is spare
+spare_of : (kind : Kind) (own : Spares) (base : ℕ) → row_of kind own ≡ Some base
+    → is_spare own base ≡ true
+spare_of kind own base e = at kind (ap (λ o. is_base o base) e ∙ base_same base)
+  where
+    at : (k : Kind) → is_base (row_of k own) base ≡ true → is_spare own base ≡ true
+    at Leaf f =
+        ap (λ a. a || (is_base own.pair base
+        || (is_base own.change base || is_base own.rebuild base))) f
+    at PairKind f =
+        ap (λ a. is_base own.leaf base
+        || (a || (is_base own.change base || is_base own.rebuild base))) f
+        ∙ or_any (is_base own.leaf base)
+    at Change f =
+        ap (λ a. is_base own.leaf base
+        || (is_base own.pair base || (a || is_base own.rebuild base))) f
+        ∙ ap (λ a. is_base own.leaf base || a) (or_any (is_base own.pair base))
+        ∙ or_any (is_base own.leaf base)
+    at Rebuild f =
+        ap (λ a. is_base own.leaf base
+        || (is_base own.pair base || (is_base own.change base || a))) f
+        ∙ ap (λ a. is_base own.leaf base || (is_base own.pair base || a))
+        (or_any (is_base own.change base))
+        ∙ ap (λ a. is_base own.leaf base || a) (or_any (is_base own.pair base))
+        ∙ or_any (is_base own.leaf base)
+
+-- a row that isn't that of the kind is as spare without it
+spare_less : (kind : Kind) (own : Spares) (base : ℕ) → is_base (row_of kind own) base ≡ false
+    → is_spare (without_row kind own) base ≡ is_spare own base
+spare_less Leaf own base f =
+    ap (λ a. a || (is_base own.pair base || (is_base own.change base || is_base own.rebuild base)))
+    (sym f)
+spare_less PairKind own base f =
+    ap (λ a. is_base own.leaf base || (a || (is_base own.change base || is_base own.rebuild base)))
+    (sym f)
+spare_less Change own base f =
+    ap (λ a. is_base own.leaf base || (is_base own.pair base || (a || is_base own.rebuild base)))
+    (sym f)
+spare_less Rebuild own base f =
+    ap (λ a. is_base own.leaf base || (is_base own.pair base || (is_base own.change base || a)))
+    (sym f)
+
+-- a row at none of the bases of some kinds is as spare without these
+spare_left : (kinds : List Kind) (own : Spares) (bases : List ℕ) → AreBasesOf kinds own bases
+    → (base : ℕ) → list_any (λ b. b == base) bases ≡ false
+    → is_spare (without_rows kinds own) base ≡ is_spare own base
+spare_left [] own bases a base out = refl
+spare_left (kind ∷ kinds) own [] a base out = absurd a
+spare_left (kind ∷ kinds) own (b ∷ bases) a base out =
+    spare_less kind (without_rows kinds own) base
+    (⊎_elim (λ e. ap (λ o. is_base o base) e)
+    (λ e. ap (λ o. is_base o base) (e ∙ a.0) ∙ first (b == base) _ out)
+    (row_left kinds own kind))
+    ∙ spare_left kinds own bases a.1 base (second (b == base) _ out)
+  where
+    first : (x y : Bool) → (x || y) ≡ false → x ≡ false
+    first true y e = e
+    first false y e = refl
+
+    second : (x y : Bool) → (x || y) ≡ false → y ≡ false
+    second true y e = absurd (cc)
+    second false y e = e
+
+-- so the rows of builds are the same
+builds_left : (kinds : List Kind) (own : Spares) (bases : List ℕ) → AreBasesOf kinds own bases
+    → (held : List HeldRow)
+    → filter (λ h. not (is_spare (without_rows kinds own) h.base)) (without bases held)
+    ≡ filter (λ h. not (is_spare own h.base)) held
+builds_left kinds own bases a [] = refl
+builds_left kinds own bases a (h ∷ held) =
+    at (builds_left kinds own bases a held) (list_any (λ b. b == h.base) bases) refl
+  where
+    at : filter (λ g. not (is_spare (without_rows kinds own) g.base)) (without bases held)
+        ≡ filter (λ g. not (is_spare own g.base)) held
+        → (b : Bool) → list_any (λ x. x == h.base) bases ≡ b
+        → filter (λ g. not (is_spare (without_rows kinds own) g.base)) (without bases (h ∷ held))
+        ≡ filter (λ g. not (is_spare own g.base)) (h ∷ held)
+    at rest true e =
+        let k = kind_given kinds own bases a h.base (among_bases h.base bases e) in
+        ap (filter (λ g. not (is_spare (without_rows kinds own) g.base)))
+        (filter_at (λ (g : HeldRow). not (list_any (λ x. x == g.base) bases)) h held false
+        (ap not e))
+        ∙ rest
+        ∙ sym (filter_at (λ (g : HeldRow). not (is_spare own g.base)) h held false
+        (ap not (spare_of k.0 own h.base k.2)))
+    at rest false e =
+        ap (filter (λ g. not (is_spare (without_rows kinds own) g.base)))
+        (filter_at (λ (g : HeldRow). not (list_any (λ x. x == g.base) bases)) h held true
+        (ap not e))
+        ∙ ap₂ (λ v ys. if not v then h ∷ ys else ys)
+        (spare_left kinds own bases a h.base e) rest
+
+-- ---- a caller that has given rows up
+
+module _ (pairs : List Pair) (words : ℕ) (log : Log) (event : Event)
+    (lawful : Lawful pairs words (event ∷ log)) (number : ℕ) (mine : whose event ≡ CallerOf number)
+    (bases : List ℕ) (gives : GivesUp event bases) (kinds : List Kind) (own : Spares)
+    (a : AreBasesOf kinds own bases) (c : IsCallerIn (state_of pairs words log) number own) where
+  held_now : held_by (state_of pairs words (event ∷ log)) number
+      ≡ without bases (held_by (state_of pairs words log) number)
+  held_now =
+      held_by_own pairs words log number event mine
+      ∙ held_behind-given event bases (held_by (state_of pairs words log) number) gives
+
+  -- the sizes of its builds are the same
+  pub sizes_given : build_sizes (state_of pairs words (event ∷ log)) number (without_rows kinds own)
+      ≡ build_sizes (state_of pairs words log) number own
+  sizes_given =
+      ap (λ held. map (λ (h : HeldRow). h.size)
+      (filter (λ h. not (is_spare (without_rows kinds own) h.base)) held)) held_now
+      ∙ ap (map (λ (h : HeldRow). h.size))
+      (builds_left kinds own bases a (held_by (state_of pairs words log) number))
+
+  -- a row of another kind is none of those that are given up
+  out : (kind : Kind) (base : ℕ) → row_of kind (without_rows kinds own) ≡ Some base
+      → row_of kind own ≡ Some base → (b : Bool) → list_any (λ x. x == base) bases ≡ b → b ≡ false
+  out kind base e was false f = refl
+  out kind base e was true f =
+      let k = kind_given kinds own bases a base (among_bases base bases f) in
+      let s = sound (start pairs words) log (sound_start pairs words) lawful.enabled.0 in
+      let same = s.once record { caller = number; base = base; size = kind_words k.0 }
+      record { caller = number; base = base; size = kind_words kind }
+      (c.rows k.0 base k.2) (c.rows kind base was) refl in
+      let one : k.0 ≡ kind = kind_of_words k.0 kind (ap (λ (h : HeldRow). h.size) same) in
+      absurd (none_some base
+      (sym (row_gone kinds own kind (subst (λ x. Among x kinds) one k.1)) ∙ e))
+
+  -- and each row that is left is held
+  row_held : (kind : Kind) (base : ℕ) → row_of kind (without_rows kinds own) ≡ Some base
+      → row_of kind own ≡ Some base
+      → HoldsRow (state_of pairs words (event ∷ log)) number base (kind_words kind)
+  row_held kind base e was =
+      let row : HeldRow = record { caller = number; base = base; size = kind_words kind } in
+      let there = among_filter (λ (h : HeldRow). h.caller == number) row
+      (state_of pairs words log).held (c.rows kind base was) (base_same number) in
+      (among-filter (λ (h : HeldRow). h.caller == number) row
+      (state_of pairs words (event ∷ log)).held
+      (subst (Among row) (sym held_now)
+      (among_filter (λ (h : HeldRow). not (list_any (λ x. x == h.base) bases)) row
+      (held_by (state_of pairs words log) number) there
+      (ap not (out kind base e was _ refl))))).0
+
+  pub caller_given : IsCallerIn (state_of pairs words (event ∷ log)) number
+      (without_rows kinds own)
+  caller_given =
+      record {
+        rows = λ kind base e.
+            ⊎_elim (λ n. absurd (none_some base (sym n ∙ e)))
+            (λ same. row_held kind base e (sym same ∙ e)) (row_left kinds own kind);
+        builds = builds_on (state_of pairs words log) (state_of pairs words (event ∷ log))
+            (behind_between pairs words log (event ∷ log) lawful (one_event event same_log)) _
+            (subst (AreBuilds (state_of pairs words log)) (sym sizes_given) c.builds);
+      }

@@ -1,0 +1,195 @@
+-- What a caller holds behind events of its own. Serves `laws.events_move_rows` and
+-- `laws.callers_go_on`.
+use Rattle.std.proofs.Common.{◌≡◌, ℕ, ◌==◌, not, Bool, true, false, if◌then◌else◌, List, [], ◌∷◌, ◌++◌, map, filter, refl, sym, ap, ◌∙◌, subst, inl, inr, ⊎_elim}
+use Rattle.std.specs.List.{list_any}
+use Rattle.std.proofs.lemmas.Bool.Decides.{eqb_tells}
+use Rattle.std.proofs.lemmas.List.Elements.{filter-append}
+use Rattle.ist_core.specs.declared.events.Event.{Event}
+use Rattle.ist_core.specs.declared.events.Event.TheVariants.{Enter, Reserve, Install, Okay, Decide, Resolve, Count, Mark, Pass, Finish, Root, Draw, Place, Lose}
+use Rattle.ist_core.specs.declared.lists.HeldRow.{HeldRow}
+use Rattle.ist_core.specs.declared.pairs.Pair.{Pair}
+use Rattle.ist_core.specs.After.{after}
+use Rattle.ist_core.specs.Authors.{no_more, one_more}
+use Rattle.ist_core.specs.Elements.{Among}
+use Rattle.ist_core.specs.Fairness.{AreBuilds}
+use Rattle.ist_core.specs.Lawful.{EachEnabled, Lawful, state_of}
+use Rattle.ist_core.specs.Logs.{Log, GoesOn}
+use Rattle.ist_core.specs.Pieces.{as_change}
+use Rattle.ist_core.specs.Snapshots.{Snapshot, bases_of, without}
+use Rattle.ist_core.specs.StartLayout.{start}
+use Rattle.ist_core.proofs.ElementLemmas.{among-filter, among_filter}
+use Rattle.ist_core.proofs.FateLemmas.{grow_between}
+use Rattle.ist_core.proofs.RoomLemmas.{words_same}
+use Rattle.ist_rule.specs.declared.view.Who.TheVariants.{Caller as CallerOf}
+use Rattle.ist_rule.specs.Authors.{whose, LaterBy}
+use Rattle.ist_rule.proofs.HeldBetweenLemmas.{next_between}
+use Rattle.ist_rule.proofs.HeldLemmas.{held-resolved}
+use Rattle.ist_rows.specs.Kinds.{kind_words}
+use Rattle.ist_rows.specs.Rows.{Spares, is_spare, held_by}
+use Rattle.ist_rows.specs.CallerLaws.{KeepsRows, held_behind, GivesUp}
+use Rattle.ist_rows.proofs.BuildLemmas.{ComesBehind, builds_on}
+use Rattle.ist_rows.proofs.CallerLemmas.{IsCallerIn}
+use Rattle.ist_rows.proofs.HeldListLemmas.{held_by_step}
+
+-- ---- lists
+
+-- a filter, by what its test says of the first element
+pub filter_at : {A : Type 0} (p : A → Bool) (x : A) (xs : List A) (b : Bool) → p x ≡ b
+    → filter p (x ∷ xs) ≡ (if b then x ∷ filter p xs else filter p xs)
+filter_at p x xs b e = ap (λ v. if v then x ∷ filter p xs else filter p xs) e
+
+-- two filters, in either order
+filter_swap : {A : Type 0} (p q : A → Bool) (xs : List A)
+    → filter p (filter q xs) ≡ filter q (filter p xs)
+filter_swap p q [] = refl
+filter_swap p q (x ∷ xs) = at (filter_swap p q xs) (p x) refl (q x) refl
+  where
+    at : filter p (filter q xs) ≡ filter q (filter p xs) → (a : Bool) → p x ≡ a → (b : Bool)
+        → q x ≡ b → filter p (filter q (x ∷ xs)) ≡ filter q (filter p (x ∷ xs))
+    at rest true e true f =
+        ap (filter p) (filter_at q x xs true f) ∙ filter_at p x (filter q xs) true e
+        ∙ ap (λ ys. x ∷ ys) rest ∙ sym (filter_at q x (filter p xs) true f)
+        ∙ ap (filter q) (sym (filter_at p x xs true e))
+    at rest true e false f =
+        ap (filter p) (filter_at q x xs false f) ∙ rest ∙ sym (filter_at q x (filter p xs) false f)
+        ∙ ap (filter q) (sym (filter_at p x xs true e))
+    at rest false e true f =
+        ap (filter p) (filter_at q x xs true f) ∙ filter_at p x (filter q xs) false e ∙ rest
+        ∙ ap (filter q) (sym (filter_at p x xs false e))
+    at rest false e false f =
+        ap (filter p) (filter_at q x xs false f) ∙ rest
+        ∙ ap (filter q) (sym (filter_at p x xs false e))
+
+-- ---- one event
+
+-- an event that keeps rows leaves all that is held
+held_kept : (t : Snapshot) (event : Event) → KeepsRows event → (after t event).held ≡ t.held
+held_kept t (Resolve caller change) is = held-resolved t (as_change (t.pieces change))
+held_kept t (Enter caller) is = refl
+held_kept t (Okay caller change) is = refl
+held_kept t (Decide caller change said) is = refl
+held_kept t (Count caller node) is = refl
+held_kept t (Mark caller node) is = refl
+held_kept t (Pass caller node i word) is = refl
+held_kept t (Finish caller node keys) is = refl
+held_kept t (Draw caller rebuild part) is = refl
+held_kept t (Reserve caller base size) is = absurd is
+held_kept t (Install caller change rows) is = absurd is
+held_kept t (Root caller rebuild word rows) is = absurd is
+held_kept t (Place caller rebuild i word rows) is = absurd is
+held_kept t (Lose caller bases) is = absurd is
+
+-- an event of a caller changes what it holds just so
+pub held_by_own : (pairs : List Pair) (words : ℕ) (log : Log) (number : ℕ) (event : Event)
+    → whose event ≡ CallerOf number
+    → held_by (state_of pairs words (event ∷ log)) number
+    ≡ held_behind event (held_by (state_of pairs words log) number)
+held_by_own pairs words log number event mine = at event mine
+  where
+    given : (bases : List ℕ) → filter (λ (h : HeldRow). h.caller == number)
+        (without bases (state_of pairs words log).held)
+        ≡ without bases (held_by (state_of pairs words log) number)
+    given bases = filter_swap (λ (h : HeldRow). h.caller == number)
+        (λ (h : HeldRow). not (list_any (λ base. base == h.base) bases))
+        (state_of pairs words log).held
+
+    same_number : (caller : ℕ) → CallerOf caller ≡ CallerOf number → (caller == number) ≡ true
+    same_number caller e = ⊎_elim (λ k. k.0) (λ k. absurd (k.1 (one caller e)))
+        (eqb_tells caller number)
+      where
+        one : (caller : ℕ) → CallerOf caller ≡ CallerOf number → caller ≡ number
+        one caller f = cc
+
+    at : (e : Event) → whose e ≡ CallerOf number
+        → held_by (state_of pairs words (e ∷ log)) number
+        ≡ held_behind e (held_by (state_of pairs words log) number)
+    at (Reserve caller base size) is =
+        let row : HeldRow = record { caller = caller; base = base; size = size } in
+        filter-append (λ (h : HeldRow). h.caller == number) (state_of pairs words log).held
+        (row ∷ [])
+        ∙ ap (λ b. held_by (state_of pairs words log) number ++ (if b then row ∷ [] else []))
+        (same_number caller is)
+    at (Install caller change rows) is = given (bases_of rows)
+    at (Root caller rebuild word rows) is = given (bases_of rows)
+    at (Place caller rebuild i word rows) is = given (bases_of rows)
+    at (Lose caller bases) is = given bases
+    at (Resolve caller change) is =
+        ap (filter (λ (h : HeldRow). h.caller == number))
+        (held-resolved (state_of pairs words log)
+        (as_change ((state_of pairs words log).pieces change)))
+    at (Enter caller) is = refl
+    at (Okay caller change) is = refl
+    at (Decide caller change said) is = refl
+    at (Count caller node) is = refl
+    at (Mark caller node) is = refl
+    at (Pass caller node i word) is = refl
+    at (Finish caller node keys) is = refl
+    at (Draw caller rebuild part) is = refl
+
+-- an event that gives rows up takes just these away
+pub held_behind-given : (event : Event) (bases : List ℕ) (held : List HeldRow)
+    → GivesUp event bases → held_behind event held ≡ without bases held
+held_behind-given (Install caller change rows) bases held is = ap (λ b. without b held) is
+held_behind-given (Root caller rebuild word rows) bases held is = ap (λ b. without b held) is
+held_behind-given (Place caller rebuild i word rows) bases held is = ap (λ b. without b held) is
+held_behind-given (Lose caller lost) bases held is = ap (λ b. without b held) is
+held_behind-given (Reserve caller base size) bases held is = absurd is
+held_behind-given (Resolve caller change) bases held is = absurd is
+held_behind-given (Enter caller) bases held is = absurd is
+held_behind-given (Okay caller change) bases held is = absurd is
+held_behind-given (Decide caller change said) bases held is = absurd is
+held_behind-given (Count caller node) bases held is = absurd is
+held_behind-given (Mark caller node) bases held is = absurd is
+held_behind-given (Pass caller node i word) bases held is = absurd is
+held_behind-given (Finish caller node keys) bases held is = absurd is
+held_behind-given (Draw caller rebuild part) bases held is = absurd is
+
+-- ---- many events
+
+-- what a caller holds stays, where its own events keep rows
+pub held_by_went : (pairs : List Pair) (words : ℕ) (number : ℕ) (old log : Log)
+    → EachEnabled (start pairs words) log → LaterBy (CallerOf number) KeepsRows old log
+    → held_by (state_of pairs words log) number ≡ held_by (state_of pairs words old) number
+held_by_went pairs words number old _ enabled no_more = refl
+held_by_went pairs words number old _ enabled (one_more {log = log} event l (inl other)) =
+    held_by_step pairs words log event number enabled other
+    ∙ held_by_went pairs words number old log enabled.0 l
+held_by_went pairs words number old _ enabled (one_more {log = log} event l (inr is)) =
+    ap (filter (λ (h : HeldRow). h.caller == number))
+    (held_kept (state_of pairs words log) event is)
+    ∙ held_by_went pairs words number old log enabled.0 l
+
+-- a later state comes behind an earlier one
+pub behind_between : (pairs : List Pair) (words : ℕ) (old log : Log) → Lawful pairs words log
+    → GoesOn old log → ComesBehind (state_of pairs words old) (state_of pairs words log)
+behind_between pairs words old log lawful g =
+    record {
+      words = words_same pairs words lawful.opens log ∙ sym
+          (words_same pairs words lawful.opens old);
+      next = next_between pairs words old log lawful.enabled g;
+      grow = grow_between pairs words old log lawful.enabled g;
+    }
+
+-- a number is found equal to itself
+pub own_number : (n : ℕ) → (n == n) ≡ true
+own_number n = ⊎_elim (λ k. k.0) (λ k. absurd (k.1 refl)) (eqb_tells n n)
+
+-- where a caller holds the same rows, its rows are what they were
+pub caller_between : (pairs : List Pair) (words : ℕ) (old log : Log) (number : ℕ) (own : Spares)
+    → Lawful pairs words log → GoesOn old log
+    → held_by (state_of pairs words log) number ≡ held_by (state_of pairs words old) number
+    → IsCallerIn (state_of pairs words old) number own
+    → IsCallerIn (state_of pairs words log) number own
+caller_between pairs words old log number own lawful g same c =
+    record {
+      rows = λ kind base e.
+          let row : HeldRow = record { caller = number; base = base; size = kind_words kind } in
+          (among-filter (λ (h : HeldRow). h.caller == number) row (state_of pairs words log).held
+          (subst (Among row) (sym same)
+          (among_filter (λ (h : HeldRow). h.caller == number) row (state_of pairs words old).held
+          (c.rows kind base e) (own_number number)))).0;
+      builds = builds_on (state_of pairs words old) (state_of pairs words log)
+          (behind_between pairs words old log lawful g) _
+          (subst (λ held. AreBuilds (state_of pairs words old)
+          (map (λ h. h.size) (filter (λ h. not (is_spare own h.base)) held))) (sym same) c.builds);
+    }

@@ -1,0 +1,36 @@
+use Rattle.std.proofs.Common.{IfOk, sym, ap, subst, ◌∙◌}
+use Rattle.ist_rows.specs.Building.{IsNext, HasTaken}
+use Rattle.std.specs.Prelude.{[], ◌∷◌}
+use Rattle.ist_rows.proofs.BuildingLemmas.{may_take_inner}
+use Rattle.ist_rows.proofs.BuildingCallLemmas.{caller_behind, taken_behind, refused_behind}
+use Rattle.ist_rows.proofs.reserving.reserve_inner.Goals as goal
+
+-- what the caller holds is fair with the row
+pub take-requires-clause-fair : goal.take-requires-clause-fair
+take-requires-clause-fair g c =
+    may_take_inner c.args.who.now c.inner_words.result c.know.ensures.sound c.requires.caller
+    (subst (IsNext c.args.who.now) (sym c.inner_words.ensures.value) c.requires.next)
+
+-- the caller is one still
+pub returns-clause-caller : goal.returns-clause-caller
+returns-clause-caller g c =
+    caller_behind c.args.who.now c.take.new.seat _ c.inner_words.result c.take.result
+    c.requires.caller
+    (subst (IsNext c.args.who.now) (sym c.inner_words.ensures.value) c.requires.next)
+    c.take.ensures.reserved c.take.ensures.full
+
+-- it has taken the row
+pub returns-clause-taken : goal.returns-clause-taken
+returns-clause-taken g c =
+    subst (λ size. IfOk c.take.result (λ base. HasTaken c.args.who.now (size ∷ [])
+    (record c.args.who.now { seat = c.take.new.seat }))) c.inner_words.ensures.value
+    (taken_behind c.args.who.now c.take.new.seat c.inner_words.result c.take.result
+    c.requires.caller c.take.ensures.reserved)
+
+-- or its build was refused
+pub returns-clause-refused : goal.returns-clause-refused
+returns-clause-refused g c =
+    refused_behind c.args.who.now c.take.new.seat _ c.inner_words.result c.take.result
+    c.requires.caller (sym (ap (λ t. t.words) c.requires.same_table) ∙ sym c.know.ensures.words)
+    (subst (IsNext c.args.who.now) (sym c.inner_words.ensures.value) c.requires.next)
+    c.take.ensures.full

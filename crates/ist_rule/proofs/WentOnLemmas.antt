@@ -1,0 +1,258 @@
+-- Seats that went on by loads, by events of their own and by stores. Serves the crates above.
+use Rattle.std.proofs.Common.{◌≡◌, ◌≢◌, ℕ, ◌+◌, ◌≤◌, ◌∷◌, refl, sym, ap, ap₂, ◌∙◌, subst, inl, inr, ⊎_elim, Some, arith}
+use Rattle.std.proofs.Math.Nat.{le_trans}
+use Rattle.std.proofs.lemmas.Bool.Decides.{eqb_tells}
+use Rattle.ist_core.specs.declared.events.Event.{Event}
+use Rattle.ist_core.specs.Authors.{no_more, one_more}
+use Rattle.ist_core.specs.Elements.{Among}
+use Rattle.ist_core.specs.Growing.{AllGrow}
+use Rattle.ist_core.specs.Logs.{Log, GoesOn, same_log, one_event}
+use Rattle.ist_core.specs.Lawful.{Lawful, state_of}
+use Rattle.ist_core.proofs.FateLemmas.{grow_between}
+use Rattle.ist_rule.specs.declared.view.View.{View}
+use Rattle.ist_rule.specs.declared.view.Who.{Who}
+use Rattle.ist_rule.specs.Authors.{Later, LaterBy}
+use Rattle.ist_rule.specs.Rule.{own_at, IsSound}
+use Rattle.ist_rule.specs.Learning.{now, made_behind, logging, logging_load, GoesOnTo, Looked, Logged, LoggedLoad, Naming, LoadedAs, as_event, as_load, Exchanged, Turned, searching, storing}
+use Rattle.ist_rule.specs.Conditions.{IsOwn}
+use Rattle.ist_rule.specs.Going.{WentOn}
+use Rattle.ist_rule.proofs.GoingOnLemmas.{goes_on_same, looked_goes_on}
+use Rattle.ist_rule.proofs.ShownLemmas.{held_loose}
+use Rattle.ist_rule.proofs.StoreLemmas.{own_else}
+use Rattle.ist_rule.proofs.HeldBetweenLemmas.{held_between}
+
+-- ---- logs
+
+-- a log that went on by events of others went on so
+pub later_by : {who : Who} {P : Event → Type 0} {a b : Log} → Later who a b → LaterBy who P a b
+later_by no_more = no_more
+later_by (one_more event l other) = one_more event (later_by l) (inl other)
+
+-- going on twice
+pub later_by_more : {who : Who} {P : Event → Type 0} {a b c : Log} → LaterBy who P a b
+    → LaterBy who P b c → LaterBy who P a c
+later_by_more l no_more = l
+later_by_more l (one_more event k is) = one_more event (later_by_more l k) is
+
+-- the earlier log is a prefix
+pub later_by-goes_on : {who : Who} {P : Event → Type 0} {a b : Log} → LaterBy who P a b
+    → GoesOn a b
+later_by-goes_on no_more = same_log
+later_by-goes_on (one_more event k is) = one_event event (later_by-goes_on k)
+
+-- what is true of all such events may be said of them
+pub later_by_all : {who : Who} {P Q : Event → Type 0} {a b : Log}
+    → ((event : Event) → P event → Q event) → LaterBy who P a b → LaterBy who Q a b
+later_by_all all no_more = no_more
+later_by_all all (one_more event k (inl other)) = one_more event (later_by_all all k) (inl other)
+later_by_all all (one_more event k (inr is)) =
+    one_more event (later_by_all all k) (inr (all event is))
+
+-- ---- what a seat is that went on
+
+-- the seat of one that went on is the same one's
+pub went_who : (P : Event → Type 0) (v w : View) → WentOn P v w → w.who ≡ v.who
+went_who P v w h = ap (λ x. x.who) h.same
+
+-- the state behind the log of one that went on, by the table of the first view
+pub went_now : (P : Event → Type 0) (v w : View) → WentOn P v w
+    → now w ≡ state_of v.start v.words w.log
+went_now P v w h =
+    ap₂ (λ p n. state_of p n w.log) (ap (λ x. x.start) h.same) (ap (λ x. x.words) h.same)
+
+-- and its log is lawful for that table
+pub went_lawful : (P : Event → Type 0) (v w : View) → WentOn P v w → Lawful v.start v.words w.log
+went_lawful P v w h =
+    subst (λ p. Lawful p v.words w.log) (ap (λ x. x.start) h.same)
+    (subst (λ n. Lawful w.start n w.log) (ap (λ x. x.words) h.same) h.sound.lawful)
+
+-- rows grow
+pub went_grow : (P : Event → Type 0) (v w : View) → WentOn P v w
+    → AllGrow (now v).pieces (now w).pieces
+went_grow P v w h =
+    subst (λ t. AllGrow (now v).pieces t.pieces) (sym (went_now P v w h))
+    (grow_between v.start v.words v.log w.log (went_lawful P v w h).enabled
+    (later_by-goes_on h.later))
+
+-- what is true of all its events may be said of them
+pub went_all : (P Q : Event → Type 0) → ((event : Event) → P event → Q event) → (v w : View)
+    → WentOn P v w → WentOn Q v w
+went_all P Q all v w h =
+    record {
+      later = later_by_all all h.later;
+      sound = h.sound;
+      same = h.same;
+      kept = h.kept;
+      loaded = h.loaded;
+    }
+
+-- ---- which steps make a seat go on so
+
+-- a seat that made loads went on so
+pub goes_on_went : (P : Event → Type 0) (v w : View) → GoesOnTo v w → WentOn P v w
+goes_on_went P v w g =
+    let own : w.own ≡ v.own = ap (λ x. x.own) g.same in
+    record {
+      later = later_by g.later;
+      sound = g.sound;
+      same = g.same ∙ ap {B = View} (λ own. record v {
+        log = w.log;
+        own = own;
+        loads = w.loads;
+        loaded = w.loaded;
+      }) (sym own);
+      kept = λ h mine i j k less. ap (λ own. own_at own (h.base + k)) own;
+      loaded = g.loaded;
+    }
+
+-- so does one that does nothing
+pub went_same : (P : Event → Type 0) (v : View) → IsSound v → WentOn P v v
+went_same P v s = goes_on_went P v v (goes_on_same v s)
+
+-- so did one that made one load
+pub looked_went : (P : Event → Type 0) (v : View) (place word : ℕ) (w : View) → Looked v place word w
+    → WentOn P v w
+looked_went P v place word w l = goes_on_went P v w (looked_goes_on v place word w l)
+
+-- and one that made an event that P is true of
+pub logged_went : (P : Event → Type 0) (v : View) (event : Event) (w : View) → Logged v event w
+    → P event → made_behind event v.made ≡ v.made → WentOn P v w
+logged_went P v event w l is made =
+    let log_is : w.log ≡ event ∷ l.before = ap (λ x. x.log) l.view in
+    let same : logging v l.before event ≡ record v { log = event ∷ l.before } =
+    ap {B = View} (λ n. record v { log = event ∷ l.before; made = n }) made in
+    record {
+      later = subst (LaterBy v.who P v.log) (sym log_is)
+          (one_more event (later_by l.later) (inr is));
+      sound = l.sound;
+      same = subst (λ (x : View). x ≡ record v {
+        log = x.log;
+        own = x.own;
+        loads = x.loads;
+        loaded = x.loaded;
+      }) (sym l.view) same;
+      kept = λ h mine i j k less. ap (λ x. own_at x.own (h.base + k)) l.view;
+      loaded = let is = ap (λ x. x.loaded) l.view in omega arith;
+    }
+
+-- the same of a load that is such an event
+pub logged_load_went : (P : Event → Type 0) (v : View) (event : Event) (place word : ℕ) (w : View)
+    → LoggedLoad v event place word w → P event
+    → made_behind event v.made ≡ v.made → WentOn P v w
+logged_load_went P v event place word w l is made =
+    let log_is : w.log ≡ event ∷ l.before = ap (λ x. x.log) l.view in
+    let same : logging_load v l.before event
+    ≡ record v { log = event ∷ l.before; loaded = v.loaded + 1 } =
+    ap {B = View}
+    (λ n. record v { log = event ∷ l.before; made = n; loaded = v.loaded + 1 }) made in
+    record {
+      later = subst (LaterBy v.who P v.log) (sym log_is)
+          (one_more event (later_by l.later) (inr is));
+      sound = l.sound;
+      same = subst (λ (x : View). x ≡ record v {
+        log = x.log;
+        own = x.own;
+        loads = x.loads;
+        loaded = x.loaded;
+      }) (sym l.view) same;
+      kept = λ h mine i j k less. ap (λ x. own_at x.own (h.base + k)) l.view;
+      loaded = let is = ap (λ x. x.loaded) l.view in omega arith;
+    }
+
+-- so did one that made an exchange for such an event
+pub exchanged_went : (P : Event → Type 0) (v : View) (event : Event) (place old found : ℕ) (w : View)
+    → Exchanged v event place old found w → P event → made_behind event v.made ≡ v.made
+    → WentOn P v w
+exchanged_went P v event place old found w e is made =
+    ⊎_elim (λ k. logged_went P v event w (e.0 k.1) is made)
+    (λ k. looked_went P v place found w (e.1 k.1)) (eqb_tells found old)
+
+-- and one that made a load which is such an event, or none
+pub loaded_as_went : (P : Event → Type 0) (v : View) (named : Naming) (place word : ℕ) (w : View)
+    → LoadedAs v named place word w
+    → ((log : Log) (event : Event) → named log word ≡ Some event
+    → P event × (made_behind event v.made ≡ v.made))
+    → WentOn P v w
+loaded_as_went P v named place word w (as_event event l is) all =
+    let it = all l.before event is in logged_load_went P v event place word w l it.0 it.1
+loaded_as_went P v named place word w (as_load l none) all = looked_went P v place word w l
+
+-- a seat that began a search went on so
+pub searching_went : (P : Event → Type 0) (v w : View) → Turned v (searching v) w → WentOn P v w
+searching_went P v w t =
+    record {
+      later = later_by t.later;
+      sound = t.sound;
+      same = subst (λ (x : View). x ≡ record v {
+        log = x.log;
+        own = x.own;
+        loads = x.loads;
+        loaded = x.loaded;
+      }) (sym t.view) refl;
+      kept = λ h mine i j k less. ap (λ x. own_at x.own (h.base + k)) t.view;
+      loaded = let is = ap (λ x. x.loaded) t.view in omega arith;
+    }
+
+-- a seat that made loads alone: the state that it has seen, its log, and what is published
+pub goes_on_now : (v w : View) → GoesOnTo v w → now w ≡ state_of v.start v.words w.log
+goes_on_now v w g = went_now (λ event. ⊥) v w (goes_on_went (λ event. ⊥) v w g)
+
+pub goes_on_lawful : (v w : View) → GoesOnTo v w → Lawful v.start v.words w.log
+goes_on_lawful v w g = went_lawful (λ event. ⊥) v w (goes_on_went (λ event. ⊥) v w g)
+
+pub goes_on_grow : (v w : View) → GoesOnTo v w → AllGrow (now v).pieces (now w).pieces
+goes_on_grow v w g = went_grow (λ event. ⊥) v w (goes_on_went (λ event. ⊥) v w g)
+
+-- going on twice
+pub went_more : (P : Event → Type 0) (u v w : View) → WentOn P u v → WentOn P v w
+    → WentOn P u w
+went_more P u v w a b =
+    record {
+      later = later_by_more a.later
+          (subst (λ x. LaterBy x P v.log w.log) (went_who P u v a) b.later);
+      sound = b.sound;
+      same = b.same ∙ ap {B = View} (λ (x : View). record x {
+        log = w.log;
+        own = w.own;
+        loads = w.loads;
+        loaded = w.loaded;
+      }) a.same;
+      kept = λ h mine i j k less.
+          let between = subst (λ t. Among h t.held) (sym (went_now P u v a))
+          (held_between u.start u.words h u.log v.log w.log lawful.enabled
+          (later_by-goes_on a.later) (later_by-goes_on b.later) i
+          (subst (λ t. Among h t.held) now_is j)) in
+          b.kept h (went_who P u v a ∙ mine) between j k less ∙ a.kept h mine i between k less;
+      loaded = le_trans a.loaded b.loaded;
+    }
+  where
+    start_is : w.start ≡ u.start
+    start_is = ap (λ x. x.start) b.same ∙ ap (λ x. x.start) a.same
+
+    words_is : w.words ≡ u.words
+    words_is = ap (λ x. x.words) b.same ∙ ap (λ x. x.words) a.same
+
+    now_is : now w ≡ state_of u.start u.words w.log
+    now_is = ap₂ (λ p n. state_of p n w.log) start_is words_is
+
+    lawful : Lawful u.start u.words w.log
+    lawful = subst (λ p. Lawful p u.words w.log) start_is
+        (subst (λ n. Lawful w.start n w.log) words_is b.sound.lawful)
+
+-- a seat that went on, and then stored a word into a row that it has reserved since, went on
+pub storing_went : (P : Event → Type 0) (u v : View) (place word : ℕ) → WentOn P u v
+    → (o : IsOwn v place) → (now u).next ≤ o.row.base → IsSound u → IsSound (storing v place word)
+    → WentOn P u (storing v place word)
+storing_went P u v place word g o high before s =
+    record {
+      later = g.later;
+      sound = s;
+      same = ap {B = View} (λ (x : View). record x { own = (storing v place word).own }) g.same;
+      kept = λ h mine i j k less.
+          let loose = held_loose u.start u.words u.log before.lawful.enabled h i k less in
+          let low = loose.below in
+          let at_place = o.at in
+          let apart : place ≢ h.base + k = λ e. omega arith in
+          own_else v.own place word (h.base + k) apart ∙ g.kept h mine i j k less;
+      loaded = g.loaded;
+    }

@@ -1,0 +1,35 @@
+-- How a seat goes on by steps of its own and of others: the form in which a call that makes events
+-- says what it has done.
+use Rattle.std.specs.Prelude.{◌≡◌, ℕ, ◌+◌, ◌<◌, ◌≤◌, List, ◌++◌}
+use Rattle.ist_core.specs.declared.events.Event.{Event}
+use Rattle.ist_core.specs.declared.lists.HeldRow.{HeldRow}
+use Rattle.ist_core.specs.Elements.{Among}
+use Rattle.ist_rule.specs.declared.view.View.{View}
+use Rattle.ist_core.specs.declared.loads.Load.{Load}
+use Rattle.ist_rule.specs.declared.view.Who.TheVariants.{Caller}
+use Rattle.ist_rule.specs.Authors.{LaterBy}
+use Rattle.ist_rule.specs.Rule.{own_at, IsSound}
+use Rattle.ist_rule.specs.Learning.{now}
+
+-- the words of each row that the seat's caller held, and holds still, are those that it had stored
+abbrev pub KeepsWords : View → View → Type 0
+KeepsWords v w =
+    (h : HeldRow) → v.who ≡ Caller h.caller → Among h (now v).held → Among h (now w).held
+    → (k : ℕ) → k < h.size → own_at w.own (h.base + k) ≡ own_at v.own (h.base + k)
+
+-- the seat has made loads, and events that P is true of, has stored words into rows that it held
+-- only in between, and may have begun a search: of all else it knows of itself what it knew
+pub record WentOn (P : Event → Type 0) (v w : View) : Type 0 where
+  pub later : LaterBy v.who P v.log w.log
+  pub sound : IsSound w
+  pub same : w ≡ record v { log = w.log; own = w.own; loads = w.loads; loaded = w.loaded }
+  pub kept : KeepsWords v w
+  pub loaded : v.loaded ≤ w.loaded
+
+-- the seat has stored no word and begun no search: the loads of its search are those that it had
+-- made, and then more
+pub record KeepsSearch (v w : View) : Type 0 where
+  pub own : w.own ≡ v.own
+  pub since : w.loads.since ≡ v.loads.since
+  pub more : List Load
+  pub loads : w.loads.list ≡ more ++ v.loads.list
