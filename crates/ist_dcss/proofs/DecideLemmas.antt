@@ -20,17 +20,19 @@ use Rattle.ist_core.proofs.GrowingLemmas.{inner_there, change_there}
 use Rattle.ist_core.proofs.FateLemmas.{grow_between}
 use Rattle.ist_rule.specs.declared.view.View.{View}
 use Rattle.ist_rule.specs.declared.view.Who.TheVariants.{Caller}
-use Rattle.ist_rule.specs.Shown.{IsShown, shown_status, shown_row}
+use Rattle.ist_core.specs.Shown.{IsShown, shown_status, shown_row}
 use Rattle.ist_rule.specs.Rule.{IsSound}
 use Rattle.ist_rule.specs.Learning.{now, made_behind, LoadedAs, as_event, as_load}
 use Rattle.ist_rule.specs.Conditions.{MayCome, CanExchange}
-use Rattle.ist_rule.specs.Watching.{number_of, waits, okay_of}
+use Rattle.ist_rule.specs.Watching.{IsNode, is_anchor, is_inner, number_of, waits, okay_of}
 use Rattle.ist_rule.proofs.LaterLemmas.{later-goes_on}
 use Rattle.ist_rule.proofs.GoingOnLemmas.{callers_later}
-use Rattle.ist_rule.proofs.WatchLemmas.{shown_in_row, IsNode, is_anchor, is_inner, change_node, both_true, if_some, status_place_inner, status_place_anchor}
-use Rattle.ist_dcss.specs.Helping.{MayHelp, Serves, Helped}
+use Rattle.ist_rule.proofs.WatchLemmas.{shown_in_row, change_node, both_true, if_some, status_place_inner, status_place_anchor}
+use Rattle.ist_dcss.specs.Helping.{MayHelp, Serves}
 use Rattle.ist_dcss.specs.Naming.{IsReady, settled, okayed, closed, IsField, deciding}
-use Rattle.ist_dcss.proofs.GoingLemmas.{looked_helped, logged_load_helped, helped_now, helped_row, helped_more, helped_who}
+use Rattle.ist_rule.specs.Going.{WentOn}
+use Rattle.ist_rule.proofs.WentOnLemmas.{looked_went, logged_load_went, went_now, went_more, went_who}
+use Rattle.ist_dcss.proofs.HelperLemmas.{went_row}
 use Rattle.ist_dcss.proofs.SlotPlaceLemmas.{no_anchor}
 use Rattle.ist_dcss.proofs.FieldLemmas.{field_now}
 
@@ -124,7 +126,7 @@ module _ (v : View) (s : IsSound v) (change number : ℕ) (mine : v.who ≡ Call
 -- ---- what the load of the status tells
 
 -- the status of an open node is shown as open
-open_shown : (v : View) → IsSound v → (node : ℕ) → IsOpen (now v) node
+pub open_shown : (v : View) → IsSound v → (node : ℕ) → IsOpen (now v) node
     → IsShown (now v) (place_of_status node) open_word
 open_shown v s node (anchor_is e) =
     subst (λ p. IsShown (now v) p open_word) (sym (status_place_anchor node e)) shown_status
@@ -139,15 +141,15 @@ not_named true x e = absurd (cc)
 not_named false x e = refl
 
 -- a seat that loaded the status helped
-pub okay_helped : (v : View) (change place word : ℕ) (w : View)
-    → LoadedAs v (okay_of v change) place word w → Helped change v w
-okay_helped v change place word w (as_event event l named) =
+pub okay_went : (v : View) (change place word : ℕ) (w : View)
+    → LoadedAs v (okay_of v change) place word w → WentOn (Serves change) v w
+okay_went v change place word w (as_event event l named) =
     let it = if_some ((word == open_word)
     && waits (as_change ((state_of v.start v.words l.before).pieces change)))
     (Okay (number_of v.who) change) event named in
-    logged_load_helped change v event place word w l (subst (Serves change) it.1 refl)
+    logged_load_went (Serves change) v event place word w l (subst (Serves change) it.1 refl)
     (subst (λ e. made_behind e v.made ≡ v.made) it.1 refl)
-okay_helped v change place word w (as_load l none) = looked_helped change v place word w l
+okay_went v change place word w (as_load l none) = looked_went (Serves change) v place word w l
 
 -- the change is ready for a yes where the load gave an open node, and for a no otherwise
 okay_ready : (v : View) (change place word : ℕ) (w : View) (node : ℕ) (r : ChangeRow)
@@ -177,7 +179,7 @@ okay_ready v change place word w node r at (as_load l none) here same =
         → IsReady w change r (word == open_word)
     by_word (inl k) =
         let t = state_of v.start v.words w.log in
-        let is = helped_now change v w (looked_helped change v place word w l) in
+        let is = went_now (Serves change) v w (looked_went (Serves change) v place word w l) in
         let piece : t.pieces change ≡ Some (Change r) = ap (λ u. u.pieces change) (sym is) ∙ here in
         let off : ((word == open_word) && waits (as_change (t.pieces change))) ≡ false =
         not_named ((word == open_word) && waits (as_change (t.pieces change)))
@@ -194,27 +196,27 @@ okay_ready v change place word w node r at (as_load l none) here same =
 
 -- what a helper knows once it loaded the status of the node
 pub record MayDecide (change number : ℕ) (said : Bool) (v w : View) : Type 0 where
-  pub helped : Helped change v w
+  pub went : WentOn (Serves change) v w
   pub mine : w.who ≡ Caller number
   pub row : ChangeRow
   pub published : (now w).pieces change ≡ Some (Change row)
   pub ready : IsReady w change row said
 
 -- it may decide the change by that word
-pub may_decide : (v : View) (change : ℕ) (m : MayHelp v change) (u : View) → Helped change v u
+pub may_decide : (v : View) (change : ℕ) (m : MayHelp v change) (u : View) → WentOn (Serves change) v u
     → (node : ℕ) → IsField u change change_node_offset node → (place : ℕ)
     → place ≡ place_of_status node → (word : ℕ) (w : View)
     → LoadedAs u (okay_of u change) place word w
     → MayDecide change m.number (word == open_word) v w
 may_decide v change m u h node field place at word w l =
-    let more = okay_helped u change place word w l in
-    let all = helped_more change v u w h more in
-    let on = helped_row change u w more field.row field.published in
+    let more = okay_went u change place word w l in
+    let all = went_more (Serves change) v u w h more in
+    let on = went_row (Serves change) change u w more field.row field.published in
     let same : node ≡ field.row.node = field_now u change change_node_offset node field
     (λ r. r.node) (λ r. refl) field.row field.published in
     record {
-      helped = all;
-      mine = helped_who change v w all ∙ m.mine;
+      went = all;
+      mine = went_who (Serves change) v w all ∙ m.mine;
       row = on.0;
       published = on.1;
       ready = okay_ready u change place word w node on.0 at l on.1

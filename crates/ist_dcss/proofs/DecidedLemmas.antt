@@ -10,12 +10,14 @@ use Rattle.ist_core.specs.After.{decision_word}
 use Rattle.ist_core.specs.Lawful.{state_of}
 use Rattle.ist_core.proofs.RowLemmas.{changed_at-same}
 use Rattle.ist_rule.specs.declared.view.View.{View}
-use Rattle.ist_rule.specs.Shown.{IsShown, shown_row}
+use Rattle.ist_core.specs.Shown.{IsShown, shown_row}
 use Rattle.ist_rule.specs.Rule.{IsSound}
 use Rattle.ist_rule.specs.Learning.{now, Looked, Logged, Exchanged}
-use Rattle.ist_dcss.specs.Helping.{Helped, IsDecided, WasOpen, WasClosed}
+use Rattle.ist_dcss.specs.Helping.{Serves, IsDecided, WasOpen, WasClosed}
 use Rattle.ist_dcss.specs.Naming.{standing}
-use Rattle.ist_dcss.proofs.GoingLemmas.{looked_helped, logged_helped, helped_now, helped_row}
+use Rattle.ist_rule.specs.Going.{WentOn}
+use Rattle.ist_rule.proofs.WentOnLemmas.{looked_went, logged_went, went_now}
+use Rattle.ist_dcss.proofs.HelperLemmas.{went_row}
 use Rattle.ist_dcss.proofs.OutcomeLemmas.{HasFate, fate, okay_seen}
 use Rattle.ist_links.proofs.ChangeLemmas.{yes_has_okay}
 
@@ -31,7 +33,7 @@ pub decide_tells : (v : View) (change number : ℕ) (said : Bool) (place stood :
     (row : ChangeRow) → (now v).pieces change ≡ Some (Change row)
     → place ≡ change + change_decision_offset
     → Exchanged v (Decide number change said) place undecided stood w
-    → Helped change v w × ((r : ChangeRow) × ((now w).pieces change ≡ Some (Change r))
+    → WentOn (Serves change) v w × ((r : ChangeRow) × ((now w).pieces change ≡ Some (Change r))
     × (r.decision ≡ standing (decision_word said) stood) × (r.decision ≢ undecided))
 decide_tells v change number said place stood w row there at x =
     by_word (eqb_tells stood undecided)
@@ -42,21 +44,21 @@ decide_tells v change number said place stood w row there at x =
 
     by_word : (((stood == undecided) ≡ true) × (stood ≡ undecided))
         ⊎ (((stood == undecided) ≡ false) × (stood ≢ undecided))
-        → Helped change v w × ((r : ChangeRow) × ((now w).pieces change ≡ Some (Change r))
+        → WentOn (Serves change) v w × ((r : ChangeRow) × ((now w).pieces change ≡ Some (Change r))
         × (r.decision ≡ standing (decision_word said) stood) × (r.decision ≢ undecided))
     by_word (inl k) =
         let l : Logged v (Decide number change said) w = x.0 k.1 in
-        let helped = logged_helped change v (Decide number change said) w l refl refl in
+        let went = logged_went (Serves change) v (Decide number change said) w l refl refl in
         let t = state_of v.start v.words l.before in
         let can = (subst IsSound l.view l.sound).lawful.enabled.1 in
         let is : now w ≡ state_of v.start v.words (Decide number change said ∷ l.before) =
-        helped_now change v w helped ∙ ap (λ y. state_of v.start v.words y.log) l.view in
+        went_now (Serves change) v w went ∙ ap (λ y. state_of v.start v.words y.log) l.view in
         let piece : (now w).pieces change
         ≡ Some (Change record (can.change) { decision = decision_word said }) =
         ap (λ u. u.pieces change) is
         ∙ changed_at-same t.pieces change (with_decision (decision_word said))
         ∙ ap (option_map (with_decision (decision_word said))) can.pending.published in (
-          helped,
+          went,
           (
             record (can.change) { decision = decision_word said },
             piece,
@@ -66,12 +68,12 @@ decide_tells v change number said place stood w row there at x =
         )
     by_word (inr k) =
         let l : Looked v place stood w = x.1 k.1 in
-        let helped = looked_helped change v place stood w l in
-        let on = helped_row change v w helped row there in
+        let went = looked_went (Serves change) v place stood w l in
+        let on = went_row (Serves change) change v w went row there in
         let same : stood ≡ on.0.decision = l.stood on.0.decision
         (subst (λ p. IsShown (now w) p on.0.decision) (sym at)
         (shown_row change (Change on.0) 0 on.1 refl)) in (
-          helped,
+          went,
           (
             on.0,
             on.1,
@@ -105,10 +107,10 @@ decided_as v s change row there set said is =
 -- ---- what a help tells
 
 -- a change that was decided so is so still
-pub decided_on : (change : ℕ) (v w : View) → Helped change v w → (said : Bool)
+pub decided_on : (change : ℕ) (v w : View) → WentOn (Serves change) v w → (said : Bool)
     → IsDecided v change said → IsDecided w change said
 decided_on change v w h said d =
-    let on = helped_row change v w h d.row d.published in
+    let on = went_row (Serves change) change v w h d.row d.published in
     record {
       row = on.0;
       published = on.1;

@@ -15,13 +15,16 @@ use Rattle.ist_core.proofs.ImageLemmas.{get_below, get-words_of_slot}
 use Rattle.ist_core.proofs.PlaceLemmas.{placed, claimed_within, one_piece}
 use Rattle.ist_core.proofs.RoomLemmas.{next_within, words_same}
 use Rattle.ist_rule.specs.declared.view.View.{View}
-use Rattle.ist_rule.specs.Shown.{IsShown, shown_row}
+use Rattle.ist_core.specs.Shown.{IsShown, shown_row}
 use Rattle.ist_rule.specs.Rule.{IsSound}
 use Rattle.ist_rule.specs.Learning.{now, GoesOnTo, Looked}
 use Rattle.ist_rule.proofs.WatchLemmas.{place_inner}
-use Rattle.ist_dcss.specs.Helping.{MayHelp, Helped}
+use Rattle.ist_dcss.specs.Helping.{MayHelp, Serves}
 use Rattle.ist_dcss.specs.Naming.{IsField, IsSlot, IsSlotOf}
-use Rattle.ist_dcss.proofs.GoingLemmas.{goes_on_helped, looked_helped, helped_row, helped_grow}
+use Rattle.ist_rule.specs.Going.{WentOn}
+use Rattle.ist_rule.proofs.GoingOnLemmas.{looked_goes_on}
+use Rattle.ist_rule.proofs.WentOnLemmas.{goes_on_went, looked_went, goes_on_grow}
+use Rattle.ist_dcss.proofs.HelperLemmas.{went_row}
 use Rattle.ist_dcss.proofs.SlotPlaceLemmas.{change_slot, has_degree, no_anchor}
 
 -- a word of a published row lies within the table, which is small
@@ -46,7 +49,7 @@ pub looked_field : (v : View) (place word : ℕ) (w : View) → Looked v place w
     → (change offset : ℕ) → MayHelp v change → offset < change_words → place ≡ change + offset
     → IsField w change offset word
 looked_field v place word w l change offset m less at =
-    let on = helped_row change v w (looked_helped change v place word w l) m.row m.installed in
+    let on = went_row (Serves change) change v w (looked_went (Serves change) v place word w l) m.row m.installed in
     let words = words_of (Change on.0) in
     let got : slice_get words offset ≡ Some (get_or words offset 0) =
     slice_get-get_or words offset 0 less in
@@ -73,10 +76,10 @@ field_now v change offset word i f at row there =
 -- a word of the change that doesn't change is the same in each later view
 pub field_is : (v : View) (change offset word : ℕ) → IsField v change offset word
     → (f : ChangeRow → ℕ) → ((r : ChangeRow) → slice_get (words_of (Change r)) offset ≡ Some (f r))
-    → ((a b : ChangeRow) → ChangeGrows a b → f b ≡ f a) → (w : View) → Helped change v w
+    → ((a b : ChangeRow) → ChangeGrows a b → f b ≡ f a) → (w : View) → WentOn (Serves change) v w
     → (row : ChangeRow) → (now w).pieces change ≡ Some (Change row) → word ≡ f row
 field_is v change offset word i f at stays w h row there =
-    let on = helped_row change v w h i.row i.published in
+    let on = went_row (Serves change) change v w h i.row i.published in
     let same : on.0 ≡ row = one_change on.0 row
     (one_piece ((now w).pieces change) (Change on.0) (Change row) on.1 there) in
     some_word word (f i.row) (sym i.is ∙ at i.row) ∙ sym (stays i.row on.0 on.2) ∙ ap f same
@@ -127,9 +130,8 @@ pub record TellsSlot (v : View) (node i degree : ℕ) : Type 0 where
 pub tells_slot : (v : View) (node i : ℕ) → HasPlace v node i → (degree : ℕ) (w : View)
     → Looked v (node + inner_degree_offset) degree w → TellsSlot w node i degree
 tells_slot v node i k degree w l =
-    let h = looked_helped 0 v (node + inner_degree_offset) degree w l in
-    let r = inner_there (now v).pieces (now w).pieces (helped_grow 0 v w h) node k.row k.published
-    in
+    let g = looked_goes_on v (node + inner_degree_offset) degree w l in
+    let r = inner_there (now v).pieces (now w).pieces (goes_on_grow v w g) node k.row k.published in
     let is : degree ≡ r.0.degree = looked_row v (node + inner_degree_offset) degree w l node
     (Inner r.0) 2 r.0.degree r.1 refl refl in
     let same : r.0.degree ≡ k.row.degree = r.2.degree in
@@ -154,7 +156,7 @@ pub record NamesSlot (v : View) (change node index : ℕ) : Type 0 where
 -- the words of a change that name its slot name one
 pub names_slot : (u : View) (change node : ℕ) → IsField u change change_node_offset node
     → (v : View)
-    → Helped change u v → (index : ℕ) → IsField v change change_index_offset index
+    → WentOn (Serves change) u v → (index : ℕ) → IsField v change change_index_offset index
     → NamesSlot v change node index
 names_slot u change node first v h index second =
     let row = second.row in
@@ -183,7 +185,7 @@ pub place_of_change : (v : View) (change node index : ℕ) → NamesSlot v chang
     → GoesOnTo v w → (place : ℕ) → place ≡ place_of_slot (now w) node index
     → IsSlotOf w change place
 place_of_change v change node index k w g place at =
-    let on = helped_row change v w (goes_on_helped change v w g) k.row k.published in
+    let on = went_row (Serves change) change v w (goes_on_went (Serves change) v w g) k.row k.published in
     record {
       row = on.0;
       published = on.1;

@@ -26,8 +26,9 @@ use Rattle.ist_core.proofs.RoomLemmas.{next_within, words_same}
 use Rattle.ist_rule.specs.declared.view.View.{View}
 use Rattle.ist_rule.specs.declared.view.Loads.{Loads}
 use Rattle.ist_rule.specs.declared.view.Who.TheVariants.{Caller}
-use Rattle.ist_rule.specs.Authors.{author, Later, no_more, one_more}
-use Rattle.ist_rule.specs.Shown.{IsShown}
+use Rattle.ist_core.specs.Authors.{no_more, one_more}
+use Rattle.ist_rule.specs.Authors.{whose, Later}
+use Rattle.ist_core.specs.Shown.{IsShown}
 use Rattle.ist_rule.specs.Rule.{IsSound, own_at}
 use Rattle.ist_rule.specs.Learning.{now, GoesOnTo, Looked}
 use Rattle.ist_rule.specs.Conditions.{MayCome, MayInstall, CanExchange}
@@ -40,8 +41,8 @@ use Rattle.ist_rule.proofs.ChangeLemmas.{ChangeComes, stood, is_installed, chang
 use Rattle.ist_rule.proofs.UndecidedLemmas.{resolved_decided}
 use Rattle.ist_rule.proofs.CallLemmas.{between_later, resolved_later}
 use Rattle.ist_dcss.specs.Installing.{Filling, rows_of, IsInstallable}
-use Rattle.ist_dcss.specs.Naming.{IsFilled, IsSlot}
-use Rattle.ist_dcss.proofs.GoingLemmas.{goes_on_helped, helped_now, helped_lawful, helped_grow}
+use Rattle.ist_dcss.specs.Naming.{HasFilled, IsSlot}
+use Rattle.ist_rule.proofs.WentOnLemmas.{goes_on_now, goes_on_lawful, goes_on_grow}
 use Rattle.ist_dcss.proofs.SlotPlaceLemmas.{slot_later, slot_shown, shown_in_slot, slot_place_later}
 use Rattle.ist_dcss.proofs.FitsLemmas.{ever_later, fits_later}
 
@@ -51,14 +52,13 @@ use Rattle.ist_dcss.proofs.FitsLemmas.{ever_later, fits_later}
 pub held_on : (v w : View) → GoesOnTo v w → (h : HeldRow) → v.who ≡ Caller h.caller
     → Among h (now v).held → Among h (now w).held
 held_on v w g h who i =
-    let helped = goes_on_helped 0 v w g in
-    subst (λ t. Among h t.held) (sym (helped_now 0 v w helped))
-    (held_later v.start v.words h v.log w.log (helped_lawful 0 v w helped).enabled
+    subst (λ t. Among h t.held) (sym (goes_on_now v w g))
+    (held_later v.start v.words h v.log w.log (goes_on_lawful v w g).enabled
     (subst (λ x. Later x v.log w.log) who g.later) i)
 
 -- what was filled is filled
-pub filled_on : (v w : View) → GoesOnTo v w → (base : ℕ) (words : List ℕ) → IsFilled v base words
-    → IsFilled w base words
+pub filled_on : (v w : View) → GoesOnTo v w → (base : ℕ) (words : List ℕ) → HasFilled v base words
+    → HasFilled w base words
 filled_on v w g base words f =
     record {
       number = f.number;
@@ -71,7 +71,7 @@ filled_on v w g base words f =
 
 -- a load of such a word gives it
 pub own_tells : (v : View) (place word : ℕ) (w : View) → Looked v place word w → (base : ℕ)
-    (words : List ℕ) → IsFilled v base words → (k : ℕ) → k < length words → place ≡ base + k
+    (words : List ℕ) → HasFilled v base words → (k : ℕ) → k < length words → place ≡ base + k
     → slice_get words k ≡ Some word
 own_tells v place word w l base words f k less at =
     let row : HeldRow = record { caller = f.number; base = base; size = length words } in
@@ -80,7 +80,7 @@ own_tells v place word w l base words f k less at =
     f.stored k less ∙ ap (λ p. Some (own_at v.own p)) (sym at) ∙ ap Some (sym is)
 
 -- such a word lies within the table
-pub own_low : (v : View) → IsSound v → (base : ℕ) (words : List ℕ) → IsFilled v base words → (k : ℕ)
+pub own_low : (v : View) → IsSound v → (base : ℕ) (words : List ℕ) → HasFilled v base words → (k : ℕ)
     → k < length words → base + k < v.words
 own_low v s base words f k less =
     let loose = held_loose v.start v.words v.log s.lawful.enabled
@@ -92,7 +92,7 @@ own_low v s base words f k less =
 
 -- the change's row is filled
 pub filled : (v : View) (base : ℕ) (f : Filling) → IsInstallable v base f
-    → IsFilled v base (words_of (Change f.change))
+    → HasFilled v base (words_of (Change f.change))
 filled v base f m =
     record { number = m.number; mine = m.mine; held = m.held.0; stored = m.stored.0 }
 
@@ -100,7 +100,7 @@ filled v base f m =
 pub slot_on : (v w : View) → GoesOnTo v w → (node i word : ℕ) → SlotHolds (now v) node i word
     → IsSlot w node i
 slot_on v w g node i word s =
-    let it = slot_later (now v) (now w) (helped_grow 0 v w (goes_on_helped 0 v w g)) node i word s
+    let it = slot_later (now v) (now w) (goes_on_grow v w g) node i word s
     in
     record { word = it.0; holds = it.1 }
 
@@ -117,7 +117,7 @@ came_before pairs words number old _ h (one_more {log = log} event l other) base
     (change_comes (start pairs words) log event h.1
     (sound (start pairs words) log (sound_start pairs words) h.0) base r e)
   where
-    at : (ev : Event) → author ev ≢ Caller number
+    at : (ev : Event) → whose ev ≢ Caller number
         → ((x : ChangeRow) → (state_of pairs words log).pieces base ≡ Some (Change x)
         → x.owner ≡ number → (y : ChangeRow) × ((state_of pairs words old).pieces base ≡ Some
         (Change y)))

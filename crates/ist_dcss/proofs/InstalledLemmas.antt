@@ -1,6 +1,7 @@
 -- What an installing tells, whether it found its word or another. Serves `install`.
 use Rattle.std.proofs.Common.{◌≡◌, ◌≢◌, ℕ, ◌+◌, ◌*◌, ◌/◌, ◌<◌, List, ◌∷◌, length, slice_get, Some, sym, ap, ap₂, ◌∙◌, subst, arith}
 use Rattle.ist_core.specs.declared.states.ChangeRow.{ChangeRow}
+use Rattle.ist_core.specs.declared.events.Event.{Event}
 use Rattle.ist_core.specs.declared.events.Event.TheVariants.{Install}
 use Rattle.ist_core.specs.References.{ChangeAt, word_of, tag_count, IsGoodBase}
 use Rattle.ist_core.specs.RowLayout.{change_node_offset, change_index_offset, change_from_offset}
@@ -20,17 +21,19 @@ use Rattle.ist_links.proofs.InductionLemmas.{sound_behind}
 use Rattle.ist_rule.specs.declared.view.View.{View}
 use Rattle.ist_rule.specs.declared.view.Who.TheVariants.{Caller}
 use Rattle.ist_rule.specs.Watching.{number_of}
-use Rattle.ist_rule.specs.Shown.{IsShown}
+use Rattle.ist_core.specs.Shown.{IsShown}
 use Rattle.ist_rule.specs.Rule.{IsSound}
 use Rattle.ist_rule.specs.Learning.{now, GoesOnTo, Looked, Logged}
+use Rattle.ist_rule.specs.Conditions.{CanExchange}
 use Rattle.ist_rule.proofs.LaterLemmas.{later-goes_on}
-use Rattle.ist_rule.proofs.GoingOnLemmas.{goes_on_more, looked_goes_on}
+use Rattle.ist_rule.proofs.GoingOnLemmas.{goes_on_more, goes_on_who, looked_goes_on}
 use Rattle.ist_rule.proofs.FitLemmas.{each_map}
 use Rattle.ist_dcss.specs.Installing.{Filling, rows_of, IsInstallable, IsInstalled, IsOther}
-use Rattle.ist_dcss.specs.Naming.{IsFilled, IsSlot, installing}
-use Rattle.ist_dcss.proofs.GoingLemmas.{goes_on_helped, helped_now, helped_lawful}
+use Rattle.ist_dcss.specs.Naming.{HasFilled, IsSlot, IsAimed, installing}
+use Rattle.ist_dcss.specs.declared.decisions.Installed.TheVariants.{Other}
+use Rattle.ist_rule.proofs.WentOnLemmas.{goes_on_now, goes_on_lawful}
 use Rattle.ist_dcss.proofs.SlotPlaceLemmas.{slot_shown, slot_place_later}
-use Rattle.ist_dcss.proofs.InstallLemmas.{held_on, slot_on, own_low}
+use Rattle.ist_dcss.proofs.InstallLemmas.{held_on, slot_on, own_low, can_install}
 use Rattle.ist_dcss.proofs.FieldLemmas.{some_word}
 
 -- the event that the exchange names
@@ -80,10 +83,9 @@ installed_tells v base f m u g w l =
 pub place_on : (v w : View) → IsSound v → GoesOnTo v w → (node i word : ℕ)
     → SlotHolds (now v) node i word → place_of_slot (now w) node i ≡ place_of_slot (now v) node i
 place_on v w s g node i word slot =
-    let h = goes_on_helped 0 v w g in
-    ap (λ t. place_of_slot t node i) (helped_now 0 v w h)
-    ∙ slot_place_later v.start v.words v.log w.log s.lawful.enabled (helped_lawful 0 v w h).enabled
-    (grow_between v.start v.words v.log w.log (helped_lawful 0 v w h).enabled
+    ap (λ t. place_of_slot t node i) (goes_on_now v w g)
+    ∙ slot_place_later v.start v.words v.log w.log s.lawful.enabled (goes_on_lawful v w g).enabled
+    (grow_between v.start v.words v.log w.log (goes_on_lawful v w g).enabled
     (later-goes_on g.later)) node i word slot
 
 -- an exchange that found another word tells what the slot held
@@ -116,7 +118,7 @@ other_tells v base f m u g place word w at l ne =
     }
 
 -- a row that a caller has filled lies at a good base
-pub good_held : (v : View) → IsSound v → (base : ℕ) (words : List ℕ) → IsFilled v base words
+pub good_held : (v : View) → IsSound v → (base : ℕ) (words : List ℕ) → HasFilled v base words
     → 0 < length words → IsGoodBase base
 good_held v s base words f some =
     let claim = claimed_within v.start v.words v.log base (length words) s.lawful.enabled
@@ -160,9 +162,46 @@ loaded_slot v base f m node index from w h =
     }
 
 -- and its place is that of the change's slot
-pub loaded_place : (v : View) (f : Filling) (node index from : ℕ) (w : View)
-    → HasLoaded v f node index from w → (u : View) (place : ℕ)
-    → place ≡ place_of_slot (now u) node index
-    → place ≡ place_of_slot (now u) f.change.node f.change.index
-loaded_place v f node index from w h u place at =
-    at ∙ ap₂ (place_of_slot (now u)) (sym h.node_is) (sym h.index_is)
+pub aimed : (v : View) (f : Filling) (node index from : ℕ) (w : View)
+    → HasLoaded v f node index from w → (u : View) → GoesOnTo w u → (place : ℕ)
+    → place ≡ place_of_slot (now u) node index → IsAimed v f place from u
+aimed v f node index from w h u g place at =
+    record {
+      seen = goes_on_more v w u h.seen g;
+      at = at ∙ ap₂ (place_of_slot (now u)) (sym h.node_is) (sym h.index_is);
+      from_is = h.from_is;
+    }
+
+-- ---- what an aimed install does
+
+-- the exchange may be its Install
+pub may_exchange : (v : View) → IsSound v → (base : ℕ) (f : Filling) (m : IsInstallable v base f)
+    → (place from : ℕ) (u : View) → IsAimed v f place from u → (word : ℕ)
+    → word ≡ word_of (ChangeAt base) → CanExchange u place from word
+    (installing u f (word / tag_count))
+may_exchange v s base f m place from u a word is =
+    subst (λ (e : Event). CanExchange u place from word e)
+    (sym (installing_is u f m.number base word (goes_on_who a.seen ∙ m.mine) is))
+    (can_install v base f m s u a.seen place from word a.at (sym a.from_is) is)
+
+-- where it found the word that the change expects, it is installed
+pub aimed_yes : (v : View) (base : ℕ) (f : Filling) (m : IsInstallable v base f)
+    → (place from : ℕ) (u : View) → IsAimed v f place from u → (word : ℕ)
+    → word ≡ word_of (ChangeAt base) → (w : View)
+    → Logged u (installing u f (word / tag_count)) w → IsInstalled v base f w
+aimed_yes v base f m place from u a word is w l =
+    installed_tells v base f m u a.seen w
+    (subst (λ (e : Event). Logged u e w)
+    (installing_is u f m.number base word (goes_on_who a.seen ∙ m.mine) is) l)
+
+-- and where it found another, the slot held that
+pub aimed_other : (v : View) (base : ℕ) (f : Filling) (m : IsInstallable v base f)
+    → (place from : ℕ) (u : View) → IsAimed v f place from u → (found : ℕ) (w : View)
+    → Looked u place found w → found ≢ from → (word : ℕ) → Other found ≡ Other word
+    → IsOther v base f word w
+aimed_other v base f m place from u a found w l ne word is =
+    subst (λ n. IsOther v base f n w) (answer found word is)
+    (other_tells v base f m u a.seen place found w a.at l (λ e. ne (e ∙ a.from_is)))
+  where
+    answer : (a b : ℕ) → Other a ≡ Other b → a ≡ b
+    answer a b e = cc

@@ -1,4 +1,4 @@
-pub mod GoingLemmas
+pub mod HelperLemmas
 pub mod OutcomeLemmas
 pub mod SlotPlaceLemmas
 pub mod FieldLemmas
@@ -10,4 +10,5 @@ pub mod FitsLemmas
 pub mod InstallLemmas
 pub mod InstalledLemmas
 pub mod CallingLemmas
-pub mod ExampleLemmas
+pub mod OpeningLemmas
+pub mod ResolvedLemmas

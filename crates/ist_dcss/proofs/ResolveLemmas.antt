@@ -18,15 +18,17 @@ use Rattle.ist_links.proofs.ChangeLemmas.{unresolved_stands}
 use Rattle.ist_links.proofs.ResolvedLemmas.{resolved_gone}
 use Rattle.ist_rule.specs.declared.view.View.{View}
 use Rattle.ist_rule.specs.declared.view.Who.TheVariants.{Caller}
-use Rattle.ist_rule.specs.Shown.{IsShown}
+use Rattle.ist_core.specs.Shown.{IsShown}
 use Rattle.ist_rule.specs.Rule.{IsSound}
 use Rattle.ist_rule.specs.Learning.{now, Looked, Logged, Exchanged}
 use Rattle.ist_rule.specs.Conditions.{MayCome, CanExchange}
 use Rattle.ist_rule.specs.Watching.{number_of}
 use Rattle.ist_rule.proofs.LaterLemmas.{later-goes_on}
-use Rattle.ist_dcss.specs.Helping.{MayHelp, Helped, IsDecided, IsOut}
-use Rattle.ist_dcss.specs.Naming.{resolving, IsField, IsSlotOf, side_offset_of}
-use Rattle.ist_dcss.proofs.GoingLemmas.{looked_helped, logged_helped, helped_row, later_by-goes_on, helped_more, helped_who, helped_now, helped_lawful}
+use Rattle.ist_dcss.specs.Helping.{MayHelp, Serves, IsDecided, IsOut}
+use Rattle.ist_dcss.specs.Naming.{resolving, IsField, IsSlotOf, outcome_offset_of}
+use Rattle.ist_rule.specs.Going.{WentOn}
+use Rattle.ist_rule.proofs.WentOnLemmas.{looked_went, logged_went, later_by-goes_on, went_more, went_who, went_now, went_lawful}
+use Rattle.ist_dcss.proofs.HelperLemmas.{went_row}
 use Rattle.ist_dcss.proofs.SlotPlaceLemmas.{change_slot, slot_later, slot_shown, shown_in_slot, slot_place_later}
 use Rattle.ist_dcss.proofs.FieldLemmas.{field_now}
 use Rattle.ist_dcss.proofs.DecidedLemmas.{said_set}
@@ -154,35 +156,35 @@ pub resolve_tells : (v : View) (s : IsSound v) (change number place old found : 
     (row : ChangeRow) → (now v).pieces change ≡ Some (Change row)
     → place ≡ place_of_slot (now v) row.node row.index → old ≡ word_of (ChangeAt change)
     → Exchanged v (Resolve number change) place old found w
-    → Helped change v w × IsOut w change
+    → WentOn (Serves change) v w × IsOut w change
 resolve_tells v s change number place old found w row there at old_is x =
     ⊎_elim (λ k. hit k.1) (λ k. miss k.1) (eqb_tells found old)
   where
-    hit : found ≡ old → Helped change v w × IsOut w change
+    hit : found ≡ old → WentOn (Serves change) v w × IsOut w change
     hit e =
         let l : Logged v (Resolve number change) w = x.0 e in (
-          logged_helped change v (Resolve number change) w l refl refl,
+          logged_went (Serves change) v (Resolve number change) w l refl refl,
           out w l.sound change (subst (Happened (Resolves change)) (sym (ap (λ y. y.log) l.view))
               (inl refl)),
         )
 
-    miss : found ≢ old → Helped change v w × IsOut w change
+    miss : found ≢ old → WentOn (Serves change) v w × IsOut w change
     miss ne =
         let l : Looked v place found w = x.1 ne in
-        let helped = looked_helped change v place found w l in
-        let on = helped_row change v w helped row there in
+        let went = looked_went (Serves change) v place found w l in
+        let on = went_row (Serves change) change v w went row there in
         let node : on.0.node ≡ row.node = ap (λ y. y.node) on.2.others in
         let index : on.0.index ≡ row.index = ap (λ y. y.index) on.2.others in
         let was = change_slot v.start v.words v.log s.lawful.enabled change row there in
         let moved : place_of_slot (now w) row.node row.index
         ≡ place_of_slot (now v) row.node row.index =
-        ap (λ t. place_of_slot t row.node row.index) (helped_now change v w helped)
+        ap (λ t. place_of_slot t row.node row.index) (went_now (Serves change) v w went)
         ∙ slot_place_later v.start v.words v.log w.log s.lawful.enabled
-        (helped_lawful change v w helped).enabled
-        (grow_between v.start v.words v.log w.log (helped_lawful change v w helped).enabled
-        (later_by-goes_on helped.later))
+        (went_lawful (Serves change) v w went).enabled
+        (grow_between v.start v.words v.log w.log (went_lawful (Serves change) v w went).enabled
+        (later_by-goes_on went.later))
         row.node row.index was.0 was.1 in (
-          helped,
+          went,
           ⊎_elim (λ h. out w l.sound change h)
               (λ none.
               let holds = unresolved_stands w.start w.words l.sound.lawful.opens w.log
@@ -199,7 +201,7 @@ resolve_tells v s change number place old found w row there at old_is x =
 
 -- the row is decided, its slot lies there, and this is the word that the slot gets
 pub record MayResolve (change number place side : ℕ) (v w : View) : Type 0 where
-  pub helped : Helped change v w
+  pub went : WentOn (Serves change) v w
   pub mine : w.who ≡ Caller number
   pub row : ChangeRow
   pub published : (now w).pieces change ≡ Some (Change row)
@@ -208,24 +210,24 @@ pub record MayResolve (change number place side : ℕ) (v w : View) : Type 0 whe
   pub side_is : side ≡ side_of row
 
 -- the word of a change that its decision leaves in the slot
-side_by : (v : View) (change side : ℕ) (said : Bool) → IsField v change (side_offset_of said) side
+side_by : (v : View) (change side : ℕ) (said : Bool) → IsField v change (outcome_offset_of said) side
     → (row : ChangeRow) → (now v).pieces change ≡ Some (Change row)
     → row.decision ≡ decision_word said → side ≡ side_of row
 side_by v change side true field row there is =
-    field_now v change (side_offset_of true) side field (λ r. r.to) (λ r. refl) row there
+    field_now v change (outcome_offset_of true) side field (λ r. r.to) (λ r. refl) row there
     ∙ sym (ap (λ d. if d == decided_yes then row.to else row.from) is)
 side_by v change side false field row there is =
-    field_now v change (side_offset_of false) side field (λ r. r.from) (λ r. refl) row there
+    field_now v change (outcome_offset_of false) side field (λ r. r.from) (λ r. refl) row there
     ∙ sym (ap (λ d. if d == decided_yes then row.to else row.from) is)
 
 pub may_resolve : (v : View) (change : ℕ) (m : MayHelp v change) (said : Bool)
-    → IsDecided v change said → (u : View) → Helped change v u → (place : ℕ)
-    → IsSlotOf u change place → (w : View) → Helped change u w → IsSound u → (side : ℕ)
-    → IsField w change (side_offset_of said) side → MayResolve change m.number place side v w
+    → IsDecided v change said → (u : View) → WentOn (Serves change) v u → (place : ℕ)
+    → IsSlotOf u change place → (w : View) → WentOn (Serves change) u w → IsSound u → (side : ℕ)
+    → IsField w change (outcome_offset_of said) side → MayResolve change m.number place side v w
 may_resolve v change m said d u h place slot w k s side field =
-    let all = helped_more change v u w h k in
-    let on = helped_row change v w all d.row d.published in
-    let more = helped_row change u w k slot.row slot.published in
+    let all = went_more (Serves change) v u w h k in
+    let on = went_row (Serves change) change v w all d.row d.published in
+    let more = went_row (Serves change) change u w k slot.row slot.published in
     let set : d.row.decision ≢ undecided = λ e. said_set said (sym d.decision ∙ e) in
     let is : on.0.decision ≡ decision_word said = on.2.decided set ∙ d.decision in
     let one : on.0 ≡ more.0 = same_row on.0 more.0 on.1 more.1 in
@@ -234,15 +236,15 @@ may_resolve v change m said d u h place slot w k s side field =
     let was = change_slot u.start u.words u.log s.lawful.enabled change slot.row slot.published in
     let moved : place_of_slot (now w) slot.row.node slot.row.index
     ≡ place_of_slot (now u) slot.row.node slot.row.index =
-    ap (λ t. place_of_slot t slot.row.node slot.row.index) (helped_now change u w k)
+    ap (λ t. place_of_slot t slot.row.node slot.row.index) (went_now (Serves change) u w k)
     ∙ slot_place_later u.start u.words u.log w.log s.lawful.enabled
-    (helped_lawful change u w k).enabled
-    (grow_between u.start u.words u.log w.log (helped_lawful change u w k).enabled
+    (went_lawful (Serves change) u w k).enabled
+    (grow_between u.start u.words u.log w.log (went_lawful (Serves change) u w k).enabled
     (later_by-goes_on k.later))
     slot.row.node slot.row.index was.0 was.1 in
     record {
-      helped = all;
-      mine = helped_who change v w all ∙ m.mine;
+      went = all;
+      mine = went_who (Serves change) v w all ∙ m.mine;
       row = on.0;
       published = on.1;
       decided = λ e. said_set said (sym is ∙ e);

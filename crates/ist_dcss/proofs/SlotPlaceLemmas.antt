@@ -22,7 +22,7 @@ use Rattle.ist_core.proofs.PlaceLemmas.{placed, claimed_within, anchor_free, nex
 use Rattle.ist_core.proofs.ShapedLemmas.{shaped}
 use Rattle.ist_core.proofs.GrowingLemmas.{inner_there}
 use Rattle.ist_links.proofs.InductionLemmas.{changes_by, grow_behind}
-use Rattle.ist_rule.specs.Shown.{IsShown, shown_next, shown_callers, shown_status, shown_slot, shown_row, shown_free}
+use Rattle.ist_core.specs.Shown.{IsShown, shown_next, shown_callers, shown_status, shown_slot, shown_row, shown_free}
 use Rattle.ist_rule.proofs.WatchLemmas.{shown_in_row, place_inner}
 
 -- a word stands in each place of a list

@@ -1,5 +1,5 @@
 -- Helping a change: when a seat may, what it does to the seat's log, and what comes of the change.
-use Rattle.std.specs.Prelude.{◌≡◌, ◌≢◌, ℕ, ◌≤◌, Bool, true, false, List, ◌∷◌, ◌++◌, Some}
+use Rattle.std.specs.Prelude.{◌≡◌, ℕ, Bool, true, false, List, Some}
 use Rattle.ist_core.specs.declared.states.ChangeRow.{ChangeRow}
 use Rattle.ist_core.specs.declared.events.Event.{Event}
 use Rattle.ist_core.specs.declared.events.Event.TheVariants.{Okay, Decide, Resolve}
@@ -12,11 +12,7 @@ use Rattle.ist_core.specs.Logs.{Log, GoesOn, Happened, Resolves}
 use Rattle.ist_core.specs.Slots.{SlotHolds, IsOpen}
 use Rattle.ist_core.specs.Lawful.{state_of}
 use Rattle.ist_rule.specs.declared.view.View.{View}
-use Rattle.ist_rule.specs.declared.view.Load.{Load}
-use Rattle.ist_rule.specs.declared.view.Who.{Who}
 use Rattle.ist_rule.specs.declared.view.Who.TheVariants.{Caller}
-use Rattle.ist_rule.specs.Authors.{author}
-use Rattle.ist_rule.specs.Rule.{IsSound}
 use Rattle.ist_rule.specs.Learning.{now}
 use Rattle.ist_dcss.specs.declared.decisions.Decision.{Decision}
 use Rattle.ist_dcss.specs.declared.decisions.Decision.TheVariants.{Yes, No}
@@ -36,25 +32,6 @@ Serves change (Okay caller other) = other ≡ change
 Serves change (Decide caller other said) = other ≡ change
 Serves change (Resolve caller other) = other ≡ change
 Serves change _ = ⊥
-
--- the log goes on from an earlier one by events of others, and by own ones that P is true of
-pub data LaterBy (who : Who) (P : Event → Type 0) (earlier : Log) : Log → Type 0 where
-  none_yet : LaterBy who P earlier earlier
-  of_other : {log : Log} (event : Event) → LaterBy who P earlier log → author event ≢ who
-      → LaterBy who P earlier (event ∷ log)
-  of_own : {log : Log} (event : Event) → LaterBy who P earlier log → P event
-      → LaterBy who P earlier (event ∷ log)
-
--- the seat has made loads, and steps that serve the change, and nothing else: it knows of itself
--- what it knew
-pub record Helped (change : ℕ) (v w : View) : Type 0 where
-  pub later : LaterBy v.who (Serves change) v.log w.log
-  pub sound : IsSound w
-  pub same : w ≡ record v { log = w.log; loads = w.loads; loaded = w.loaded }
-  pub since : w.loads.since ≡ v.loads.since
-  pub more : List Load
-  pub loads : w.loads.list ≡ more ++ v.loads.list
-  pub loaded : v.loaded ≤ w.loaded
 
 -- ---- what comes of the change
 

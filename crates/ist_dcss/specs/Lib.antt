@@ -1,5 +1,6 @@
 -- what the public contracts rest on, in the order to read them
 pub mod Helping
 pub mod Installing
+pub mod Opening
 -- what the functions inside this crate promise each other
 pub mod Naming

@@ -14,7 +14,7 @@ use Rattle.ist_core.specs.Logs.{Happened, Okays}
 use Rattle.ist_core.specs.Slots.{SlotHolds, IsOpen}
 use Rattle.ist_core.specs.Writing.{place_of_slot}
 use Rattle.ist_rule.specs.declared.view.View.{View}
-use Rattle.ist_rule.specs.Learning.{now}
+use Rattle.ist_rule.specs.Learning.{now, GoesOnTo}
 use Rattle.ist_rule.specs.Watching.{number_of}
 
 -- the Decide that an exchange of a decision is
@@ -54,19 +54,25 @@ abbrev pub standing : ℕ → ℕ → ℕ
 standing wanted stood = if stood == undecided then wanted else stood
 
 -- which word of a change its slot gets once it is decided so
-abbrev pub side_offset_of : Bool → ℕ
-side_offset_of true = change_to_offset
-side_offset_of false = change_from_offset
+abbrev pub outcome_offset_of : Bool → ℕ
+outcome_offset_of true = change_to_offset
+outcome_offset_of false = change_from_offset
 
 -- ---- installing
 
 -- the seat's caller holds a row of so many words at the base, and has stored these words there
-pub record IsFilled (v : View) (base : ℕ) (words : List ℕ) : Type 0 where
+pub record HasFilled (v : View) (base : ℕ) (words : List ℕ) : Type 0 where
   pub number : ℕ
   pub mine : v.who ≡ Caller number
   pub held : HoldsRow (now v) number base (length words)
   pub stored : (k : ℕ) → k < length words
       → slice_get words k ≡ Some (own_at v.own (base + k))
+
+-- the seat made loads; the slot of the change lies at the place, and the change expects the word there
+pub record IsAimed (v : View) (f : Filling) (place from : ℕ) (w : View) : Type 0 where
+  pub seen : GoesOnTo v w
+  pub at : place ≡ place_of_slot (now w) f.change.node f.change.index
+  pub from_is : f.change.from ≡ from
 
 -- the Install that an exchange of a slot for the change's word is
 abbrev pub installing : View → Filling → ℕ → Event

@@ -3,30 +3,20 @@ ghost use Rattle.std.specs.Prelude.{◌≡◌, ◌<◌, ◌==◌};
 ghost use Rattle.ist_core.specs.RowLayout.{change_words};
 ghost use Rattle.ist_core.specs.Statuses.{open_word, decided_yes};
 ghost use Rattle.ist_core.specs.After.{decision_word};
-ghost use Rattle.ist_core.specs.Writing.{place_of_status};
 ghost use Rattle.ist_dcss.specs.declared.decisions.Decision.TheVariants.{Yes, No};
-ghost use Rattle.ist_dcss.specs.Helping.{MayHelp, Helped, is_yes, IsDecided};
+ghost use Rattle.ist_rule.specs.Going.{WentOn, KeepsSearch};
+ghost use Rattle.ist_dcss.specs.Helping.{MayHelp, Serves, is_yes, IsDecided};
 ghost use Rattle.ist_dcss.specs.Helping.{WasOpen, WasClosed, IsOut};
-ghost use Rattle.ist_dcss.specs.Naming.{standing, side_offset_of, IsField, IsSlotOf};
+ghost use Rattle.ist_dcss.specs.Naming.{standing, outcome_offset_of, IsField, IsSlotOf};
 
 use crate::decisions::Decision;
+use crate::opening::status_place;
 use crate::slots::slot_at;
 use ist_layout::{
-    ANCHOR, ANCHOR_STATUS_PLACE, CHANGE_DECISION_OFFSET, CHANGE_FROM_OFFSET, CHANGE_INDEX_OFFSET,
-    CHANGE_NODE_OFFSET, CHANGE_TO_OFFSET, DECIDED_NO, DECIDED_YES, Ref, UNDECIDED,
+    CHANGE_DECISION_OFFSET, CHANGE_FROM_OFFSET, CHANGE_INDEX_OFFSET, CHANGE_NODE_OFFSET,
+    CHANGE_TO_OFFSET, DECIDED_NO, DECIDED_YES, Ref, UNDECIDED,
 };
 use ist_rule::{TreeSeat, TreeTable, exchange, know, load, load_okay};
-
-// Where the status of the node lies.
-fn status_place(node: u64) -> u64
-    ensures value { result ≡ place_of_status node }
-{
-    if node == u64::from(ANCHOR) {
-        ANCHOR_STATUS_PLACE
-    } else {
-        node
-    }
-}
 
 // How a change is to be decided where its node had this status.
 fn decision_for(status: u64) -> u64
@@ -49,7 +39,7 @@ fn decision_of(wanted: u64, stood: u64) -> Decision
 
 // Which word of the change its slot gets once it is decided so.
 fn side_offset(decision: Decision) -> u64
-    ensures value { result ≡ side_offset_of (is_yes decision) }
+    ensures value { result ≡ outcome_offset_of (is_yes decision) }
     ensures within { result < change_words }
 {
     match decision {
@@ -64,7 +54,8 @@ fn field(table: &TreeTable, seat: &mut TreeSeat, change: u32, offset: u64) -> u6
     requires may_help { MayHelp seat.old.view change }
     requires within { offset < change_words }
     ensures same_table { seat.new.table ≡ seat.old.table }
-    ensures helped { Helped change seat.old.view seat.new.view }
+    ensures went { WentOn (Serves change) seat.old.view seat.new.view }
+    ensures search { KeepsSearch seat.old.view seat.new.view }
     ensures field { IsField seat.new.view change offset result }
 {
     know(seat);
@@ -76,13 +67,17 @@ fn decide(table: &TreeTable, seat: &mut TreeSeat, change: u32) -> Decision
     requires same_table { seat.old.table ≡ table.now.table }
     requires may_help { MayHelp seat.old.view change }
     ensures same_table { seat.new.table ≡ seat.old.table }
-    ensures helped { Helped change seat.old.view seat.new.view }
+    ensures went { WentOn (Serves change) seat.old.view seat.new.view }
+    ensures search { KeepsSearch seat.old.view seat.new.view }
     ensures decided { IsDecided seat.new.view change (is_yes result) }
 {
     let node = field(table, seat, change, CHANGE_NODE_OFFSET);
+    // Okay, where the node is open and no one has decided the change: else a load. Meets a mark of the
+    // node, and another helper's decide.
     let status = load_okay(table, seat, change, status_place(node));
     know(seat);
     let wanted = decision_for(status);
+    // Decide. Meets another helper's.
     let stood = exchange(
         table,
         seat,
@@ -98,7 +93,8 @@ fn slot_of(table: &TreeTable, seat: &mut TreeSeat, change: u32) -> u64
     requires same_table { seat.old.table ≡ table.now.table }
     requires may_help { MayHelp seat.old.view change }
     ensures same_table { seat.new.table ≡ seat.old.table }
-    ensures helped { Helped change seat.old.view seat.new.view }
+    ensures went { WentOn (Serves change) seat.old.view seat.new.view }
+    ensures search { KeepsSearch seat.old.view seat.new.view }
     ensures slot { IsSlotOf seat.new.view change result }
 {
     let node = field(table, seat, change, CHANGE_NODE_OFFSET);
@@ -112,13 +108,15 @@ fn resolve(table: &TreeTable, seat: &mut TreeSeat, change: u32, decision: Decisi
     requires may_help { MayHelp seat.old.view change }
     requires decided { IsDecided seat.old.view change (is_yes decision) }
     ensures same_table { seat.new.table ≡ seat.old.table }
-    ensures helped { Helped change seat.old.view seat.new.view }
+    ensures went { WentOn (Serves change) seat.old.view seat.new.view }
+    ensures search { KeepsSearch seat.old.view seat.new.view }
     ensures out { IsOut seat.new.view change }
 {
     let place = slot_of(table, seat, change);
     let side = field(table, seat, change, side_offset(decision));
     know(seat);
     let word = Ref::Change { base: change }.to_word();
+    // Resolve. Meets another helper's, and what was installed behind it.
     exchange(table, seat, place, word, side);
 }
 
@@ -131,7 +129,8 @@ pub fn help(table: &TreeTable, seat: &mut TreeSeat, change: u32) -> Decision
     requires same_table { seat.old.table ≡ table.now.table }
     requires may_help { MayHelp seat.old.view change }
     ensures same_table { seat.new.table ≡ seat.old.table }
-    ensures helped { Helped change seat.old.view seat.new.view }
+    ensures went { WentOn (Serves change) seat.old.view seat.new.view }
+    ensures search { KeepsSearch seat.old.view seat.new.view }
     ensures decided { IsDecided seat.new.view change (is_yes result) }
     ensures yes { result ≡ Yes → WasOpen seat.new.view change }
     ensures no { result ≡ No → WasClosed seat.new.view change }

@@ -3,7 +3,7 @@ ghost use Rattle.std.specs.Prelude.{◌≡◌, ◌<◌, ℕ, List, length, slice
 ghost use Rattle.ist_dcss.specs.declared.decisions.Installed.TheVariants.{Yes, Other};
 ghost use Rattle.ist_rule.specs.Learning.{GoesOnTo};
 ghost use Rattle.ist_dcss.specs.Installing.{Filling, IsInstallable, IsInstalled, IsOther};
-ghost use Rattle.ist_dcss.specs.Naming.{IsFilled};
+ghost use Rattle.ist_dcss.specs.Naming.{HasFilled, IsAimed};
 
 use crate::decisions::Installed;
 use crate::slots::slot_at;
@@ -14,7 +14,7 @@ use ist_rule::{TreeSeat, TreeTable, exchange, know, load};
 fn own_word(table: &TreeTable, seat: &mut TreeSeat, base: u32, offset: u64) -> u64
     ghost words: { List ℕ }
     requires same_table { seat.old.table ≡ table.now.table }
-    requires filled { IsFilled seat.old.view base words }
+    requires filled { HasFilled seat.old.view base words }
     requires within { offset < length words }
     ensures same_table { seat.new.table ≡ seat.old.table }
     ensures seen { GoesOnTo seat.old.view seat.new.view }
@@ -22,6 +22,28 @@ fn own_word(table: &TreeTable, seat: &mut TreeSeat, base: u32, offset: u64) -> u
 {
     know(seat);
     load(table, seat, u64::from(base) + offset)
+}
+
+// Where the slot of a change lies, and the word that the change expects there.
+#[derive(Clone, Copy, Drop)]
+struct Aim {
+    place: u64,
+    from: u64,
+}
+
+// Reads from the filled row of a change what its install aims at.
+fn aim_of(table: &TreeTable, seat: &mut TreeSeat, change: u32) -> Aim
+    ghost filling: { Filling }
+    requires same_table { seat.old.table ≡ table.now.table }
+    requires may_install { IsInstallable seat.old.view change filling }
+    ensures same_table { seat.new.table ≡ seat.old.table }
+    ensures aimed { IsAimed seat.old.view filling result.place result.from seat.new.view }
+{
+    let node = own_word(table, seat, change, CHANGE_NODE_OFFSET);
+    let index = own_word(table, seat, change, CHANGE_INDEX_OFFSET);
+    let from = own_word(table, seat, change, CHANGE_FROM_OFFSET);
+    let place = slot_at(table, seat, node, index);
+    Aim { place, from }
 }
 
 /// Installs a change whose row is filled, where its slot holds the word that it expects.
@@ -39,12 +61,10 @@ pub fn install(table: &TreeTable, seat: &mut TreeSeat, change: u32) -> Installed
         → IsOther seat.old.view change filling word seat.new.view }
 {
     know(seat);
-    let node = own_word(table, seat, change, CHANGE_NODE_OFFSET);
-    let index = own_word(table, seat, change, CHANGE_INDEX_OFFSET);
-    let from = own_word(table, seat, change, CHANGE_FROM_OFFSET);
-    let place = slot_at(table, seat, node, index);
+    let Aim { place, from } = aim_of(table, seat, change);
     know(seat);
     let word = Ref::Change { base: change }.to_word();
+    // Install. Meets another caller's in the slot, and what a helper left there.
     let found = exchange(table, seat, place, from, word);
     if found == from {
         Installed::Yes

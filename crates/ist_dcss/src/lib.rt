@@ -1,16 +1,17 @@
 //! Installing a change, and helping one: it takes effect once or never, and leaves its slot.
 //!
-//! Read `specs/Installing.antt` and `specs/Helping.antt`, then `installing.rt` and
-//! `helping.rt`. Stands on `ist_core`, `ist_layout`, `ist_links` and `ist_rule`.
+//! Read `specs/Installing.antt`, `specs/Helping.antt` and `specs/Opening.antt`, then `installing.rt`,
+//! `helping.rt` and `opening.rt`. Stands on `ist_core`, `ist_layout`, `ist_links` and `ist_rule`.
 #![tactic(auto)]
 
 mod decisions;
 mod helping;
 mod installing;
+pub mod laws;
+mod opening;
 mod slots;
-#[cfg(test)]
-mod tests;
 
 pub use decisions::{Decision, Installed};
 pub use helping::help;
 pub use installing::install;
+pub use opening::is_open;

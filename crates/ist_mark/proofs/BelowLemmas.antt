@@ -1,5 +1,6 @@
 -- What hangs below a slot that was passed. Serves `target_of` and `pass_slot`.
 use Rattle.std.proofs.Common.{◌≡◌, ◌≢◌, ℕ, ◌+◌, ◌^◌, ◌<◌, Option, Some, None, option_map, refl, sym, ap, ◌∙◌, subst, arith}
+use Rattle.ist_core.specs.declared.events.Event.{Event}
 use Rattle.ist_core.specs.declared.states.RebuildRow.{RebuildRow}
 use Rattle.ist_core.specs.References.{Empty, Unset, LeafAt, InnerAt, ChangeAt, RebuildAt, ref_of}
 use Rattle.ist_core.specs.Pieces.{Inner, Rebuild}
@@ -12,13 +13,14 @@ use Rattle.ist_rule.specs.declared.view.View.{View}
 use Rattle.ist_rule.specs.Rule.{IsSound}
 use Rattle.ist_rule.specs.Learning.{now, Looked}
 use Rattle.ist_dcss.proofs.FieldLemmas.{row_low, looked_row}
-use Rattle.ist_steps.specs.Going.{WentOn}
-use Rattle.ist_steps.proofs.GoingLemmas.{looked_went, went_grow}
+use Rattle.ist_rule.specs.Going.{WentOn}
+use Rattle.ist_rule.proofs.GoingOnLemmas.{looked_goes_on}
+use Rattle.ist_rule.proofs.WentOnLemmas.{goes_on_grow}
 use Rattle.ist_layout.specs.declared.references.Ref as layout
 use Rattle.ist_layout.specs.Meanings.{ref_meant}
 use Rattle.ist_mark.specs.declared.below.Below.TheVariants.{Keys, Node}
-use Rattle.ist_mark.specs.Marking.{Marks}
-use Rattle.ist_mark.specs.Passing.{IsRebuild, to_row, to_target, HangsBelow, PassedWith}
+use Rattle.ist_mark.specs.Marking.{to_row, to_target}
+use Rattle.ist_mark.specs.Passing.{IsRebuildRow, HangsBelow, PassedWith}
 use Rattle.ist_mark.proofs.KeepingLemmas.{happened_went}
 use Rattle.ist_mark.proofs.NodeLemmas.{frozen_names, target_inner}
 
@@ -26,11 +28,11 @@ use Rattle.ist_mark.proofs.NodeLemmas.{frozen_names, target_inner}
 
 -- the rebuild behind a load of its target
 rebuild_behind : (v : View) (place word : ℕ) (w : View) → Looked v place word w → (rebuild : ℕ)
-    → IsRebuild (now v) rebuild → place ≡ rebuild + 0
+    → IsRebuildRow (now v) rebuild → place ≡ rebuild + 0
     → (r : RebuildRow) × ((now w).pieces rebuild ≡ Some (Rebuild r)) × (word ≡ r.target)
 rebuild_behind v place word w l rebuild b at =
     let it = rebuild_there (now v).pieces (now w).pieces
-    (went_grow Marks v w (looked_went Marks v place word w l)) rebuild b.row b.published in (
+    (goes_on_grow v w (looked_goes_on v place word w l)) rebuild b.row b.published in (
       it.0,
       it.1,
       looked_row v place word w l rebuild (Rebuild it.0) 0 it.0.target it.1 refl at,
@@ -38,14 +40,14 @@ rebuild_behind v place word w l rebuild b at =
 
 -- the load tells the target
 pub target_told : (v : View) (place word : ℕ) (w : View) → Looked v place word w → (rebuild : ℕ)
-    → IsRebuild (now v) rebuild → place ≡ rebuild + 0 → HasTarget (now w) rebuild word
+    → IsRebuildRow (now v) rebuild → place ≡ rebuild + 0 → HasTarget (now w) rebuild word
 target_told v place word w l rebuild b at =
     let it = rebuild_behind v place word w l rebuild b at in
     record { row = it.0; published = it.1; target_is = sym it.2 }
 
 -- which is a place of the table
 pub target_low : (v : View) (place word : ℕ) (w : View) → Looked v place word w → (rebuild : ℕ)
-    → IsRebuild (now v) rebuild → place ≡ rebuild + 0 → word < 2 ^ 32
+    → IsRebuildRow (now v) rebuild → place ≡ rebuild + 0 → word < 2 ^ 32
 target_low v place word w l rebuild b at =
     let it = rebuild_behind v place word w l rebuild b at in
     let inner = (target_inner w.start w.words l.sound.lawful.opens w.log l.sound.lawful.enabled
@@ -115,11 +117,11 @@ passed_row v s node i word child p is =
     record { word = word; frozen = p; is = row_below v s node i word child p is }
 
 -- one that is read as a rebuild leads to its target
-pub passed_target : (v w : View) → WentOn Marks v w → (node i word rebuild child : ℕ)
+pub passed_target : {P : Event → Type 0} (v w : View) → WentOn P v w → (node i word rebuild child : ℕ)
     → IsFrozen v.log node i word → ref_of word ≡ Some (RebuildAt rebuild)
     → HasTarget (now w) rebuild child → PassedWith w node i (Node child)
-passed_target v w g node i word rebuild child p is t =
-    let frozen = happened_went Marks v w g (Passes node i word) p in
+passed_target {P = P} v w g node i word rebuild child p is t =
+    let frozen = happened_went P v w g (Passes node i word) p in
     record {
       word = word;
       frozen = frozen;

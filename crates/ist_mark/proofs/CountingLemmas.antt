@@ -1,31 +1,32 @@
 -- What is put together of marking, passing and finishing. Serves `count_slot` and `mark_and_count`.
 use Rattle.std.proofs.Common.{ℕ, ◌+◌, ◌^◌, ◌<◌, sym, ◌∙◌, subst, arith}
+use Rattle.ist_core.specs.declared.events.Event.{Event}
 use Rattle.ist_core.specs.References.{ref_of}
 use Rattle.ist_core.specs.Logs.{Passes}
 use Rattle.ist_core.specs.Marking.{CountsFor, of_child, of_target}
 use Rattle.ist_core.specs.Rebuilding.{IsFinishedWith}
 use Rattle.ist_core.specs.Snapshots.{Snapshot}
-use Rattle.ist_links.proofs.FinishedLemmas.{target_grows}
 use Rattle.ist_rule.specs.declared.view.View.{View}
 use Rattle.ist_rule.specs.Rule.{IsSound}
 use Rattle.ist_rule.specs.Learning.{now}
-use Rattle.ist_steps.specs.Going.{WentOn}
-use Rattle.ist_steps.proofs.GoingLemmas.{went_grow, went_who}
+use Rattle.ist_rule.specs.Going.{WentOn}
+use Rattle.ist_rule.proofs.WentOnLemmas.{went_who}
 use Rattle.ist_mark.specs.declared.below.Below.TheVariants.{Keys, Node}
-use Rattle.ist_mark.specs.Marking.{MayMark, Marks}
-use Rattle.ist_mark.specs.Passing.{LeadsTo, to_row, to_target, MayPass, PassedWith, IsCounted, AreCounted, one_slot_more, MayFinish}
+use Rattle.ist_mark.specs.Marking.{MayMark, LeadsTo, to_row, to_target, LiesUnder, the_node, one_lower}
+use Rattle.ist_mark.specs.Passing.{MayPass, PassedWith, IsCounted, AreCounted, one_slot_more, MayFinish}
 use Rattle.ist_mark.proofs.CountLemmas.{count_few, counted_few}
 use Rattle.ist_mark.proofs.KeepingLemmas.{happened_went, may_pass_went, counted_went}
 use Rattle.ist_mark.proofs.PassLemmas.{degree_low}
+use Rattle.ist_mark.proofs.SubtreeLemmas.{leads_later}
 
 -- ---- one slot
 
 -- an inner row below a passed slot has a cause to be marked, and lies above the node
-pub below_called : (v w : View) (node degree i child : ℕ) → MayPass v node degree
-    → WentOn Marks v w → PassedWith w node i (Node child) → (node < child) × MayMark w child
-below_called v w node degree i child m g p = (
+pub below_called : {P : Event → Type 0} (v w : View) (node degree i child : ℕ)
+    → MayPass v node degree → WentOn P v w → PassedWith w node i (Node child) → (node < child) × MayMark w child
+below_called {P = P} v w node degree i child m g p = (
   p.is.above,
-  record { number = m.number; mine = went_who Marks v w g ∙ m.mine; called = p.is.called },
+  record { number = m.number; mine = went_who P v w g ∙ m.mine; called = p.is.called },
 )
 
 -- a word that leads to a finished row counts for its number
@@ -36,20 +37,18 @@ leads_counts t word child k (to_row is) f =
 leads_counts t word child k (to_target rebuild is h) f =
     subst (λ o. CountsFor t o k) (sym is) (of_target h f)
 
--- it leads there still
-leads_later : (v w : View) → WentOn Marks v w → (word child : ℕ) → LeadsTo (now v) word child
-    → LeadsTo (now w) word child
-leads_later v w g word child (to_row is) = to_row is
-leads_later v w g word child (to_target rebuild is h) =
-    to_target rebuild is (target_grows (now v) (now w) (went_grow Marks v w g) rebuild child h)
+-- an inner row below a passed slot is one of the subtree
+pub below_under : (v : View) (node i child : ℕ) → PassedWith v node i (Node child)
+    → LiesUnder (now v) v.log node child
+below_under v node i child p = one_lower i p.word the_node p.frozen p.is.leads
 
 -- once the row is finished, the slot is counted
-pub row_counted : (v w : View) → WentOn Marks v w → (node i child k : ℕ)
+pub row_counted : {P : Event → Type 0} (v w : View) → WentOn P v w → (node i child k : ℕ)
     → PassedWith v node i (Node child) → IsFinishedWith (now w) child k → IsCounted w node i k
-row_counted v w g node i child k p f =
+row_counted {P = P} v w g node i child k p f =
     record {
       word = p.word;
-      frozen = happened_went Marks v w g (Passes node i p.word) p.frozen;
+      frozen = happened_went P v w g (Passes node i p.word) p.frozen;
       counts = leads_counts (now w) p.word child k (leads_later v w g p.word child p.is.leads) f;
     }
 
@@ -60,11 +59,11 @@ keys_counted v node i k p = record { word = p.word; frozen = p.frozen; counts = 
 -- ---- all slots
 
 -- one slot more is counted
-pub slot_counted : (v w : View) → WentOn Marks v w → (node i k here : ℕ)
+pub slot_counted : {P : Event → Type 0} (v w : View) → WentOn P v w → (node i k here : ℕ)
     → AreCounted (now v) v.log node i k → IsCounted w node i here
     → AreCounted (now w) w.log node (i + 1) (k + here)
-slot_counted v w g node i k here a c =
-    one_slot_more c.word (counted_went Marks v w g node i k a) c.frozen c.counts
+slot_counted {P = P} v w g node i k here a c =
+    one_slot_more c.word (counted_went P v w g node i k a) c.frozen c.counts
 
 -- the sum of slots that were counted, with one more, is no great number
 pub sum_low : (v w : View) → IsSound v → IsSound w → (node degree i k here : ℕ)
@@ -78,10 +77,10 @@ sum_low v w s r node degree i k here m less a c =
     omega arith
 
 -- a node whose slots were all counted may be finished
-pub all_counted : (v w : View) → WentOn Marks v w → (node degree k : ℕ) → MayPass v node degree
+pub all_counted : {P : Event → Type 0} (v w : View) → WentOn P v w → (node degree k : ℕ) → MayPass v node degree
     → AreCounted (now w) w.log node degree k → MayFinish w node k
-all_counted v w g node degree k m a =
-    let here = may_pass_went Marks v w g node degree m in
+all_counted {P = P} v w g node degree k m a =
+    let here = may_pass_went P v w g node degree m in
     record {
       number = here.number;
       mine = here.mine;

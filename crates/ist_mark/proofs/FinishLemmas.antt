@@ -24,12 +24,12 @@ use Rattle.ist_rule.specs.Conditions.{CanMake, CanExchange}
 use Rattle.ist_rule.specs.Watching.{number_of}
 use Rattle.ist_rule.proofs.LaterLemmas.{later-goes_on}
 use Rattle.ist_dcss.proofs.FieldLemmas.{looked_row}
-use Rattle.ist_steps.specs.Coming.{IsGone}
-use Rattle.ist_steps.specs.Going.{WentOn}
-use Rattle.ist_steps.proofs.ComingLemmas.{exchange_comes}
-use Rattle.ist_steps.proofs.GoingLemmas.{logged_went, looked_went}
-use Rattle.ist_steps.proofs.KnownLemmas.{gone_missed, mark_gone}
-use Rattle.ist_mark.specs.Marking.{Marks}
+use Rattle.ist_coming.specs.Coming.{IsGone}
+use Rattle.ist_rule.specs.Going.{WentOn}
+use Rattle.ist_coming.proofs.ComingLemmas.{exchange_comes}
+use Rattle.ist_rule.proofs.WentOnLemmas.{logged_went, looked_went}
+use Rattle.ist_coming.proofs.KnownLemmas.{gone_missed, mark_gone}
+use Rattle.ist_mark.specs.Marking.{the_node, Marks}
 use Rattle.ist_mark.specs.Naming.{finishing}
 use Rattle.ist_mark.specs.Passing.{MayFinish, AreCounted}
 use Rattle.ist_mark.proofs.CountLemmas.{counted_all, passed_once}
@@ -112,30 +112,30 @@ module _ (v : View) (s : IsSound v) (node keys : ℕ) (m : MayFinish v node keys
         (closed_status v.start v.words v.log s.lawful.enabled node m.row m.published m.closed)
 
     finish_hit : (w : View) → Logged v (Finish m.number node keys) w
-        → WentOn Marks v w × IsFinishedWith (now w) node keys
+        → WentOn (Marks w node) v w × IsFinishedWith (now w) node keys
     finish_hit w l =
         let b = state_of v.start v.words l.before in
         let on = inner_there (now v).pieces b.pieces
         (grow_between v.start v.words v.log l.before
         (before_enabled v (Finish m.number node keys) w l) (later-goes_on l.later)) node m.row
         m.published in (
-          logged_went Marks v (Finish m.number node keys) w l tt refl,
+          logged_went (Marks w node) v (Finish m.number node keys) w l the_node refl,
           subst (λ (x : View). IsFinishedWith (now x) node keys) (sym l.view)
               (finished_behind b node keys on.0 on.1),
         )
 
     finish_miss : (found : ℕ) (w : View) → Looked v place found w → found ≢ marked_word
-        → WentOn Marks v w × IsFinishedWith (now w) node keys
+        → WentOn (Marks w node) v w × IsFinishedWith (now w) node keys
     finish_miss found w l other =
-        let went = looked_went Marks v place found w l in
-        let on = inner_went Marks v w went node m.row m.published in
+        let went = looked_went (Marks w node) v place found w l in
+        let on = inner_went (Marks w node) v w went node m.row m.published in
         let is : found ≡ on.0.status =
         looked_row v place found w l node (Inner on.0) 0 on.0.status on.1 refl at in
         let enabled = l.sound.lawful.enabled in (
           went,
           ⊎_elim (λ marked. absurd (other (is ∙ marked)))
               (λ f.
-              let counted = counted_went Marks v w went node m.row.degree keys m.counted in
+              let counted = counted_went (Marks w node) v w went node m.row.degree keys m.counted in
               let all = counted_all w.start w.words l.sound.lawful.opens w.log enabled node keys
               on.0.slots
               (subst (λ n. AreCounted (now w) w.log node n keys)
@@ -172,7 +172,7 @@ module _ (v : View) (s : IsSound v) (node keys : ℕ) (m : MayFinish v node keys
     -- behind it the node is finished with this number, whoever was first
     pub finish_told : (old new found : ℕ) (w : View) → old ≡ marked_word → new ≡ finished_word keys
         → Exchanged v (finishing v place new) place old found w
-        → WentOn Marks v w × IsFinishedWith (now w) node keys
+        → WentOn (Marks w node) v w × IsFinishedWith (now w) node keys
     finish_told old new found w old_is new_is x =
         ⊎_elim
         (λ hit.

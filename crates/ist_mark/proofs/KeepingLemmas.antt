@@ -15,8 +15,8 @@ use Rattle.ist_links.proofs.FormLemmas.{finished_with_grows, started_grows}
 use Rattle.ist_rule.specs.declared.view.View.{View}
 use Rattle.ist_rule.specs.Learning.{now}
 use Rattle.ist_stability.proofs.LaterLemmas.{happened_later}
-use Rattle.ist_steps.specs.Going.{WentOn}
-use Rattle.ist_steps.proofs.GoingLemmas.{later_by-goes_on, went_grow, went_who}
+use Rattle.ist_rule.specs.Going.{WentOn}
+use Rattle.ist_rule.proofs.WentOnLemmas.{later_by-goes_on, went_grow, went_who}
 use Rattle.ist_mark.specs.Marking.{MayMark}
 use Rattle.ist_mark.specs.Passing.{IsClosed, MayPass, AreCounted, no_slot_yet, one_slot_more}
 use Rattle.ist_mark.proofs.NodeLemmas.{closed_stays}

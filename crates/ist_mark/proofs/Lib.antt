@@ -1,11 +1,9 @@
 pub mod NodeLemmas
 pub mod KeepingLemmas
+pub mod SubtreeLemmas
 pub mod MarkLemmas
 pub mod CountLemmas
 pub mod FinishLemmas
 pub mod PassLemmas
-pub mod HelpLemmas
 pub mod BelowLemmas
 pub mod CountingLemmas
-pub mod TableExampleLemmas
-pub mod ExampleLemmas

@@ -23,12 +23,12 @@ use Rattle.ist_rule.specs.Conditions.{CanMake, IsKnown, CanExchange}
 use Rattle.ist_rule.specs.Watching.{number_of}
 use Rattle.ist_rule.proofs.LaterLemmas.{later-goes_on}
 use Rattle.ist_dcss.proofs.FieldLemmas.{looked_row}
-use Rattle.ist_steps.specs.Coming.{IsGone}
-use Rattle.ist_steps.specs.Going.{WentOn}
-use Rattle.ist_steps.proofs.ComingLemmas.{exchange_comes}
-use Rattle.ist_steps.proofs.GoingLemmas.{logged_went, looked_went, went_who}
-use Rattle.ist_steps.proofs.KnownLemmas.{in_piece, fast_known, gone_missed, open_gone}
-use Rattle.ist_mark.specs.Marking.{MayMark, Marks}
+use Rattle.ist_coming.specs.Coming.{IsGone}
+use Rattle.ist_rule.specs.Going.{WentOn}
+use Rattle.ist_coming.proofs.ComingLemmas.{exchange_comes}
+use Rattle.ist_rule.proofs.WentOnLemmas.{logged_went, looked_went, went_who}
+use Rattle.ist_coming.proofs.KnownLemmas.{in_piece, fast_known, gone_missed, open_gone}
+use Rattle.ist_mark.specs.Marking.{MayMark, the_node, Marks}
 use Rattle.ist_mark.specs.Naming.{marking}
 use Rattle.ist_mark.specs.Passing.{IsClosed, MayPass}
 use Rattle.ist_mark.proofs.KeepingLemmas.{inner_went, closed_went}
@@ -83,7 +83,7 @@ marking_is v number node place who at = ap₂ Mark (ap number_of who) at
 
 -- what is known of the node behind a mark, or a try to mark it
 pub record MarkTells (v w : View) (node found : ℕ) : Type 0 where
-  pub went : WentOn Marks v w
+  pub went : WentOn (Marks w node) v w
   pub closed : IsClosed (now w) node
   pub finished : (k : ℕ) → status_of found ≡ Some (Finished k) → IsFinishedWith (now w) node k
 
@@ -102,7 +102,7 @@ module _ (v : View) (number node place found : ℕ) (w : View) (row : InnerRow)
         ∙ changed_at-same b.pieces node (with_status marked_word)
         ∙ ap (option_map (with_status marked_word)) on.1 in
         record {
-          went = logged_went Marks v (Mark number node) w l tt refl;
+          went = logged_went (Marks w node) v (Mark number node) w l the_node refl;
           closed = record {
             row = record (on.0) { status = marked_word };
             published = here;
@@ -117,8 +117,8 @@ module _ (v : View) (number node place found : ℕ) (w : View) (row : InnerRow)
     -- and where another word was found, it is the status of a node that isn't open
     mark_miss : Looked v place found w → found ≢ open_word → MarkTells v w node found
     mark_miss l other =
-        let went = looked_went Marks v place found w l in
-        let on = inner_went Marks v w went node row published in
+        let went = looked_went (Marks w node) v place found w l in
+        let on = inner_went (Marks w node) v w went node row published in
         let is : found ≡ on.0.status =
         looked_row v place found w l node (Inner on.0) 0 on.0.status on.1 refl at in
         record {
@@ -141,11 +141,11 @@ module _ (v : View) (number node place found : ℕ) (w : View) (row : InnerRow)
 pub degree_tells : (v : View) (place degree : ℕ) (w : View) → Looked v place degree w → (node : ℕ)
     → MayMark v node → IsClosed (now v) node → place ≡ node + 2 → MayPass w node degree
 degree_tells v place degree w l node m c at =
-    let went = looked_went Marks v place degree w l in
-    let now_closed = closed_went Marks v w went node c in
+    let went = looked_went (Marks w node) v place degree w l in
+    let now_closed = closed_went (Marks w node) v w went node c in
     record {
       number = m.number;
-      mine = went_who Marks v w went ∙ m.mine;
+      mine = went_who (Marks w node) v w went ∙ m.mine;
       row = now_closed.row;
       published = now_closed.published;
       closed = now_closed.closed;

@@ -27,25 +27,24 @@ use Rattle.ist_core.proofs.ShapedLemmas.{shaped}
 use Rattle.ist_core.proofs.SlotLemmas.{slot_once}
 use Rattle.ist_links.proofs.FinishedLemmas.{finished_slot}
 use Rattle.ist_rule.specs.declared.view.View.{View}
-use Rattle.ist_rule.specs.Shown.{IsShown}
+use Rattle.ist_core.specs.Shown.{IsShown}
 use Rattle.ist_rule.specs.Rule.{IsSound}
 use Rattle.ist_rule.specs.Learning.{now, Looked, LoggedLoad, LoadedAs, as_event, as_load}
 use Rattle.ist_rule.specs.Watching.{number_of, is_marked, is_change, pass_of, CanLoadPass}
 use Rattle.ist_rule.proofs.WatchLemmas.{both_true, if_some, no_change, eq_true}
-use Rattle.ist_dcss.specs.Helping.{MayHelp}
 use Rattle.ist_dcss.proofs.FieldLemmas.{row_low}
 use Rattle.ist_dcss.proofs.SlotPlaceLemmas.{slot_shown, no_anchor}
-use Rattle.ist_steps.specs.Going.{WentOn}
-use Rattle.ist_steps.proofs.GoingLemmas.{logged_load_went, looked_went}
-use Rattle.ist_mark.specs.Marking.{Marks}
-use Rattle.ist_mark.specs.Passing.{MayPass, IsNoChange}
+use Rattle.ist_rule.specs.Going.{WentOn}
+use Rattle.ist_rule.proofs.WentOnLemmas.{logged_load_went, looked_went}
+use Rattle.ist_mark.specs.Marking.{the_node, Marks}
+use Rattle.ist_mark.specs.Passing.{MayPass, IsMetAt, IsNoChange}
 use Rattle.ist_mark.proofs.KeepingLemmas.{may_pass_went}
 use Rattle.ist_mark.proofs.NodeLemmas.{closed_status}
 use Rattle.ist_links.proofs.ClosedLemmas.{closed_was_linked}
 use Rattle.ist_links.proofs.LinkLemmas.{linked_or_finished}
 use Rattle.ist_rebuilds.proofs.ContentLemmas.{linked_set}
 use Rattle.ist_rule.proofs.WatchLemmas.{place_inner}
-use Rattle.ist_steps.proofs.GoingLemmas.{went_now}
+use Rattle.ist_rule.proofs.WentOnLemmas.{went_now}
 
 -- ---- the slots of a node that isn't open
 
@@ -121,8 +120,8 @@ unset_by_test true true c e f g = absurd (cc)
 unset_by_test false b c e f g = absurd (cc)
 
 pub record LookTells (v w : View) (node i word : ℕ) : Type 0 where
-  pub went : WentOn Marks v w
-  pub change : (change : ℕ) → ref_of word ≡ Some (ChangeAt change) → MayHelp w change
+  pub went : WentOn (Marks w node) v w
+  pub change : (change : ℕ) → ref_of word ≡ Some (ChangeAt change) → IsMetAt w node change
   pub frozen : IsNoChange word → IsFrozen w.log node i word
 
 module _ (v : View) (node degree i place word : ℕ) (m : MayPass v node degree) (less : i < degree)
@@ -142,7 +141,7 @@ module _ (v : View) (node degree i place word : ℕ) (m : MayPass v node degree)
       let logged : LoggedLoad v pass place word w =
       subst (λ (e : Event). LoggedLoad v e place word w) (sym is.1) l in
       record {
-        went = logged_load_went Marks v pass place word w logged tt refl;
+        went = logged_load_went (Marks w node) v pass place word w logged the_node refl;
         change = λ c e. absurd (no_change (ref_of word) plain.0 c e);
         frozen = λ k. subst (λ log. IsFrozen log node i word)
             (sym (ap (λ (x : View). x.log) logged.view)) (inl (refl, refl, refl));
@@ -160,10 +159,13 @@ module _ (v : View) (node degree i place word : ℕ) (m : MayPass v node degree)
             (slot_names (now w) node i word
             (names w.start w.words l.sound.lawful.opens w.log enabled) holds) in
             record {
-              number = here.number;
-              mine = here.mine;
-              row = named.row;
-              installed = named.published;
+              may_help = record {
+                number = here.number;
+                mine = here.mine;
+                row = named.row;
+                installed = named.published;
+              };
+              node_is = named.node_is;
             };
         frozen = λ plain.
             ⊎_elim
@@ -176,11 +178,11 @@ module _ (v : View) (node degree i place word : ℕ) (m : MayPass v node degree)
             (closed_status w.start w.words w.log enabled node here.row here.published here.closed);
       }
     where
-      went : WentOn Marks v w
-      went = looked_went Marks v place word w l
+      went : WentOn (Marks w node) v w
+      went = looked_went (Marks w node) v place word w l
 
       here : MayPass w node degree
-      here = may_pass_went Marks v w went node degree m
+      here = may_pass_went (Marks w node) v w went node degree m
 
       enabled : EachEnabled (start w.start w.words) w.log
       enabled = l.sound.lawful.enabled
@@ -211,7 +213,7 @@ module _ (v : View) (node degree i place word : ℕ) (m : MayPass v node degree)
       unset marked plain =
           let u = state_of v.start v.words w.log in
           let piece : u.pieces node ≡ Some (Inner here.row) =
-          ap (λ x. x.pieces node) (sym (went_now Marks v w went)) ∙ here.published in
+          ap (λ x. x.pieces node) (sym (went_now (Marks w node) v w went)) ∙ here.published in
           let test : is_marked (as_inner (u.pieces node)) ≡ true =
           ap (λ o. is_marked (as_inner o)) piece ∙ ap (λ n. n == marked_word) marked in
           let c = unset_by_test (is_marked (as_inner (u.pieces node))) (is_change (ref_of word))

@@ -2,17 +2,19 @@
 use Rattle.std.specs.Prelude.{◌≡◌, ◌≢◌, ℕ, ◌+◌, ◌<◌, Some}
 use Rattle.ist_core.specs.declared.states.InnerRow.{InnerRow}
 use Rattle.ist_core.specs.declared.states.RebuildRow.{RebuildRow}
-use Rattle.ist_core.specs.References.{ChangeAt, InnerAt, RebuildAt, ref_of}
+use Rattle.ist_core.specs.References.{ChangeAt, ref_of}
 use Rattle.ist_core.specs.Statuses.{open_word}
 use Rattle.ist_core.specs.Pieces.{Inner, Rebuild}
 use Rattle.ist_core.specs.Snapshots.{Snapshot}
 use Rattle.ist_core.specs.Logs.{Log}
-use Rattle.ist_core.specs.Marking.{HasTarget, IsCalled, IsFrozen, CountsFor}
+use Rattle.ist_core.specs.Marking.{IsCalled, IsFrozen, CountsFor}
 use Rattle.ist_rule.specs.declared.view.View.{View}
 use Rattle.ist_rule.specs.declared.view.Who.TheVariants.{Caller}
 use Rattle.ist_rule.specs.Learning.{now}
+use Rattle.ist_dcss.specs.Helping.{MayHelp}
 use Rattle.ist_mark.specs.declared.below.Below.{Below}
 use Rattle.ist_mark.specs.declared.below.Below.TheVariants.{Keys, Node}
+use Rattle.ist_mark.specs.Marking.{LeadsTo}
 
 -- the node is an inner row that isn't open
 pub record IsClosed (t : Snapshot) (node : ℕ) : Type 0 where
@@ -34,17 +36,16 @@ abbrev pub IsNoChange : ℕ → Type 0
 IsNoChange word = (change : ℕ) → ref_of word ≢ Some (ChangeAt change)
 
 -- a rebuild is published at the base
-pub record IsRebuild (t : Snapshot) (base : ℕ) : Type 0 where
+pub record IsRebuildRow (t : Snapshot) (base : ℕ) : Type 0 where
   pub row : RebuildRow
   pub published : t.pieces base ≡ Some (Rebuild row)
 
--- ---- what hangs below a slot
+-- a caller may help a change, which is on a slot of the node
+pub record IsMetAt (v : View) (node change : ℕ) : Type 0 where
+  pub may_help : MayHelp v change
+  pub node_is : may_help.row.node ≡ node
 
--- the passed word leads to the inner row: it is that of the row, or of a rebuild of it
-pub data LeadsTo (t : Snapshot) (word child : ℕ) : Type 0 where
-  to_row : ref_of word ≡ Some (InnerAt child) → LeadsTo t word child
-  to_target : (rebuild : ℕ) → ref_of word ≡ Some (RebuildAt rebuild) → HasTarget t rebuild child
-      → LeadsTo t word child
+-- ---- what hangs below a slot
 
 -- an inner row hangs below the node: it lies above it, has a cause to be marked, and the word leads
 -- to it

@@ -2,7 +2,7 @@
 ghost use Rattle.std.specs.Prelude.{◌≡◌, ◌<◌};
 ghost use Rattle.ist_core.specs.Rebuilding.{IsFinishedWith};
 ghost use Rattle.ist_rule.specs.Learning.{now};
-ghost use Rattle.ist_steps.specs.Going.{WentOn};
+ghost use Rattle.ist_rule.specs.Going.{WentOn, KeepsSearch};
 ghost use Rattle.ist_mark.specs.Marking.{MayMark, Marks};
 ghost use Rattle.ist_mark.specs.Passing.{MayPass, IsCounted};
 
@@ -26,7 +26,8 @@ fn count_slot<R: Wait>(
     requires may_pass { MayPass seat.old.view node degree }
     requires within { index < degree }
     ensures same_table { seat.new.table ≡ seat.old.table }
-    ensures went { WentOn Marks seat.old.view seat.new.view }
+    ensures went { WentOn (Marks seat.new.view node) seat.old.view seat.new.view }
+    ensures search { KeepsSearch seat.old.view seat.new.view }
     ensures counted { IsCounted seat.new.view node index result }
 {
     match pass_slot(table, rt, seat, node, degree, index) {
@@ -46,7 +47,8 @@ pub fn mark_and_count<R: Wait>(table: &TreeTable, rt: &R, seat: &mut TreeSeat, n
     requires same_table { seat.old.table ≡ table.now.table }
     requires may_mark { MayMark seat.old.view node }
     ensures same_table { seat.new.table ≡ seat.old.table }
-    ensures went { WentOn Marks seat.old.view seat.new.view }
+    ensures went { WentOn (Marks seat.new.view node) seat.old.view seat.new.view }
+    ensures search { KeepsSearch seat.old.view seat.new.view }
     ensures finished { IsFinishedWith (now seat.new.view) node result }
 {
     if let Some(keys) = mark(table, seat, node) {

@@ -2,14 +2,12 @@
 //!
 //! Read `specs/Marking.antt`, then `counting.rt`, `passing.rt` and `statuses.rt`. Stands on
 //! `ist_core`, `ist_layout`, `ist_rule`, `ist_dcss`, and on the laws of `ist_links`,
-//! `ist_rebuilds`, `ist_stability` and `ist_steps`.
+//! `ist_rebuilds`, `ist_stability` and `ist_coming`.
 #![tactic(auto)]
 
 mod below;
 mod counting;
 mod passing;
 mod statuses;
-#[cfg(test)]
-mod tests;
 
 pub use counting::mark_and_count;

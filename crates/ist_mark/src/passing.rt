@@ -2,11 +2,10 @@
 ghost use Rattle.std.specs.Prelude.{◌≡◌, ℕ, ◌<◌, None, Some};
 ghost use Rattle.ist_core.specs.References.{ref_of, ChangeAt};
 ghost use Rattle.ist_core.specs.Marking.{HasTarget, IsFrozen};
-ghost use Rattle.ist_rule.specs.Learning.{now};
-ghost use Rattle.ist_dcss.specs.Helping.{MayHelp};
-ghost use Rattle.ist_steps.specs.Going.{WentOn};
+ghost use Rattle.ist_rule.specs.Learning.{now, GoesOnTo};
+ghost use Rattle.ist_rule.specs.Going.{WentOn, KeepsSearch};
 ghost use Rattle.ist_mark.specs.Marking.{Marks};
-ghost use Rattle.ist_mark.specs.Passing.{IsNoChange, MayPass, IsRebuild, PassedWith};
+ghost use Rattle.ist_mark.specs.Passing.{IsNoChange, MayPass, IsMetAt, IsRebuildRow, PassedWith};
 
 use crate::below::Below;
 use ist_dcss::help;
@@ -31,14 +30,16 @@ fn look(table: &TreeTable, seat: &mut TreeSeat, node: u32, degree: u64, index: u
     requires may_pass { MayPass seat.old.view node degree }
     requires within { index < degree }
     ensures same_table { seat.new.table ≡ seat.old.table }
-    ensures went { WentOn Marks seat.old.view seat.new.view }
+    ensures went { WentOn (Marks seat.new.view node) seat.old.view seat.new.view }
+    ensures search { KeepsSearch seat.old.view seat.new.view }
     ensures change { (change : ℕ) → ref_of result ≡ Some (ChangeAt change)
-        → MayHelp seat.new.view change }
+        → IsMetAt seat.new.view node change }
     ensures frozen { IsNoChange result → IsFrozen seat.new.view.log node index result }
 {
     know(seat);
     let place = slot_place(node, degree, index);
-    // Meets an install in the slot.
+    // Pass, where the node is marked and the word is no change's: else a load. Meets an install in the
+    // slot, and another's finish of the node.
     load_pass(table, seat, node, index, place)
 }
 
@@ -55,7 +56,8 @@ fn pass<R: Wait>(
     requires may_pass { MayPass seat.old.view node degree }
     requires within { index < degree }
     ensures same_table { seat.new.table ≡ seat.old.table }
-    ensures went { WentOn Marks seat.old.view seat.new.view }
+    ensures went { WentOn (Marks seat.new.view node) seat.old.view seat.new.view }
+    ensures search { KeepsSearch seat.old.view seat.new.view }
     ensures frozen { IsFrozen seat.new.view.log node index result }
 {
     know(seat);
@@ -72,9 +74,9 @@ fn pass<R: Wait>(
 // The node that is rebuilt.
 fn target_of(table: &TreeTable, seat: &mut TreeSeat, rebuild: u32) -> u32
     requires same_table { seat.old.table ≡ table.now.table }
-    requires published { IsRebuild (now seat.old.view) rebuild }
+    requires published { IsRebuildRow (now seat.old.view) rebuild }
     ensures same_table { seat.new.table ≡ seat.old.table }
-    ensures went { WentOn Marks seat.old.view seat.new.view }
+    ensures seen { GoesOnTo seat.old.view seat.new.view }
     ensures target { HasTarget (now seat.new.view) rebuild result }
 {
     know(seat);
@@ -94,7 +96,8 @@ pub(crate) fn pass_slot<R: Wait>(
     requires may_pass { MayPass seat.old.view node degree }
     requires within { index < degree }
     ensures same_table { seat.new.table ≡ seat.old.table }
-    ensures went { WentOn Marks seat.old.view seat.new.view }
+    ensures went { WentOn (Marks seat.new.view node) seat.old.view seat.new.view }
+    ensures search { KeepsSearch seat.old.view seat.new.view }
     ensures passed { PassedWith seat.new.view node index result }
 {
     let word = pass(table, rt, seat, node, degree, index);

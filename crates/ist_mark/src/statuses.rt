@@ -3,7 +3,7 @@ ghost use Rattle.std.specs.Prelude.{◌≡◌, ℕ, None, Some};
 ghost use Rattle.ist_core.specs.Statuses.{status_of, Finished};
 ghost use Rattle.ist_core.specs.Rebuilding.{IsFinishedWith};
 ghost use Rattle.ist_rule.specs.Learning.{now, GoesOnTo};
-ghost use Rattle.ist_steps.specs.Going.{WentOn};
+ghost use Rattle.ist_rule.specs.Going.{WentOn, KeepsSearch};
 ghost use Rattle.ist_mark.specs.Marking.{MayMark, Marks};
 ghost use Rattle.ist_mark.specs.Passing.{IsClosed, MayPass, MayFinish};
 
@@ -25,12 +25,13 @@ pub(crate) fn mark(table: &TreeTable, seat: &mut TreeSeat, node: u32) -> Option<
     requires same_table { seat.old.table ≡ table.now.table }
     requires may_mark { MayMark seat.old.view node }
     ensures same_table { seat.new.table ≡ seat.old.table }
-    ensures went { WentOn Marks seat.old.view seat.new.view }
+    ensures went { WentOn (Marks seat.new.view node) seat.old.view seat.new.view }
+    ensures search { KeepsSearch seat.old.view seat.new.view }
     ensures closed { IsClosed (now seat.new.view) node }
     ensures finished { (k : ℕ) → result ≡ Some k → IsFinishedWith (now seat.new.view) node k }
 {
     know(seat);
-    // Meets the Okay of a change in a slot of the node, and another's mark.
+    // Mark. Meets the Okay of a change in a slot of the node, and another's mark.
     let stood = exchange(
         table,
         seat,
@@ -47,7 +48,7 @@ pub(crate) fn degree_of(table: &TreeTable, seat: &mut TreeSeat, node: u32) -> u6
     requires may_mark { MayMark seat.old.view node }
     requires closed { IsClosed (now seat.old.view) node }
     ensures same_table { seat.new.table ≡ seat.old.table }
-    ensures went { WentOn Marks seat.old.view seat.new.view }
+    ensures seen { GoesOnTo seat.old.view seat.new.view }
     ensures degree { MayPass seat.new.view node result }
 {
     know(seat);
@@ -59,12 +60,13 @@ pub(crate) fn finish(table: &TreeTable, seat: &mut TreeSeat, node: u32, keys: u6
     requires same_table { seat.old.table ≡ table.now.table }
     requires may_finish { MayFinish seat.old.view node keys }
     ensures same_table { seat.new.table ≡ seat.old.table }
-    ensures went { WentOn Marks seat.old.view seat.new.view }
+    ensures went { WentOn (Marks seat.new.view node) seat.old.view seat.new.view }
+    ensures search { KeepsSearch seat.old.view seat.new.view }
     ensures finished { IsFinishedWith (now seat.new.view) node keys }
 {
     know(seat);
     let keys = keys as u32;
-    // Meets another's finish, which has the same number.
+    // Finish. Meets another's, which has the same number.
     exchange(
         table,
         seat,

@@ -19,9 +19,9 @@ use Rattle.ist_rule.specs.declared.view.View.{View}
 use Rattle.ist_rule.specs.Learning.{now, Looked}
 use Rattle.ist_dcss.proofs.FieldLemmas.{looked_row}
 use Rattle.ist_dcss.proofs.SlotPlaceLemmas.{has_degree}
-use Rattle.ist_steps.specs.Going.{WentOn}
-use Rattle.ist_steps.proofs.GoingLemmas.{looked_went, went_grow}
-use Rattle.ist_mark.specs.Marking.{Marks}
+use Rattle.ist_rule.specs.Going.{WentOn}
+use Rattle.ist_rule.proofs.WentOnLemmas.{looked_went, went_grow}
+use Rattle.ist_rows.specs.CallerLaws.{KeepsRows}
 use Rattle.ist_schedules.specs.Racing.{HasBoth}
 use Rattle.ist_schedules.proofs.KeptLemmas.{finished_went, leaves_went}
 
@@ -119,10 +119,10 @@ record HasTwo (t : Snapshot) : Type 0 where
   done : IsFinishedWith t 4 2
   degree : done.row.degree ≡ 2
 
-two_went : (v w : View) → WentOn Marks v w → HasTwo (now v) → HasTwo (now w)
+two_went : (v w : View) → WentOn KeepsRows v w → HasTwo (now v) → HasTwo (now w)
 two_went v w g h =
     let f = finished_went v w g h.done in
-    let it = inner_there (now v).pieces (now w).pieces (went_grow Marks v w g) 4 h.done.row
+    let it = inner_there (now v).pieces (now w).pieces (went_grow KeepsRows v w g) 4 h.done.row
     h.done.published in
     record {
       done = f;
@@ -168,17 +168,17 @@ found_both u f degree v l degree_is low w m low_is high x n high_is key y o key_
           ∙ key_is;
     }
   where
-    on_v : WentOn Marks u v
-    on_v = looked_went Marks u 6 degree v l
+    on_v : WentOn KeepsRows u v
+    on_v = looked_went KeepsRows u 6 degree v l
 
-    on_w : WentOn Marks v w
-    on_w = looked_went Marks v 9 low w m
+    on_w : WentOn KeepsRows v w
+    on_w = looked_went KeepsRows v 9 low w m
 
-    on_x : WentOn Marks w x
-    on_x = looked_went Marks w 10 high x n
+    on_x : WentOn KeepsRows w x
+    on_x = looked_went KeepsRows w 10 high x n
 
-    on_y : WentOn Marks x y
-    on_y = looked_went Marks x 13 key y o
+    on_y : WentOn KeepsRows x y
+    on_y = looked_went KeepsRows x 13 key y o
 
     two_v : HasTwo (now v)
     two_v =

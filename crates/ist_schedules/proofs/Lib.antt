@@ -1,5 +1,5 @@
-pub mod TableLemmas
 pub mod KeptLemmas
 pub mod LeafLemmas
 pub mod StartLemmas
 pub mod RaceLemmas
+pub mod LowPairLemmas

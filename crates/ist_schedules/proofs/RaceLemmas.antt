@@ -6,7 +6,7 @@ use Rattle.ist_core.specs.declared.lists.HeldRow.{HeldRow}
 use Rattle.ist_core.specs.declared.states.InnerRow.{InnerRow}
 use Rattle.ist_core.specs.Arithmetic.{degree, square_root, root_up_to, part_len, part_lens}
 use Rattle.ist_core.specs.Shapes.{share_from, share_from_is}
-use Rattle.ist_core.specs.References.{InnerAt, LeafAt}
+use Rattle.ist_core.specs.References.{InnerAt, LeafAt, word_of}
 use Rattle.ist_core.specs.Pieces.{Leaf, Inner, Rebuild, Pieces, with_inners}
 use Rattle.ist_core.specs.Snapshots.{Snapshot, HoldsRow, without}
 use Rattle.ist_core.specs.Leaves.{PlacedLeaf, HasLeaves}
@@ -21,63 +21,42 @@ use Rattle.ist_core.proofs.ReferenceLemmas.{ref_of-word_of}
 use Rattle.ist_core.proofs.RowLemmas.{with_row-same, with_inners-other}
 use Rattle.ist_rebuilds.proofs.FewLeafLemmas.{leaves_stand}
 use Rattle.ist_rule.specs.declared.view.View.{View}
-use Rattle.ist_rule.specs.declared.view.OwnWord.{OwnWord}
-use Rattle.ist_rule.specs.declared.view.Who.TheVariants.{Caller}
-use Rattle.ist_rule.specs.Shown.{IsShown, shown_row}
+use Rattle.ist_rule.specs.declared.view.Who.TheVariants.{Caller as CallerOf}
+use Rattle.ist_core.specs.Shown.{IsShown, shown_row}
 use Rattle.ist_rule.specs.Rule.{IsSound, own_at}
 use Rattle.ist_rule.specs.Learning.{now, Looked, ExchangedOrLost}
 use Rattle.ist_rule.specs.Conditions.{StoredAll, CanExchangeOrLose}
 use Rattle.ist_rule.specs.Watching.{number_of}
-use Rattle.ist_steps.specs.Builds.{IsRootBuilt, WasUnset, nothing_more}
-use Rattle.ist_steps.proofs.GoingLemmas.{looked_went}
-use Rattle.ist_steps.proofs.RootLemmas.{root_comes_or_loses}
-use Rattle.ist_mark.specs.Marking.{MayMark, Marks}
-use Rattle.ist_mark.proofs.ExampleLemmas.{word_at}
-use Rattle.ist_schedules.specs.Racing.{root_rows, root_word, racing, IsFilled, IsUnderway, HasBoth, HasBuilt}
+use Rattle.ist_core.specs.Authors.{no_more}
+use Rattle.ist_coming.specs.Builds.{IsRootBuilt, WasUnset}
+use Rattle.ist_rule.proofs.WentOnLemmas.{looked_went}
+use Rattle.ist_coming.proofs.RootLemmas.{root_comes_or_loses}
+use Rattle.ist_mark.specs.Marking.{MayMark}
+use Rattle.ist_rows.specs.CallerLaws.{KeepsRows}
+use Rattle.ist_rows.specs.declared.callers.Caller.{Caller}
+use Rattle.ist_samples.specs.Samples.{storing_all}
+use Rattle.ist_samples.proofs.StoredLemmas.{stored_at, filled_with}
+use Rattle.ist_schedules.specs.Racing.{root_rows, root_word, racing, HasPrepared, IsUnderway, HasBoth, HasBuilt}
 use Rattle.ist_schedules.proofs.KeptLemmas.{underway_went}
 use Rattle.ist_schedules.proofs.LeafLemmas.{good}
 
 -- ---- the words of the row
 
--- the words that are stored for it
-abbrev pub pair_words : ℕ → List OwnWord → List OwnWord
-pair_words base old =
-    word_at (base + 6) 105 ∷ word_at (base + 5) 89 ∷ word_at (base + 4) 9 ∷ word_at (base + 3) 2
-    ∷ word_at (base + 2) 2 ∷ word_at (base + 1) 0 ∷ word_at (base + 0) 0 ∷ old
-
--- they are those of a root at the base
-abbrev IsStoredAt : ℕ → Type 0
-IsStoredAt base =
-    (old : List OwnWord) (k : ℕ) → k < 7
-    → slice_get (0 ∷ 0 ∷ 2 ∷ 2 ∷ 9 ∷ 89 ∷ 105 ∷ []) k
-    ≡ Some (own_at (pair_words base old) (base + k))
-
-at_first : IsStoredAt 29
-at_first old zero less = refl
-at_first old (suc zero) less = refl
-at_first old (suc (suc zero)) less = refl
-at_first old (suc (suc (suc zero))) less = refl
-at_first old (suc (suc (suc (suc zero)))) less = refl
-at_first old (suc (suc (suc (suc (suc zero))))) less = refl
-at_first old (suc (suc (suc (suc (suc (suc zero)))))) less = refl
-at_first old (suc (suc (suc (suc (suc (suc (suc k))))))) less = absurd (omega arith)
-
-at_second : IsStoredAt 36
-at_second old zero less = refl
-at_second old (suc zero) less = refl
-at_second old (suc (suc zero)) less = refl
-at_second old (suc (suc (suc zero))) less = refl
-at_second old (suc (suc (suc (suc zero)))) less = refl
-at_second old (suc (suc (suc (suc (suc zero))))) less = refl
-at_second old (suc (suc (suc (suc (suc (suc zero)))))) less = refl
-at_second old (suc (suc (suc (suc (suc (suc (suc k))))))) less = absurd (omega arith)
-
-pub pair_stored : (v : View) (base : ℕ) (old : List OwnWord) → (base ≡ 29) ⊎ (base ≡ 36)
-    → v.own ≡ pair_words base old → StoredAll v (root_rows base)
-pair_stored v base old at own =
-    let stored : IsStoredAt base =
-    ⊎_elim (λ e. subst IsStoredAt (sym e) at_first) (λ e. subst IsStoredAt (sym e) at_second) at in
-    (λ k less. stored old k less ∙ ap (λ o. Some (own_at o (base + k))) (sym own), tt)
+-- a caller that has filled its pair row has stored the words of a root over the two leaves
+pub pair_stored : (old who : Caller) (base low high : ℕ) → low ≡ word_of (LeafAt 11)
+    → high ≡ word_of (LeafAt 13)
+    → who ≡ filled_with old base (0 ∷ 0 ∷ 2 ∷ 2 ∷ 9 ∷ low ∷ high ∷ [])
+    → StoredAll who.seat.view (root_rows base)
+pair_stored old who base low high low_is high_is is =
+    let words : List ℕ = 0 ∷ 0 ∷ 2 ∷ 2 ∷ 9 ∷ low ∷ high ∷ [] in
+    let same : words ≡ 0 ∷ 0 ∷ 2 ∷ 2 ∷ 9 ∷ 89 ∷ 105 ∷ [] =
+    ap₂ (λ a b. 0 ∷ 0 ∷ 2 ∷ 2 ∷ 9 ∷ a ∷ b ∷ []) low_is high_is in
+    subst (λ (x : Caller). StoredAll x.seat.view (root_rows base)) (sym is) (
+      λ k less. subst (λ (ws : List ℕ). slice_get ws k
+          ≡ Some (own_at (storing_all old.seat.view base words).own (base + k))) same
+          (stored_at old.seat.view base words k less),
+      tt,
+    )
 
 pub base_high : (base : ℕ) → (base ≡ 29) ⊎ (base ≡ 36) → 28 < base
 base_high base at = ⊎_elim (λ e. omega arith) (λ e. omega arith) at
@@ -145,7 +124,7 @@ two_is_few : 2 < share_from
 two_is_few = let is = share_from_is in omega arith
 
 -- a filled row is a root for the rebuild, whose target is finished over the two leaves
-pub root_built : (v : View) (number base : ℕ) → IsFilled v number base → IsUnderway (now v)
+pub root_built : (v : View) (number base : ℕ) → HasPrepared v number base → IsUnderway (now v)
     → IsFinishedWith (now v) 4 2 → HasBoth (now v)
     → IsRootBuilt (now v) number 15 (root_word base) (root_rows base)
 root_built v number base f u done b =
@@ -174,23 +153,23 @@ root_built v number base f u done b =
 pub unset_seen : (v : View) (word : ℕ) (w : View) (caller : ℕ) → IsUnderway (now v)
     → Looked v 18 word w → word ≡ 7 → WasUnset w caller 18
 unset_seen v word w caller u l is =
-    let target = (underway_went v w (looked_went Marks v 18 word w l) u).target in
+    let target = (underway_went v w (looked_went KeepsRows v 18 word w l) u).target in
     let shown : IsShown (now w) 18 target.row.root =
     shown_row 15 (Rebuild target.row) 3 target.published refl in
     record {
       prefix = w.log;
-      since = nothing_more;
+      since = no_more;
       shown = subst (IsShown (now w) 18) (sym (l.stood target.row.root shown) ∙ is) shown;
     }
 
 -- the row at 4 may be marked
-pub may_mark : (v : View) (number base : ℕ) → IsFilled v number base → IsUnderway (now v)
+pub may_mark : (v : View) (number base : ℕ) → HasPrepared v number base → IsUnderway (now v)
     → MayMark v 4
 may_mark v number base f u =
     record { number = number; mine = f.mine; called = as_target 15 u.target u.started }
 
 -- so it is built
-pub has_built : (v : View) (number base : ℕ) → IsFilled v number base → IsUnderway (now v)
+pub has_built : (v : View) (number base : ℕ) → HasPrepared v number base → IsUnderway (now v)
     → IsFinishedWith (now v) 4 2 → HasBoth (now v) → WasUnset v number 18
     → HasBuilt v number base
 has_built v number base f u done b was =
@@ -204,7 +183,7 @@ has_built v number base f u done b was =
 -- ---- the race
 
 -- the events are the caller's
-race_named : (v : View) (number base : ℕ) → v.who ≡ Caller number
+race_named : (v : View) (number base : ℕ) → v.who ≡ CallerOf number
     → racing v (root_word base)
     ≡ (Root number 15 (root_word base) (root_rows base), Lose number (base ∷ []))
 race_named v number base mine =

@@ -1,5 +1,5 @@
 -- A started rebuild, by loads of the words of its change. Serves the tests.
-use Rattle.std.proofs.Common.{◌≡◌, ◌≢◌, ℕ, Some, true, refl, sym, ap, ◌∙◌, subst, arith}
+use Rattle.std.proofs.Common.{◌≡◌, ◌≢◌, ◌<◌, ℕ, Some, true, refl, sym, ap, ◌∙◌, subst, arith}
 use Rattle.ist_core.specs.declared.states.ChangeRow.{ChangeRow}
 use Rattle.ist_core.specs.References.{RebuildAt, ref_of}
 use Rattle.ist_core.specs.Pieces.{Change, Rebuild}
@@ -9,13 +9,18 @@ use Rattle.ist_core.proofs.NamingLemmas.{SideNames, IsRebuildFor}
 use Rattle.ist_core.proofs.OrderLemmas.{names}
 use Rattle.ist_core.proofs.ReferenceLemmas.{ref_of-word_of}
 use Rattle.ist_rule.specs.declared.view.View.{View}
+use Rattle.ist_rule.specs.Rule.{IsSound}
 use Rattle.ist_rule.specs.Learning.{now, Looked}
-use Rattle.ist_dcss.specs.Helping.{IsDecided}
-use Rattle.ist_dcss.proofs.FieldLemmas.{looked_row}
-use Rattle.ist_steps.proofs.GoingLemmas.{looked_went, went_grow}
-use Rattle.ist_mark.specs.Marking.{Marks}
+use Rattle.ist_dcss.specs.Helping.{MayHelp, IsDecided}
+use Rattle.ist_dcss.proofs.FieldLemmas.{looked_row, row_low}
+use Rattle.ist_rule.proofs.WentOnLemmas.{looked_went, went_grow}
+use Rattle.ist_rows.specs.CallerLaws.{KeepsRows}
 use Rattle.ist_schedules.specs.Racing.{IsUnderway}
-use Rattle.ist_schedules.proofs.LeafLemmas.{good}
+use Rattle.ist_samples.proofs.StartLemmas.{good}
+
+-- its places lie in the table
+pub change_low : (v : View) → IsSound v → MayHelp v 20 → 28 < v.words
+change_low v s m = (row_low v s 20 (Change m.row) m.installed 8 (omega arith)).0
 
 -- the change behind one load more
 row_on : (v : View) (place word : ℕ) (w : View) → Looked v place word w → (row : ChangeRow)
@@ -23,7 +28,7 @@ row_on : (v : View) (place word : ℕ) (w : View) → Looked v place word w → 
     → (r : ChangeRow) × ((now w).pieces 20 ≡ Some (Change r)) × ChangeGrows row r
 row_on v place word w l row e =
     change_there (now v).pieces (now w).pieces
-    (went_grow Marks v w (looked_went Marks v place word w l)) 20 row e
+    (went_grow KeepsRows v w (looked_went KeepsRows v place word w l)) 20 row e
 
 -- where it was decided yes, loads of its words say that the rebuild of the row at 4 is started
 pub start_seen : (v : View) → IsDecided v 20 true

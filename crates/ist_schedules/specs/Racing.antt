@@ -15,7 +15,7 @@ use Rattle.ist_rule.specs.declared.view.Who.TheVariants.{Caller}
 use Rattle.ist_rule.specs.Learning.{now}
 use Rattle.ist_rule.specs.Conditions.{StoredAll}
 use Rattle.ist_rule.specs.Watching.{number_of}
-use Rattle.ist_steps.specs.Builds.{IsRootBuilt, WasUnset}
+use Rattle.ist_coming.specs.Builds.{IsRootBuilt, WasUnset}
 
 -- the rows of a root over the two leaves: one row at the base
 abbrev pub root_rows : ℕ → List Row
@@ -33,7 +33,7 @@ racing v word =
 
 -- the seat is that of the caller with this number, which holds the row at the base and has filled
 -- it as a root
-pub record IsFilled (v : View) (number base : ℕ) : Type 0 where
+pub record HasPrepared (v : View) (number base : ℕ) : Type 0 where
   pub mine : v.who ≡ Caller number
   pub above : 28 < base
   pub low : base < 43

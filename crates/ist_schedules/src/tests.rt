@@ -1,123 +1,25 @@
-//! A rebuild gets one root of two that were built: who comes second loses its row.
+//! A rebuild gets one root of two that were built: who comes second loses its row. A pair row that
+//! lies below a published one is given up, and the next one is fresh.
 ghost use Rattle.std.specs.Prelude.{◌≡◌, ◌+◌, ◌<◌, ◌⊎◌, [], ◌∷◌, None, Some, true, IfOk};
 ghost use Rattle.ist_core.specs.declared.events.Event.TheVariants.{Lose, Root};
-ghost use Rattle.ist_core.specs.ExampleTables.{two_pairs};
 ghost use Rattle.ist_core.specs.Rebuilding.{IsFinishedWith};
 ghost use Rattle.ist_core.specs.Snapshots.{HoldsRow};
-ghost use Rattle.ist_rule.specs.Rule.{opened_view};
-ghost use Rattle.ist_rule.specs.Learning.{now, storing, ExchangedOrLost};
+ghost use Rattle.ist_rule.specs.Learning.{now, ExchangedOrLost};
 ghost use Rattle.ist_rows.specs.Rows.{IsCaller};
-ghost use Rattle.ist_dcss.specs.declared.decisions.Installed.TheVariants.{Yes};
 ghost use Rattle.ist_dcss.specs.Helping.{MayHelp};
-ghost use Rattle.ist_steps.specs.Builds.{WasUnset};
-ghost use Rattle.ist_steps.specs.Going.{WentOn};
-ghost use Rattle.ist_mark.specs.Marking.{Marks};
-ghost use Rattle.ist_schedules.specs.Racing.{root_rows, root_word, HasBoth, HasBuilt, IsFilled, IsUnderway};
+ghost use Rattle.ist_coming.specs.Builds.{WasUnset};
+ghost use Rattle.ist_rule.specs.Going.{WentOn};
+ghost use Rattle.ist_rows.specs.CallerLaws.{KeepsRows};
+ghost use Rattle.ist_schedules.specs.Racing.{root_rows, root_word, HasBoth, HasBuilt, HasPrepared, IsUnderway};
 
-use ist_core::Pair;
-use ist_dcss::{Decision, Installed, help, install};
-use ist_layout::ANCHOR_SLOT_PLACE;
+use ist_dcss::{Decision, Installed, help};
+use ist_layout::{ANCHOR_SLOT_PLACE, Ref};
 use ist_mark::mark_and_count;
-use ist_rows::{Caller, Kind, enter, fill, reserve};
-use ist_rule::{
-    TreeSeat, TreeTable, begin_call, exchange_or_lose, know, load, open_table, word_count,
-};
-use std::alloc::{AllocError, Global};
+use ist_rows::{Caller, Kind, drop_pair, enter, reserve};
+use ist_rule::{TreeSeat, TreeTable, exchange_or_lose, know, load, word_count};
+use ist_samples::{fill_row, install_start, table_of_two};
 use std::sync::Wait;
 use std::test::Fail;
-
-// A table of 44 words with the pairs (5, 7) and (9, 1), and the maker's seat.
-fn table_of_two(alloc: Global) -> Result<(TreeTable, TreeSeat), AllocError>
-    ensures same_table { IfOk result (λ t. t.1.table ≡ t.0.table) }
-    ensures seat { IfOk result (λ t. t.1.view ≡ opened_view two_pairs 44) }
-{
-    let pairs = vec![in alloc; Pair { key: 5, value: 7 }, Pair { key: 9, value: 1 }]?;
-    let image = vec![in alloc;
-        15, 0, 0, 34, 0, 0, 2, 2, 9, 89, 105, 5, 7, 9, 1, 0, 0, 0, 0, 0, 0, 0, 0, 0, 0, 0, 0, 0, 0,
-        0, 0, 0, 0, 0, 0, 0, 0, 0, 0, 0, 0, 0, 0, 0,
-    ]?;
-    open_table(alloc, image, &pairs)
-}
-
-// A word of the rebuild at 15.
-fn rebuild_word(table: &TreeTable, who: &mut Caller, at: u64, word: u64)
-    requires same_table { who.old.seat.table ≡ table.now.table }
-    requires caller { IsCaller who.old }
-    requires rebuild { who.old.rebuild ≡ Some 15 }
-    requires within { at < 5 }
-    ensures same_table { who.new.seat.table ≡ table.now.table }
-    ensures caller { IsCaller who.new }
-    ensures rows { (who.new.rebuild ≡ who.old.rebuild) × (who.new.change ≡ who.old.change) }
-    ensures number { who.new.number ≡ who.old.number }
-    ensures in_none { who.new.seat.view.pending ≡ who.old.seat.view.pending }
-    ensures stored { who.new.seat.view ≡ storing who.old.seat.view (15 + at) word }
-{
-    fill(table, who, 15, at, word);
-}
-
-// A word of the change at 20.
-fn change_word(table: &TreeTable, who: &mut Caller, at: u64, word: u64)
-    requires same_table { who.old.seat.table ≡ table.now.table }
-    requires caller { IsCaller who.old }
-    requires change { who.old.change ≡ Some 20 }
-    requires within { at < 9 }
-    ensures same_table { who.new.seat.table ≡ table.now.table }
-    ensures caller { IsCaller who.new }
-    ensures rows { (who.new.rebuild ≡ who.old.rebuild) × (who.new.change ≡ who.old.change) }
-    ensures number { who.new.number ≡ who.old.number }
-    ensures in_none { who.new.seat.view.pending ≡ who.old.seat.view.pending }
-    ensures stored { who.new.seat.view ≡ storing who.old.seat.view (20 + at) word }
-{
-    fill(table, who, 20, at, word);
-}
-
-// Fills a start of a rebuild of the row at 4 into the rows at 15 and 20, and installs it in the
-// anchor's slot, if the row stands there.
-fn install_start(table: &TreeTable, who: &mut Caller) -> Installed
-    requires same_table { who.old.seat.table ≡ table.now.table }
-    requires caller { IsCaller who.old }
-    requires rows { (who.old.rebuild ≡ Some 15) × (who.old.change ≡ Some 20) }
-    requires number { who.old.number ≡ 0 }
-    requires in_none { who.old.seat.view.pending ≡ None }
-    ensures same_table { who.new.seat.table ≡ table.now.table }
-    ensures may_help { result ≡ Yes → MayHelp who.new.seat.view 20 }
-{
-    rebuild_word(table, who, 0, 4);
-    rebuild_word(table, who, 1, 2);
-    rebuild_word(table, who, 2, 0);
-    rebuild_word(table, who, 3, 7);
-    rebuild_word(table, who, 4, 0);
-    change_word(table, who, 0, 0);
-    change_word(table, who, 1, 3);
-    change_word(table, who, 2, 2);
-    change_word(table, who, 3, 0);
-    change_word(table, who, 4, 34);
-    change_word(table, who, 5, 124);
-    change_word(table, who, 6, 0);
-    change_word(table, who, 7, 0);
-    change_word(table, who, 8, 0);
-    know(&who.seat);
-    let met = load(table, &mut who.seat, ANCHOR_SLOT_PLACE);
-    if met != 34 {
-        return Installed::Other(met);
-    }
-    begin_call(table, &mut who.seat, None);
-    install(table, &mut who.seat, 20)
-}
-
-// A word of the caller's pair row.
-fn pair_word(table: &TreeTable, who: &mut Caller, base: u32, at: u64, word: u64)
-    requires same_table { who.old.seat.table ≡ table.now.table }
-    requires caller { IsCaller who.old }
-    requires pair { who.old.pair ≡ Some base }
-    requires within { at < 7 }
-    ensures same_table { who.new.seat.table ≡ table.now.table }
-    ensures caller { IsCaller who.new }
-    ensures pair { who.new.pair ≡ Some base }
-    ensures stored { who.new.seat.view ≡ storing who.old.seat.view (base + at) word }
-{
-    fill(table, who, base, at, word);
-}
 
 // Reserves a pair row, and fills it as a root over the leaves at 11 and 13, if it lies at `base`.
 fn prepare<R: Wait>(table: &TreeTable, rt: &R, who: &mut Caller, base: u32) -> bool
@@ -125,7 +27,7 @@ fn prepare<R: Wait>(table: &TreeTable, rt: &R, who: &mut Caller, base: u32) -> b
     requires caller { IsCaller who.old }
     requires base { (base ≡ 29) ⊎ (base ≡ 36) }
     ensures same_table { who.new.seat.table ≡ table.now.table }
-    ensures filled { result ≡ true → IsFilled who.new.seat.view who.new.number base }
+    ensures filled { result ≡ true → HasPrepared who.new.seat.view who.new.number base }
 {
     if reserve(table, rt, who, Kind::Pair).is_err() {
         return false;
@@ -133,38 +35,34 @@ fn prepare<R: Wait>(table: &TreeTable, rt: &R, who: &mut Caller, base: u32) -> b
     if who.pair != Some(base) {
         return false;
     }
-    pair_word(table, who, base, 0, 0);
-    pair_word(table, who, base, 1, 0);
-    pair_word(table, who, base, 2, 2);
-    pair_word(table, who, base, 3, 2);
-    pair_word(table, who, base, 4, 9);
-    pair_word(table, who, base, 5, 89);
-    pair_word(table, who, base, 6, 105);
+    let low = Ref::Leaf { base: 11 }.to_word();
+    let high = Ref::Leaf { base: 13 }.to_word();
+    fill_row(table, who, Kind::Pair, base, &[0, 0, 2, 2, 9, low, high]);
     true
 }
 
 // Whether the anchor's slot holds the change at 20.
 fn meet(table: &TreeTable, seat: &mut TreeSeat, number: u32, base: u32) -> bool
     requires same_table { seat.old.table ≡ table.now.table }
-    requires filled { IsFilled seat.old.view number base }
+    requires filled { HasPrepared seat.old.view number base }
     ensures same_table { seat.new.table ≡ table.now.table }
-    ensures filled { IsFilled seat.new.view number base }
+    ensures filled { HasPrepared seat.new.view number base }
     ensures may_help { result ≡ true → MayHelp seat.new.view 20 }
 {
     know(seat);
     let met = load(table, seat, ANCHOR_SLOT_PLACE);
-    if met != 163 {
+    if met != (Ref::Change { base: 20 }).to_word() {
         return false;
     }
     true
 }
 
 // Helps the change at 20, and says whether it has started a rebuild of the row at 4.
-fn follow(table: &TreeTable, seat: &mut TreeSeat) -> bool
+pub(crate) fn follow(table: &TreeTable, seat: &mut TreeSeat) -> bool
     requires same_table { seat.old.table ≡ table.now.table }
     requires may_help { MayHelp seat.old.view 20 }
     ensures same_table { seat.new.table ≡ table.now.table }
-    ensures went { WentOn Marks seat.old.view seat.new.view }
+    ensures went { WentOn KeepsRows seat.old.view seat.new.view }
     ensures underway { result ≡ true → IsUnderway (now seat.new.view) }
 {
     know(seat);
@@ -192,7 +90,7 @@ fn find_both(table: &TreeTable, seat: &mut TreeSeat) -> bool
     requires same_table { seat.old.table ≡ table.now.table }
     requires finished { IsFinishedWith (now seat.old.view) 4 2 }
     ensures same_table { seat.new.table ≡ table.now.table }
-    ensures went { WentOn Marks seat.old.view seat.new.view }
+    ensures went { WentOn KeepsRows seat.old.view seat.new.view }
     ensures both { result ≡ true → HasBoth (now seat.new.view) }
 {
     know(seat);
@@ -223,7 +121,7 @@ fn find_no_root(table: &TreeTable, seat: &mut TreeSeat, number: u32) -> bool
     requires same_table { seat.old.table ≡ table.now.table }
     requires underway { IsUnderway (now seat.old.view) }
     ensures same_table { seat.new.table ≡ table.now.table }
-    ensures went { WentOn Marks seat.old.view seat.new.view }
+    ensures went { WentOn KeepsRows seat.old.view seat.new.view }
     ensures unset { result ≡ true → WasUnset seat.new.view number 18 }
 {
     know(seat);
@@ -241,7 +139,7 @@ fn find_no_root(table: &TreeTable, seat: &mut TreeSeat, number: u32) -> bool
 fn build<R: Wait>(table: &TreeTable, rt: &R, seat: &mut TreeSeat, number: u32, base: u32) -> bool
     requires same_table { seat.old.table ≡ table.now.table }
     requires may_help { MayHelp seat.old.view 20 }
-    requires filled { IsFilled seat.old.view number base }
+    requires filled { HasPrepared seat.old.view number base }
     ensures same_table { seat.new.table ≡ table.now.table }
     ensures built { result ≡ true → HasBuilt seat.new.view number base }
 {
@@ -271,6 +169,7 @@ fn root_or_lose(table: &TreeTable, seat: &mut TreeSeat, number: u32, base: u32) 
     ensures holds_none { ¬ (HoldsRow (now seat.new.view) number base 7) }
 {
     know(seat);
+    // Root, or Lose where another's root came first. Meets the other caller's.
     exchange_or_lose(table, seat, 18, 7, u64::from(base) * 8 + 2)
 }
 
@@ -296,10 +195,64 @@ fn who_comes_second_with_a_root_loses_its_row(rt: HostRuntime) -> Result<(), Fai
     assert_eq!(rt; root_or_lose(&table, &mut first.seat, first.number, 29), 7);
     assert_eq!(rt;
         root_or_lose(&table, &mut second.seat, second.number, 36),
-        234
+        Ref::Inner { base: 29 }.to_word()
     );
-    assert_eq!(rt; load(&table, &mut maker, 18), 234);
+    assert_eq!(rt;
+        load(&table, &mut maker, 18),
+        Ref::Inner { base: 29 }.to_word()
+    );
     assert_eq!(rt; load(&table, &mut maker, 4), 11);
-    assert_eq!(rt; load(&table, &mut maker, ANCHOR_SLOT_PLACE), 124);
+    assert_eq!(rt;
+        load(&table, &mut maker, ANCHOR_SLOT_PLACE),
+        Ref::Rebuild { base: 15 }.to_word()
+    );
+    Ok(())
+}
+
+// Gives up the pair row at 29, if the anchor's slot holds the rebuild at 15 and its root is the row
+// at 36.
+fn give_up_low(table: &TreeTable, who: &mut Caller) -> bool
+    requires same_table { who.old.seat.table ≡ table.now.table }
+    requires caller { IsCaller who.old }
+    requires pair { who.old.pair ≡ Some 29 }
+    ensures same_table { who.new.seat.table ≡ table.now.table }
+    ensures caller { IsCaller who.new }
+{
+    know(&who.seat);
+    if word_count(table) < 44 {
+        return false;
+    }
+    let slot = load(table, &mut who.seat, ANCHOR_SLOT_PLACE);
+    if slot != (Ref::Rebuild { base: 15 }).to_word() {
+        return false;
+    }
+    let root = load(table, &mut who.seat, 18);
+    if root != (Ref::Inner { base: 36 }).to_word() {
+        return false;
+    }
+    drop_pair(table, who, 36);
+    true
+}
+
+#[test]
+fn who_gives_up_a_low_pair_row_reserves_a_fresh_one(rt: HostRuntime) -> Result<(), Fail> {
+    let (table, mut maker) = table_of_two(rt.alloc())?;
+    let mut starter = enter(&table, &mut maker);
+    let mut low = enter(&table, &mut maker);
+    let mut high = enter(&table, &mut maker);
+    assert_eq!(rt; reserve(&table, &rt, &mut starter, Kind::Rebuild), Ok(15));
+    assert_eq!(rt; reserve(&table, &rt, &mut starter, Kind::Change), Ok(20));
+    assert!(rt; starter.number == 0);
+    assert!(rt; starter.rebuild == Some(15));
+    assert!(rt; starter.change == Some(20));
+    assert_eq!(rt; reserve(&table, &rt, &mut low, Kind::Pair), Ok(29));
+    assert!(rt; low.pair == Some(29));
+    assert!(rt; prepare(&table, &rt, &mut high, 36));
+    assert_eq!(rt; install_start(&table, &mut starter), Installed::Yes);
+    assert!(rt; meet(&table, &mut high.seat, high.number, 36));
+    assert!(rt; build(&table, &rt, &mut high.seat, high.number, 36));
+    assert_eq!(rt; root_or_lose(&table, &mut high.seat, high.number, 36), 7);
+    assert!(rt; give_up_low(&table, &mut low));
+    assert_eq!(rt; reserve(&table, &rt, &mut low, Kind::Pair), Ok(43));
     Ok(())
 }

@@ -5,7 +5,9 @@ use Rattle.ist_core.specs.Pieces.{Change}
 use Rattle.ist_rule.specs.Conditions.{CanExchange}
 use Rattle.ist_rule.specs.Learning.{Exchanged}
 use Rattle.ist_dcss.specs.Naming.{standing}
-use Rattle.ist_dcss.proofs.GoingLemmas.{helped_more}
+use Rattle.ist_rule.proofs.WentOnLemmas.{went_more}
+use Rattle.ist_rule.proofs.KeptSearchLemmas.{keeps_more, exchanged_keeps, loaded_as_keeps}
+use Rattle.ist_dcss.specs.Helping.{Serves}
 use Rattle.ist_dcss.proofs.FieldLemmas.{row_low}
 use Rattle.ist_dcss.proofs.DecidedLemmas.{decide_tells, decided_as}
 use Rattle.ist_dcss.proofs.DecideLemmas.{may_decide, can_decide, deciding_is}
@@ -15,7 +17,7 @@ use Rattle.ist_dcss.proofs.helping.decide.Goals as goal
 pub exchange-stood-requires : goal.exchange-stood-requires
 exchange-stood-requires c =
     let v = c.load_okay-status.new.seat.view in
-    let it = may_decide _ c.args.change c.requires.may_help _ c.field-node.ensures.helped _
+    let it = may_decide _ c.args.change c.requires.may_help _ c.field-node.ensures.went _
     c.field-node.ensures.field _ c.status_place.ensures.value _ v
     c.load_okay-status.ensures.seen in
     let place = c.from.ensures in
@@ -41,10 +43,10 @@ exchange-stood-requires c =
     )
 
 -- the seat made steps for the change alone
-pub returns-clause-helped : goal.returns-clause-helped
-returns-clause-helped c =
+pub returns-clause-went : goal.returns-clause-went
+returns-clause-went c =
     let v = c.load_okay-status.new.seat.view in
-    let it = may_decide _ c.args.change c.requires.may_help _ c.field-node.ensures.helped _
+    let it = may_decide _ c.args.change c.requires.may_help _ c.field-node.ensures.went _
     c.field-node.ensures.field _ c.status_place.ensures.value _ v
     c.load_okay-status.ensures.seen in
     let place = c.from.ensures in
@@ -56,13 +58,20 @@ returns-clause-helped c =
     c.exchange-stood.result c.exchange-stood.new.seat.view)
     (deciding_is v c.requires.may_help.number c.args.change (c.from.result + 0) _ _ it.mine
     base c.decision_for-wanted.ensures.value) c.exchange-stood.ensures.exchanged) in
-    helped_more c.args.change _ v _ it.helped tells.0
+    went_more (Serves c.args.change) _ v _ it.went tells.0
+
+-- it stored nothing and began no search
+pub returns-clause-search : goal.returns-clause-search
+returns-clause-search c =
+    keeps_more _ _ _ c.field-node.ensures.search
+    (keeps_more _ _ _ (loaded_as_keeps _ _ _ _ _ c.load_okay-status.ensures.seen)
+    (exchanged_keeps _ _ _ _ _ _ c.exchange-stood.ensures.exchanged))
 
 -- and the change is decided as the answer says
 pub returns-clause-decided : goal.returns-clause-decided
 returns-clause-decided c =
     let v = c.load_okay-status.new.seat.view in
-    let it = may_decide _ c.args.change c.requires.may_help _ c.field-node.ensures.helped _
+    let it = may_decide _ c.args.change c.requires.may_help _ c.field-node.ensures.went _
     c.field-node.ensures.field _ c.status_place.ensures.value _ v
     c.load_okay-status.ensures.seen in
     let place = c.from.ensures in

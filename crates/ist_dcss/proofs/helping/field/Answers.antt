@@ -1,6 +1,8 @@
 use Rattle.std.proofs.Common.{◌+◌, ap, arith}
 use Rattle.ist_core.specs.Pieces.{Change}
-use Rattle.ist_dcss.proofs.GoingLemmas.{looked_helped}
+use Rattle.ist_rule.proofs.WentOnLemmas.{looked_went}
+use Rattle.ist_rule.proofs.KeptSearchLemmas.{looked_keeps}
+use Rattle.ist_dcss.specs.Helping.{Serves}
 use Rattle.ist_dcss.proofs.FieldLemmas.{row_low, looked_field}
 use Rattle.ist_dcss.proofs.helping.field.Goals as goal
 
@@ -15,8 +17,11 @@ load-requires-clause-within c =
     let same = ap (λ t. t.words) c.requires.same_table in
     omega arith
 
-pub returns-clause-helped : goal.returns-clause-helped
-returns-clause-helped c = looked_helped c.args.change _ _ _ _ c.load.ensures.looked
+pub returns-clause-went : goal.returns-clause-went
+returns-clause-went c = looked_went (Serves c.args.change) _ _ _ _ c.load.ensures.looked
+
+pub returns-clause-search : goal.returns-clause-search
+returns-clause-search c = looked_keeps _ _ _ _ c.load.ensures.looked
 
 pub returns-clause-field : goal.returns-clause-field
 returns-clause-field c =

@@ -4,9 +4,10 @@ use Rattle.ist_core.specs.Pieces.{Change}
 use Rattle.ist_rule.specs.Conditions.{CanExchange}
 use Rattle.ist_rule.specs.Learning.{Exchanged}
 use Rattle.ist_rule.proofs.KnownPlaceLemmas.{known_low}
-use Rattle.ist_dcss.specs.Helping.{is_yes}
+use Rattle.ist_dcss.specs.Helping.{Serves, is_yes}
 use Rattle.ist_dcss.specs.Naming.{IsField}
-use Rattle.ist_dcss.proofs.GoingLemmas.{helped_more}
+use Rattle.ist_rule.proofs.WentOnLemmas.{went_more}
+use Rattle.ist_rule.proofs.KeptSearchLemmas.{keeps_more, exchanged_keeps}
 use Rattle.ist_dcss.proofs.FieldLemmas.{good_base}
 use Rattle.ist_dcss.proofs.ResolveLemmas.{may_resolve, can_resolve, resolving_is, resolve_tells}
 use Rattle.ist_dcss.proofs.helping.resolve.Goals as goal
@@ -25,8 +26,8 @@ pub exchange-requires : goal.exchange-requires
 exchange-requires c =
     let v = c.field-side.new.seat.view in
     let it = may_resolve _ c.args.change c.requires.may_help (is_yes c.args.decision)
-    c.requires.decided _ c.slot_of-place.ensures.helped _ c.slot_of-place.ensures.slot v
-    c.field-side.ensures.helped c.slot_of-place.ensures.helped.sound _
+    c.requires.decided _ c.slot_of-place.ensures.went _ c.slot_of-place.ensures.slot v
+    c.field-side.ensures.went c.slot_of-place.ensures.went.sound _
     (subst (λ n. IsField v c.args.change n c.field-side.result) c.side_offset.ensures.value
     c.field-side.ensures.field) in
     let can = can_resolve v c.know.ensures.sound c.args.change c.requires.may_help.number it.mine
@@ -47,15 +48,15 @@ exchange-requires c =
     )
 
 -- the seat made steps for the change alone
-pub returns-clause-helped : goal.returns-clause-helped
-returns-clause-helped c =
+pub returns-clause-went : goal.returns-clause-went
+returns-clause-went c =
     let v = c.field-side.new.seat.view in
     let it = may_resolve _ c.args.change c.requires.may_help (is_yes c.args.decision)
-    c.requires.decided _ c.slot_of-place.ensures.helped _ c.slot_of-place.ensures.slot v
-    c.field-side.ensures.helped c.slot_of-place.ensures.helped.sound _
+    c.requires.decided _ c.slot_of-place.ensures.went _ c.slot_of-place.ensures.slot v
+    c.field-side.ensures.went c.slot_of-place.ensures.went.sound _
     (subst (λ n. IsField v c.args.change n c.field-side.result) c.side_offset.ensures.value
     c.field-side.ensures.field) in
-    helped_more c.args.change _ v _ it.helped
+    went_more (Serves c.args.change) _ v _ it.went
     (resolve_tells v c.know.ensures.sound c.args.change c.requires.may_help.number _ _ _ _
     it.row
     it.published it.at c.to_word-word.ensures.value
@@ -64,13 +65,20 @@ returns-clause-helped c =
     (resolving_is v c.requires.may_help.number c.args.change c.to_word-word.result it.mine
     c.to_word-word.ensures.value) c.exchange.ensures.exchanged)).0
 
+-- it stored nothing and began no search
+pub returns-clause-search : goal.returns-clause-search
+returns-clause-search c =
+    keeps_more _ _ _ c.slot_of-place.ensures.search
+    (keeps_more _ _ _ c.field-side.ensures.search
+    (exchanged_keeps _ _ _ _ _ _ c.exchange.ensures.exchanged))
+
 -- and the change is out of its slot
 pub returns-clause-out : goal.returns-clause-out
 returns-clause-out c =
     let v = c.field-side.new.seat.view in
     let it = may_resolve _ c.args.change c.requires.may_help (is_yes c.args.decision)
-    c.requires.decided _ c.slot_of-place.ensures.helped _ c.slot_of-place.ensures.slot v
-    c.field-side.ensures.helped c.slot_of-place.ensures.helped.sound _
+    c.requires.decided _ c.slot_of-place.ensures.went _ c.slot_of-place.ensures.slot v
+    c.field-side.ensures.went c.slot_of-place.ensures.went.sound _
     (subst (λ n. IsField v c.args.change n c.field-side.result) c.side_offset.ensures.value
     c.field-side.ensures.field) in
     (resolve_tells v c.know.ensures.sound c.args.change c.requires.may_help.number _ _ _ _ it.row

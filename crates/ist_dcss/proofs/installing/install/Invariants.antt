@@ -1,12 +1,11 @@
 use Rattle.std.specs.Prelude.{◌/◌}
 use Rattle.ist_core.specs.References.{tag_count}
-use Rattle.ist_core.specs.Pieces.{Change, words_of}
 use Rattle.ist_dcss.specs.Naming.{installing}
 use Rattle.ist_dcss.proofs.installing.install.Given as goal
 
--- the words are those of the change's row
-abbrev pub ghost-own_word : goal.ghost-own_word
-ghost-own_word g a = words_of (Change g.filling.change)
+-- it aims with the same filling
+abbrev pub ghost-aim_of : goal.ghost-aim_of
+ghost-aim_of g a = g.filling
 
 -- the event is the Install of the change whose word is written
 abbrev pub ghost-exchange : goal.ghost-exchange

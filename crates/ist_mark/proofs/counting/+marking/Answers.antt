@@ -2,12 +2,13 @@ use borrow.Author.Gap.{counting}
 use borrow.Author.Rules.{rules}
 use Rattle.std.proofs.Common.{◌≡◌, ◌+◌, ◌^◌, ◌<◌, refl, ◌∙◌, subst, arith}
 use Rattle.ist_rule.specs.Learning.{now}
-use Rattle.ist_steps.proofs.GoingLemmas.{went_more}
+use Rattle.ist_rule.proofs.WentOnLemmas.{went_same, goes_on_went}
+use Rattle.ist_rule.proofs.KeptSearchLemmas.{keeps_same, keeps_more, goes_on_keeps}
 use Rattle.ist_mark.specs.Marking.{Marks}
 use Rattle.ist_mark.specs.Passing.{AreCounted, no_slot_yet}
-use Rattle.ist_mark.proofs.CountingLemmas.{below_called, row_counted, slot_counted, sum_low, all_counted}
+use Rattle.ist_mark.proofs.CountingLemmas.{below_called, below_under, row_counted, slot_counted, sum_low, all_counted}
 use Rattle.ist_mark.proofs.KeepingLemmas.{may_mark_went, may_pass_went}
-use Rattle.ist_mark.proofs.HelpLemmas.{went_same}
+use Rattle.ist_mark.proofs.SubtreeLemmas.{marked_more, marked_lower}
 use Rattle.ist_mark.proofs.counting.+marking.Goals as goal
 
 -- ---- a slot
@@ -27,7 +28,13 @@ count_slot-mark_and_count-requires g t c κs within =
 -- once it is finished the slot is counted
 pub count_slot-returns-in-Node-clause-went : goal.count_slot-returns-in-Node-clause-went
 count_slot-returns-in-Node-clause-went g t c =
-    went_more Marks _ _ _ c.pass_slot.ensures.went c.mark_and_count.ensures.went
+    marked_lower c.args.node c.in-Node.child _ _ _ c.pass_slot.ensures.went
+    (below_under _ c.args.node c.args.index c.in-Node.child c.in-Node.ensures.passed)
+    c.mark_and_count.ensures.went
+
+pub count_slot-returns-in-Node-clause-search : goal.count_slot-returns-in-Node-clause-search
+count_slot-returns-in-Node-clause-search g t c =
+    keeps_more _ _ _ c.pass_slot.ensures.search c.mark_and_count.ensures.search
 
 pub count_slot-returns-in-Node-clause-counted : goal.count_slot-returns-in-Node-clause-counted
 count_slot-returns-in-Node-clause-counted g t c =
@@ -39,11 +46,16 @@ count_slot-returns-in-Node-clause-counted g t c =
 pub mark_and_count-degree_of-degree-requires-clause-may_mark :
     goal.mark_and_count-degree_of-degree-requires-clause-may_mark
 mark_and_count-degree_of-degree-requires-clause-may_mark g t c =
-    may_mark_went Marks _ _ c.mark.ensures.went c.args.node c.requires.may_mark
+    may_mark_went (Marks _ c.args.node) _ _ c.mark.ensures.went c.args.node c.requires.may_mark
 
 -- before the first slot none is counted
 pub mark_and_count-loop-index-init : goal.mark_and_count-loop-index-init
-mark_and_count-loop-index-init g t c = (refl, went_same _ c.know.ensures.sound, no_slot_yet)
+mark_and_count-loop-index-init g t c = (
+  refl,
+  went_same (Marks _ c.args.node) _ c.know.ensures.sound,
+  keeps_same _,
+  no_slot_yet,
+)
 
 -- the next slot may be passed
 pub mark_and_count-count_slot-keys-requires : goal.mark_and_count-count_slot-keys-requires
@@ -56,7 +68,7 @@ mark_and_count-count_slot-keys-requires g t c κs within =
           c.loop-index.invariant.0 ∙ c.degree_of-degree.ensures.same_table
               ∙ c.mark.ensures.same_table ∙ c.requires.same_table,
           (
-            may_pass_went Marks _ _ c.loop-index.invariant.1 c.args.node _
+            may_pass_went (Marks _ c.args.node) _ _ c.loop-index.invariant.1 c.args.node _
                 c.degree_of-degree.ensures.degree,
             c.loop-index-test.true,
           ),
@@ -68,19 +80,20 @@ mark_and_count-count_slot-keys-requires g t c κs within =
 pub mark_and_count-loop-index-preserved : goal.mark_and_count-loop-index-preserved
 mark_and_count-loop-index-preserved g t c = (
   c.count_slot-keys.ensures.same_table ∙ c.loop-index.invariant.0,
-  went_more Marks _ _ _ c.loop-index.invariant.1 c.count_slot-keys.ensures.went,
+  marked_more c.args.node _ _ _ c.loop-index.invariant.1 c.count_slot-keys.ensures.went,
+  keeps_more _ _ _ c.loop-index.invariant.2 c.count_slot-keys.ensures.search,
   slot_counted _ _ c.count_slot-keys.ensures.went c.args.node c.loop-index.index _ _
-      c.loop-index.invariant.2 c.count_slot-keys.ensures.counted,
+      c.loop-index.invariant.3 c.count_slot-keys.ensures.counted,
 )
 
 -- the sum is no great number
 pub mark_and_count-overflow_add-keys : goal.mark_and_count-overflow_add-keys
 mark_and_count-overflow_add-keys g t c =
-    let m = may_pass_went Marks _ _ c.loop-index.invariant.1 c.args.node _
+    let m = may_pass_went (Marks _ c.args.node) _ _ c.loop-index.invariant.1 c.args.node _
     c.degree_of-degree.ensures.degree in
     let h : c.loop-index.keys + c.count_slot-keys.result < 2 ^ 64 =
     sum_low _ _ c.loop-index.invariant.1.sound c.count_slot-keys.ensures.went.sound c.args.node _
-    c.loop-index.index _ _ m c.loop-index-test.true c.loop-index.invariant.2
+    c.loop-index.index _ _ m c.loop-index-test.true c.loop-index.invariant.3
     c.count_slot-keys.ensures.counted in
     record { fits = h }
 
@@ -96,13 +109,24 @@ mark_and_count-finish-requires g t c =
       may_finish = all_counted _ _ c.loop-index.invariant.1 c.args.node _ c.loop-index.keys
           c.degree_of-degree.ensures.degree
           (subst (λ n. AreCounted (now c.loop-index.seat.view) c.loop-index.seat.view.log
-          c.args.node n c.loop-index.keys) last c.loop-index.invariant.2);
+          c.args.node n c.loop-index.keys) last c.loop-index.invariant.3);
     }
 
 -- all steps were steps of marking
 pub mark_and_count-returns-clause-went : goal.mark_and_count-returns-clause-went
 mark_and_count-returns-clause-went g t c =
-    went_more Marks _ _ _
-    (went_more Marks _ _ _ (went_more Marks _ _ _ c.mark.ensures.went c.degree_of-degree.ensures.went)
+    marked_more c.args.node _ _ _
+    (marked_more c.args.node _ _ _
+    (marked_more c.args.node _ _ _ c.mark.ensures.went
+    (goes_on_went (Marks _ c.args.node) _ _ c.degree_of-degree.ensures.seen))
     c.loop-index.invariant.1)
     c.finish.ensures.went
+
+-- nothing was stored, and no search begun
+pub mark_and_count-returns-clause-search : goal.mark_and_count-returns-clause-search
+mark_and_count-returns-clause-search g t c =
+    keeps_more _ _ _
+    (keeps_more _ _ _ (keeps_more _ _ _ c.mark.ensures.search
+    (goes_on_keeps _ _ c.degree_of-degree.ensures.seen))
+    c.loop-index.invariant.2)
+    c.finish.ensures.search

@@ -1,6 +1,6 @@
 use Rattle.std.proofs.Common.{◌≡◌, ◌+◌, ◌*◌, ◌-◌, ◌^◌}
 use Rattle.ist_rule.specs.Learning.{now}
-use Rattle.ist_steps.specs.Going.{WentOn}
+use Rattle.ist_rule.specs.Going.{WentOn, KeepsSearch}
 use Rattle.ist_mark.specs.Marking.{Marks}
 use Rattle.ist_mark.specs.Passing.{AreCounted}
 use Rattle.ist_mark.proofs.counting.+marking.Given as goal
@@ -16,5 +16,6 @@ decreases-mark_and_count g l = 2 * (2 ^ 32 - l.node) + 1
 abbrev pub invariant-mark_and_count-loop-index : goal.invariant-mark_and_count-loop-index
 invariant-mark_and_count-loop-index g l =
     (l.seat.table ≡ l.initial.seat.table)
-    × WentOn Marks l.initial.seat.view l.seat.view
+    × WentOn (Marks l.seat.view l.node) l.initial.seat.view l.seat.view
+    × KeepsSearch l.initial.seat.view l.seat.view
     × AreCounted (now l.seat.view) l.seat.view.log l.node l.index l.keys

@@ -1,3 +1,4 @@
+use Rattle.ist_rule.proofs.KeptSearchLemmas.{loaded_as_keeps}
 use Rattle.ist_mark.proofs.PassLemmas.{can_look, degree_low, look_tells}
 use Rattle.ist_mark.proofs.passing.look.Goals as goal
 
@@ -5,6 +6,9 @@ pub returns-clause-went : goal.returns-clause-went
 returns-clause-went c =
     (look_tells _ c.args.node c.args.degree c.args.index _ _ c.requires.may_pass c.requires.within
     c.slot_place-place.ensures.value _ c.load_pass.ensures.seen).went
+
+pub returns-clause-search : goal.returns-clause-search
+returns-clause-search c = loaded_as_keeps _ _ _ _ _ c.load_pass.ensures.seen
 
 pub returns-clause-change : goal.returns-clause-change
 returns-clause-change c =

@@ -1,6 +1,8 @@
-use Rattle.ist_steps.proofs.GoingLemmas.{went_more}
+use Rattle.ist_rule.proofs.WentOnLemmas.{goes_on_went}
+use Rattle.ist_rule.proofs.KeptSearchLemmas.{keeps_more, goes_on_keeps}
 use Rattle.ist_mark.specs.Marking.{Marks}
 use Rattle.ist_mark.proofs.BelowLemmas.{read_as, read_none, rebuild_named, passed_row, passed_target, passed_leaf, passed_empty, passed_set, passed_plain, passed_some}
+use Rattle.ist_mark.proofs.SubtreeLemmas.{marked_more}
 use Rattle.ist_mark.proofs.passing.pass_slot.Goals as goal
 
 -- the rebuild is published
@@ -19,11 +21,17 @@ returns-in-Some-Inner-clause-passed g c =
 
 pub returns-in-Some-Rebuild-clause-went : goal.returns-in-Some-Rebuild-clause-went
 returns-in-Some-Rebuild-clause-went g c =
-    went_more Marks _ _ _ c.pass-word.ensures.went c.target_of.ensures.went
+    marked_more c.args.node _ _ _ c.pass-word.ensures.went
+    (goes_on_went (Marks _ c.args.node) _ _ c.target_of.ensures.seen)
+
+pub returns-in-Some-Rebuild-clause-search : goal.returns-in-Some-Rebuild-clause-search
+returns-in-Some-Rebuild-clause-search g c =
+    keeps_more _ _ _ c.pass-word.ensures.search (goes_on_keeps _ _ c.target_of.ensures.seen)
 
 pub returns-in-Some-Rebuild-clause-passed : goal.returns-in-Some-Rebuild-clause-passed
 returns-in-Some-Rebuild-clause-passed g c =
-    passed_target _ _ c.target_of.ensures.went c.args.node c.args.index _ _ _
+    passed_target _ _
+    (goes_on_went (Marks c.args.seat.now.view c.args.node) _ _ c.target_of.ensures.seen) c.args.node c.args.index _ _ _
     c.pass-word.ensures.frozen
     (read_as _ _ _ _ c.from_word.ensures.value c.in-Some-Rebuild.is c.in-Some-Rebuild.field-0-is)
     c.target_of.ensures.target

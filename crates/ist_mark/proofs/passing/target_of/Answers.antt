@@ -1,8 +1,7 @@
 use Rattle.std.proofs.Common.{◌^◌, ◌<◌, ap, arith}
 use Rattle.ist_core.specs.Pieces.{Rebuild}
 use Rattle.ist_dcss.proofs.FieldLemmas.{row_low}
-use Rattle.ist_steps.proofs.GoingLemmas.{looked_went}
-use Rattle.ist_mark.specs.Marking.{Marks}
+use Rattle.ist_rule.proofs.GoingOnLemmas.{looked_goes_on}
 use Rattle.ist_mark.proofs.BelowLemmas.{target_told, target_low}
 use Rattle.ist_mark.proofs.passing.target_of.Goals as goal
 
@@ -25,8 +24,8 @@ overflow_cast-result c =
     target_low _ _ _ _ c.load.ensures.looked c.args.rebuild c.requires.published (omega arith) in
     record { fits = h }
 
-pub returns-clause-went : goal.returns-clause-went
-returns-clause-went c = looked_went Marks _ _ _ _ c.load.ensures.looked
+pub returns-clause-seen : goal.returns-clause-seen
+returns-clause-seen c = looked_goes_on _ _ _ _ c.load.ensures.looked
 
 -- the word is the target
 pub returns-clause-target : goal.returns-clause-target

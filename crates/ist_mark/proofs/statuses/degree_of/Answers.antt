@@ -1,8 +1,7 @@
 use Rattle.std.proofs.Common.{ap, arith}
 use Rattle.ist_core.specs.Pieces.{Inner}
 use Rattle.ist_dcss.proofs.FieldLemmas.{row_low}
-use Rattle.ist_steps.proofs.GoingLemmas.{looked_went}
-use Rattle.ist_mark.specs.Marking.{Marks}
+use Rattle.ist_rule.proofs.GoingOnLemmas.{looked_goes_on}
 use Rattle.ist_mark.proofs.MarkLemmas.{degree_tells}
 use Rattle.ist_mark.proofs.statuses.degree_of.Goals as goal
 
@@ -17,8 +16,8 @@ load-requires-clause-within c =
     let same = ap (λ t. t.words) c.requires.same_table in
     omega arith
 
-pub returns-clause-went : goal.returns-clause-went
-returns-clause-went c = looked_went Marks _ _ _ _ c.load.ensures.looked
+pub returns-clause-seen : goal.returns-clause-seen
+returns-clause-seen c = looked_goes_on _ _ _ _ c.load.ensures.looked
 
 -- the word is the degree
 pub returns-clause-degree : goal.returns-clause-degree

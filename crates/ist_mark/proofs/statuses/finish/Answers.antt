@@ -1,5 +1,6 @@
 use Rattle.std.proofs.Common.{◌≡◌, ◌^◌, ◌+◌, ◌<◌, ap, arith}
 use Rattle.ist_rule.proofs.KnownPlaceLemmas.{known_low}
+use Rattle.ist_rule.proofs.KeptSearchLemmas.{exchanged_keeps}
 use Rattle.ist_mark.proofs.FinishLemmas.{keys_few, may_finish, finish_told}
 use Rattle.ist_mark.proofs.statuses.finish.Goals as goal
 
@@ -31,6 +32,9 @@ returns-clause-went c =
     (finish_told c.args.seat.now.view c.know.ensures.sound c.args.node c.args.keys
     c.requires.may_finish _ at _ _ _ _ c.to_word.ensures.value c.to_word-2.ensures.value
     c.exchange.ensures.exchanged).0
+
+pub returns-clause-search : goal.returns-clause-search
+returns-clause-search c = exchanged_keeps _ _ _ _ _ _ c.exchange.ensures.exchanged
 
 -- and the node is finished
 pub returns-clause-finished : goal.returns-clause-finished

@@ -1,5 +1,6 @@
 use Rattle.std.proofs.Common.{◌≡◌, ◌+◌, ap, arith}
 use Rattle.ist_rule.proofs.KnownPlaceLemmas.{known_low}
+use Rattle.ist_rule.proofs.KeptSearchLemmas.{exchanged_keeps}
 use Rattle.ist_mark.proofs.MarkLemmas.{may_mark, mark_told}
 use Rattle.ist_mark.proofs.statuses.mark.Goals as goal
 
@@ -22,6 +23,9 @@ returns-clause-went c =
     let at : c.from.result + 0 ≡ c.args.node + 0 = omega arith in
     (mark_told _ c.know.ensures.sound c.args.node c.requires.may_mark _ _ _ _ at
     c.to_word.ensures.value c.exchange-stood.ensures.exchanged).went
+
+pub returns-clause-search : goal.returns-clause-search
+returns-clause-search c = exchanged_keeps _ _ _ _ _ _ c.exchange-stood.ensures.exchanged
 
 pub returns-clause-closed : goal.returns-clause-closed
 returns-clause-closed c =

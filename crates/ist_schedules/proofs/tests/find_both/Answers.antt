@@ -1,11 +1,12 @@
-use Rattle.ist_mark.proofs.HelpLemmas.{went_same}
+use Rattle.ist_rule.proofs.WentOnLemmas.{went_same}
+use Rattle.ist_rows.specs.CallerLaws.{KeepsRows}
 use Rattle.ist_schedules.proofs.KeptLemmas.{went_four}
 use Rattle.ist_schedules.proofs.LeafLemmas.{found_both}
 use Rattle.ist_schedules.proofs.tests.find_both.Goals as goal
 
 -- the seat has made loads
 pub returns-then-word_count-lt44-clause-went : goal.returns-then-word_count-lt44-clause-went
-returns-then-word_count-lt44-clause-went c = went_same _ c.know.ensures.sound
+returns-then-word_count-lt44-clause-went c = went_same KeepsRows _ c.know.ensures.sound
 
 pub returns-then-degree-ne2-clause-went : goal.returns-then-degree-ne2-clause-went
 returns-then-degree-ne2-clause-went c =

@@ -1,7 +1,6 @@
 use Rattle.std.proofs.Common.{ap, arith}
-use Rattle.ist_mark.proofs.ExampleLemmas.{change_low}
 use Rattle.ist_schedules.proofs.KeptLemmas.{went_help}
-use Rattle.ist_schedules.proofs.StartLemmas.{start_seen}
+use Rattle.ist_schedules.proofs.StartLemmas.{change_low, start_seen}
 use Rattle.ist_schedules.proofs.tests.follow.Goals as goal
 
 -- the rows lie within the table
@@ -29,27 +28,27 @@ load-target-requires-clause-within c =
 -- the seat has made steps of marking
 pub returns-then-kind-ne3-clause-went : goal.returns-then-kind-ne3-clause-went
 returns-then-kind-ne3-clause-went c =
-    went_help _ _ _ _ _ 20 _ _ _ _ _ _ c.help-decision.ensures.helped c.load-kind.ensures.looked
+    went_help _ _ _ _ _ 20 _ _ _ _ _ _ c.help-decision.ensures.went c.load-kind.ensures.looked
     c.load-to.ensures.looked c.load-target.ensures.looked
 
 pub returns-then-to-ne124-clause-went : goal.returns-then-to-ne124-clause-went
 returns-then-to-ne124-clause-went c =
-    went_help _ _ _ _ _ 20 _ _ _ _ _ _ c.help-decision.ensures.helped c.load-kind.ensures.looked
+    went_help _ _ _ _ _ 20 _ _ _ _ _ _ c.help-decision.ensures.went c.load-kind.ensures.looked
     c.load-to.ensures.looked c.load-target.ensures.looked
 
 pub returns-then-target-ne4-clause-went : goal.returns-then-target-ne4-clause-went
 returns-then-target-ne4-clause-went c =
-    went_help _ _ _ _ _ 20 _ _ _ _ _ _ c.help-decision.ensures.helped c.load-kind.ensures.looked
+    went_help _ _ _ _ _ 20 _ _ _ _ _ _ c.help-decision.ensures.went c.load-kind.ensures.looked
     c.load-to.ensures.looked c.load-target.ensures.looked
 
 pub returns-in-Yes-clause-went : goal.returns-in-Yes-clause-went
 returns-in-Yes-clause-went c =
-    went_help _ _ _ _ _ 20 _ _ _ _ _ _ c.help-decision.ensures.helped c.load-kind.ensures.looked
+    went_help _ _ _ _ _ 20 _ _ _ _ _ _ c.help-decision.ensures.went c.load-kind.ensures.looked
     c.load-to.ensures.looked c.load-target.ensures.looked
 
 pub returns-in-No-clause-went : goal.returns-in-No-clause-went
 returns-in-No-clause-went c =
-    went_help _ _ _ _ _ 20 _ _ _ _ _ _ c.help-decision.ensures.helped c.load-kind.ensures.looked
+    went_help _ _ _ _ _ 20 _ _ _ _ _ _ c.help-decision.ensures.went c.load-kind.ensures.looked
     c.load-to.ensures.looked c.load-target.ensures.looked
 
 -- the start was seen

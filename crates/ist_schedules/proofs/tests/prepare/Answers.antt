@@ -1,25 +1,20 @@
-use Rattle.std.proofs.Common.{refl}
+use borrow.Author.Rules.{rules}
+use Rattle.std.proofs.Common.{◌≡◌, Some, ap, ◌∙◌}
+use Rattle.ist_rows.specs.declared.callers.Caller.{Caller}
 use Rattle.ist_rows.specs.declared.kinds.Kind.TheVariants.{Pair}
-use Rattle.ist_mark.proofs.ExampleLemmas.{stored_own}
 use Rattle.ist_schedules.proofs.RaceLemmas.{pair_stored, base_high, base_low}
 use Rattle.ist_schedules.proofs.tests.prepare.Goals as goal
 
 -- the row is filled as a root
 pub returns-clause-filled : goal.returns-clause-filled
 returns-clause-filled g c is =
-    let last = c.pair_word-7.ensures in
+    let pair : c.reserve.new.who.pair ≡ Some c.args.base = search rules in
     record {
-      mine = last.caller.mine;
+      mine = c.fill_row.ensures.caller.mine;
       above = base_high _ c.requires.base;
       low = base_low _ c.requires.base;
-      held = last.caller.rows Pair c.args.base last.pair;
-      stored = pair_stored c.pair_word-7.new.who.seat.view c.args.base
-          c.reserve.new.who.seat.view.own c.requires.base
-          (stored_own _ _ _ _ last.stored _
-          (stored_own _ _ _ _ c.pair_word-6.ensures.stored _
-          (stored_own _ _ _ _ c.pair_word-5.ensures.stored _
-          (stored_own _ _ _ _ c.pair_word-4.ensures.stored _
-          (stored_own _ _ _ _ c.pair_word-3.ensures.stored _
-          (stored_own _ _ _ _ c.pair_word-2.ensures.stored _
-          (stored_own _ _ _ _ c.pair_word.ensures.stored _ refl)))))));
+      held = c.fill_row.ensures.caller.rows Pair c.args.base
+          (ap (λ (x : Caller). x.pair) c.fill_row.ensures.stored ∙ pair);
+      stored = pair_stored c.reserve.new.who c.fill_row.new.who c.args.base _ _
+          c.to_word-low.ensures.value c.to_word-high.ensures.value c.fill_row.ensures.stored;
     }

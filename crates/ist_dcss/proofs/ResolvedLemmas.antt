@@ -1,0 +1,122 @@
+-- A caller that installs a change and helps it has no change that isn't resolved. Serves
+-- `laws.helped_changes_are_resolved`.
+use Rattle.std.proofs.Common.{◌≡◌, ◌⊎◌, ℕ, List, [], ◌∷◌, Some, refl, sym, ap, ◌∙◌, subst, inl, inr, ⊎_elim}
+use Rattle.ist_core.specs.declared.events.Event.{Event}
+use Rattle.ist_core.specs.declared.events.Event.TheVariants.{Install}
+use Rattle.ist_core.specs.declared.lists.Row.{Row}
+use Rattle.ist_core.specs.declared.pairs.Pair.{Pair}
+use Rattle.ist_core.specs.declared.states.ChangeRow.{ChangeRow}
+use Rattle.ist_core.specs.Authors.{no_more, one_more}
+use Rattle.ist_core.specs.Deciding.{AllResolvedOf}
+use Rattle.ist_core.specs.Lawful.{EachEnabled, state_of}
+use Rattle.ist_core.specs.Logs.{Log, Happened, Resolves}
+use Rattle.ist_core.specs.Pieces.{Change}
+use Rattle.ist_core.specs.StartLayout.{start}
+use Rattle.ist_core.proofs.SoundLemmas.{sound}
+use Rattle.ist_core.proofs.StartLemmas.{sound_start}
+use Rattle.ist_rule.specs.declared.view.View.{View}
+use Rattle.ist_rule.specs.declared.view.Who.TheVariants.{Caller}
+use Rattle.ist_rule.specs.Authors.{Later, LaterBy}
+use Rattle.ist_rule.specs.Conditions.{IsResolved}
+use Rattle.ist_rule.specs.Going.{WentOn}
+use Rattle.ist_rule.specs.Learning.{now, Logged}
+use Rattle.ist_rule.proofs.CallLemmas.{installs_not, resolved_later}
+use Rattle.ist_rule.proofs.ChangeLemmas.{ChangeComes, stood, is_installed, change_comes, grows_same_change}
+use Rattle.ist_rule.proofs.GoingOnLemmas.{goes_on_who}
+use Rattle.ist_rule.proofs.LaterLemmas.{later_more}
+use Rattle.ist_rule.proofs.WentOnLemmas.{went_now, went_lawful}
+use Rattle.ist_dcss.specs.Helping.{Serves, IsOut}
+use Rattle.ist_dcss.specs.Installing.{Filling, rows_of, IsInstalled}
+
+-- each change of the caller but one has left its slot
+abbrev AllResolvedBut : List Pair → ℕ → Log → ℕ → ℕ → Type 0
+AllResolvedBut pairs words log number base =
+    (b : ℕ) (r : ChangeRow) → (state_of pairs words log).pieces b ≡ Some (Change r)
+    → r.owner ≡ number → (b ≡ base) ⊎ Happened (Resolves b) log
+
+-- it is so behind an event that installs none but this one for the caller
+resolved_but_on : (pairs : List Pair) (words : ℕ) (log : Log) (event : Event) (number base : ℕ)
+    → EachEnabled (start pairs words) (event ∷ log)
+    → ((b : ℕ) (rows : List Row) → event ≡ Install number b rows → b ≡ base)
+    → AllResolvedBut pairs words log number base
+    → AllResolvedBut pairs words (event ∷ log) number base
+resolved_but_on pairs words log event number base enabled only all b r there owned =
+    at (change_comes (start pairs words) log event enabled.1
+    (sound (start pairs words) log (sound_start pairs words) enabled.0) b r there) refl
+  where
+    at : {e : Event} → ChangeComes (start pairs words) log b r e → event ≡ e
+        → (b ≡ base) ⊎ Happened (Resolves b) (event ∷ log)
+    at (stood old was g) is =
+        ⊎_elim (λ k. inl k) (λ h. inr (inr h))
+        (all b old was (sym (grows_same_change g).1 ∙ owned))
+    at (is_installed {rows = rows} h g) is =
+        inl (only b rows (is ∙ ap (λ n. Install n b rows)
+        (sym h.owned ∙ sym (grows_same_change g).1 ∙ owned)))
+
+-- it stays so while the caller makes steps for a change alone
+resolved_but_later : (pairs : List Pair) (words : ℕ) (number base : ℕ) (old log : Log)
+    → EachEnabled (start pairs words) log → LaterBy (Caller number) (Serves base) old log
+    → AllResolvedBut pairs words old number base → AllResolvedBut pairs words log number base
+resolved_but_later pairs words number base old _ enabled no_more all = all
+resolved_but_later pairs words number base old _ enabled
+    (one_more {log = log} event l (inl other)) all =
+    resolved_but_on pairs words log event number base enabled
+    (λ b rows e. absurd (installs_not number event other b rows e))
+    (resolved_but_later pairs words number base old log enabled.0 l all)
+resolved_but_later pairs words number base old _ enabled
+    (one_more {log = log} event l (inr is)) all =
+    resolved_but_on pairs words log event number base enabled
+    (λ b rows e. absurd (subst (Serves base) e is))
+    (resolved_but_later pairs words number base old log enabled.0 l all)
+
+module _ (v w x : View) (number base : ℕ) (f : Filling) (mine : v.who ≡ Caller number)
+    (all : IsResolved v number) (i : IsInstalled v base f w) (g : WentOn (Serves base) w x) where
+  abbrev u : View
+  u = i.before
+
+  abbrev event : Event
+  event = Install i.number base (rows_of f base)
+
+  start_is : w.start ≡ v.start
+  start_is = ap (λ y. y.start) i.logged.view ∙ ap (λ y. y.start) i.seen.same
+
+  words_is : w.words ≡ v.words
+  words_is = ap (λ y. y.words) i.logged.view ∙ ap (λ y. y.words) i.seen.same
+
+  who_is : w.who ≡ Caller number
+  who_is = ap (λ y. y.who) i.logged.view ∙ ap (λ y. y.who) i.seen.same ∙ mine
+
+  log_is : w.log ≡ event ∷ i.logged.before
+  log_is = ap (λ y. y.log) i.logged.view
+
+  enabled : EachEnabled (start w.start w.words) (event ∷ i.logged.before)
+  enabled = subst (EachEnabled (start w.start w.words)) log_is i.logged.sound.lawful.enabled
+
+  -- all was resolved before the change was installed
+  before : AllResolvedOf (state_of w.start w.words i.logged.before) i.logged.before number
+  before =
+      resolved_later w.start w.words number [] v.log i.logged.before enabled.0
+      (later_more (subst (λ y. Later y v.log u.log) mine i.seen.later)
+      (subst (λ y. Later y u.log i.logged.before) (goes_on_who i.seen ∙ mine) i.logged.later))
+      (subst (λ p. AllResolvedOf (state_of p w.words v.log) v.log number) (sym start_is)
+      (subst (λ n. AllResolvedOf (state_of v.start n v.log) v.log number) (sym words_is) all))
+
+  -- but for it all is resolved behind
+  behind : AllResolvedBut w.start w.words w.log number base
+  behind =
+      subst (λ log. AllResolvedBut w.start w.words log number base) (sym log_is)
+      (resolved_but_on w.start w.words i.logged.before event number base enabled
+      (λ b rows e. base_is b rows e)
+      (λ b r there owned. inr (before b r there owned)))
+    where
+      base_is : (b : ℕ) (rows : List Row) → event ≡ Install number b rows → b ≡ base
+      base_is b rows e = cc
+
+  -- once it is out of its slot, all is
+  pub resolved_helped : IsOut x base → IsResolved x number
+  resolved_helped out b r there owned =
+      ⊎_elim (λ e. subst (λ n. Happened (Resolves n) x.log) (sym e) out.resolved) (λ h. h)
+      (resolved_but_later w.start w.words number base w.log x.log
+      (went_lawful (Serves base) w x g).enabled
+      (subst (λ y. LaterBy y (Serves base) w.log x.log) who_is g.later) behind b r
+      (subst (λ t. t.pieces b ≡ Some (Change r)) (went_now (Serves base) w x g) there) owned)

@@ -1,0 +1,48 @@
+use Rattle.std.proofs.Common.{◌∙◌, arith}
+use Rattle.ist_rule.proofs.GoingOnLemmas.{goes_on_more}
+use Rattle.ist_dcss.proofs.InstallLemmas.{filled, filled_on}
+use Rattle.ist_dcss.proofs.InstalledLemmas.{has_loaded, loaded_slot, aimed}
+use Rattle.ist_dcss.proofs.installing.aim_of.Goals as goal
+
+-- the row is filled
+pub own_word-node-requires : goal.own_word-node-requires
+own_word-node-requires g c =
+    (c.requires.0, (filled _ c.args.change g.filling c.requires.1, omega arith))
+
+-- and is so still
+pub own_word-index-requires : goal.own_word-index-requires
+own_word-index-requires g c = (
+  c.own_word-node.ensures.same_table ∙ c.requires.0,
+  (
+    filled_on _ _ c.own_word-node.ensures.seen c.args.change _
+        (filled _ c.args.change g.filling c.requires.1),
+    omega arith,
+  ),
+)
+
+pub own_word-from-requires : goal.own_word-from-requires
+own_word-from-requires g c = (
+  c.own_word-index.ensures.same_table ∙ c.own_word-node.ensures.same_table ∙ c.requires.0,
+  (
+    filled_on _ _ (goes_on_more _ _ _ c.own_word-node.ensures.seen c.own_word-index.ensures.seen)
+        c.args.change _ (filled _ c.args.change g.filling c.requires.1),
+    omega arith,
+  ),
+)
+
+-- the slot is one
+pub slot_at-place-requires-clause-slot : goal.slot_at-place-requires-clause-slot
+slot_at-place-requires-clause-slot g c =
+    loaded_slot _ c.args.change g.filling c.requires.1 _ _ _ _
+    (has_loaded _ g.filling _ _ _ _ _ _ c.own_word-node.ensures.seen c.own_word-node.ensures.value
+    c.own_word-index.ensures.seen c.own_word-index.ensures.value c.own_word-from.ensures.seen
+    c.own_word-from.ensures.value)
+
+-- and its place was found
+pub returns-clause-aimed : goal.returns-clause-aimed
+returns-clause-aimed g c =
+    aimed _ g.filling _ _ _ _
+    (has_loaded _ g.filling _ _ _ _ _ _ c.own_word-node.ensures.seen c.own_word-node.ensures.value
+    c.own_word-index.ensures.seen c.own_word-index.ensures.value c.own_word-from.ensures.seen
+    c.own_word-from.ensures.value)
+    _ c.slot_at-place.ensures.seen _ c.slot_at-place.ensures.place

@@ -1,0 +1,38 @@
+use Rattle.std.proofs.Common.{◌≡◌, sym, ap, ◌∙◌, eq-eqb, arith}
+use Rattle.ist_core.specs.Writing.{place_of_status}
+use Rattle.ist_rule.proofs.GoingOnLemmas.{looked_goes_on}
+use Rattle.ist_dcss.proofs.CallingLemmas.{open_unrefused}
+use Rattle.ist_dcss.proofs.OpeningLemmas.{status_low, shows_open, open_shows, same_words}
+use Rattle.ist_dcss.proofs.opening.is_open.Goals as goal
+
+-- the status lies within the table
+pub load-requires-clause-within : goal.load-requires-clause-within
+load-requires-clause-within c =
+    let low = status_low _ c.know.ensures.sound c.args.node c.requires.node in
+    let at : c.status_place.result ≡ place_of_status c.args.node =
+    c.status_place.ensures.value ∙ ap place_of_status c.from.ensures in
+    let known = c.know.ensures.words in
+    let same = ap (λ t. t.words) c.requires.same_table in
+    omega arith
+
+-- a load was made
+pub returns-clause-seen : goal.returns-clause-seen
+returns-clause-seen c = looked_goes_on _ _ _ _ c.load.ensures.looked
+
+-- the word is that of open where the node is open
+pub returns-clause-open : goal.returns-clause-open
+returns-clause-open c =
+    let at = c.status_place.ensures.value ∙ ap place_of_status c.from.ensures in (
+      λ t. shows_open _ c.know.ensures.sound c.args.node _ _ _ c.load.ensures.looked
+          c.requires.node at (same_words _ _ t ∙ c.to_word.ensures.value),
+      λ is. eq-eqb _ _ (open_shows _ c.args.node _ _ _ c.load.ensures.looked at is
+          ∙ sym c.to_word.ensures.value),
+    )
+
+-- and then no change there was decided no
+pub returns-clause-unrefused : goal.returns-clause-unrefused
+returns-clause-unrefused c number t =
+    let at = c.status_place.ensures.value ∙ ap place_of_status c.from.ensures in
+    open_unrefused _ c.load.ensures.looked.sound number c.args.node
+    (shows_open _ c.know.ensures.sound c.args.node _ _ _ c.load.ensures.looked c.requires.node at
+    (same_words _ _ t ∙ c.to_word.ensures.value))

@@ -1,0 +1,40 @@
+//! Whether a node is open.
+ghost use Rattle.std.specs.Prelude.{◌≡◌, ◌↔◌, ℕ, IsTrue};
+ghost use Rattle.ist_core.specs.Installing.{IsUnrefused};
+ghost use Rattle.ist_core.specs.Slots.{IsOpen};
+ghost use Rattle.ist_core.specs.Writing.{place_of_status};
+ghost use Rattle.ist_rule.specs.Learning.{now, GoesOnTo};
+ghost use Rattle.ist_rule.specs.Watching.{IsNode};
+
+use ist_layout::{ANCHOR, ANCHOR_STATUS_PLACE, Status};
+use ist_rule::{TreeSeat, TreeTable, know, load};
+
+/// Where the status of the node lies.
+pub(crate) fn status_place(node: u64) -> u64
+    ensures value { result ≡ place_of_status node }
+{
+    if node == u64::from(ANCHOR) {
+        ANCHOR_STATUS_PLACE
+    } else {
+        node
+    }
+}
+
+/// Whether the node is open, by a load of its status. The anchor always is.
+///
+/// The answer is that of the log which the seat has seen behind the load. A node that isn't open
+/// is never open again (`laws::nodes_close_once`); where it is open, none of the caller's changes on
+/// it was decided no.
+pub fn is_open(table: &TreeTable, seat: &mut TreeSeat, node: u32) -> bool
+    requires same_table { seat.old.table ≡ table.now.table }
+    requires node { IsNode (now seat.old.view) node }
+    ensures same_table { seat.new.table ≡ seat.old.table }
+    ensures seen { GoesOnTo seat.old.view seat.new.view }
+    ensures open { IsTrue result ↔ IsOpen (now seat.new.view) node }
+    ensures unrefused { (number : ℕ) → IsTrue result
+        → IsUnrefused (now seat.new.view) number node }
+{
+    know(seat);
+    // A load. Meets a mark of the node.
+    load(table, seat, status_place(u64::from(node))) == Status::Clear.to_word()
+}

@@ -1,0 +1,169 @@
+-- The rows of a subtree, and steps of marking it, as seats go on. Serves each function.
+use Rattle.std.proofs.Common.{◌≡◌, ℕ, refl, sym, ap, ◌∙◌, subst}
+use Rattle.ist_core.specs.declared.events.Event.{Event}
+use Rattle.ist_core.specs.declared.events.Event.TheVariants.{Enter, Reserve, Install, Okay, Decide, Resolve, Count, Mark, Pass, Finish, Root, Draw, Place, Lose}
+use Rattle.ist_core.specs.Logs.{Log, Passes}
+use Rattle.ist_core.specs.Snapshots.{Snapshot}
+use Rattle.ist_links.proofs.FinishedLemmas.{target_grows}
+use Rattle.ist_rule.specs.declared.view.View.{View}
+use Rattle.ist_rule.specs.Learning.{now}
+use Rattle.ist_rule.specs.Going.{WentOn}
+use Rattle.ist_rule.proofs.WentOnLemmas.{went_grow, went_all, went_more}
+use Rattle.ist_rows.specs.CallerLaws.{KeepsRows}
+use Rattle.ist_dcss.specs.Helping.{Serves}
+use Rattle.ist_dcss.proofs.HelperLemmas.{went_row}
+use Rattle.ist_mark.specs.Marking.{LeadsTo, to_row, to_target, LiesUnder, the_node, one_lower, IsOnSubtree, Marks}
+use Rattle.ist_mark.specs.Passing.{IsMetAt}
+use Rattle.ist_mark.proofs.KeepingLemmas.{happened_went}
+
+-- ---- rows of a subtree
+
+-- a word that leads to a row leads there still
+pub leads_later : {P : Event → Type 0} (v w : View) → WentOn P v w → (word row : ℕ)
+    → LeadsTo (now v) word row → LeadsTo (now w) word row
+leads_later v w g word row (to_row is) = to_row is
+leads_later {P = P} v w g word row (to_target rebuild is h) =
+    to_target rebuild is (target_grows (now v) (now w) (went_grow P v w g) rebuild row h)
+
+-- a row of a subtree is one still
+pub under_later : {P : Event → Type 0} (v w : View) → WentOn P v w → (node row : ℕ)
+    → LiesUnder (now v) v.log node row → LiesUnder (now w) w.log node row
+under_later v w g node _ the_node = the_node
+under_later {P = P} v w g node _ (one_lower {above = above} {row = row} i word under p leads) =
+    one_lower i word (under_later v w g node above under)
+    (happened_went P v w g (Passes above i word) p) (leads_later v w g word row leads)
+
+-- the rows of a subtree of a subtree are of it
+pub under_lower : (t : Snapshot) (log : Log) (node child row : ℕ) → LiesUnder t log node child
+    → LiesUnder t log child row → LiesUnder t log node row
+under_lower t log node child _ top the_node = top
+under_lower t log node child _ top (one_lower {above = above} i word under p leads) =
+    one_lower i word (under_lower t log node child above top under) p leads
+
+-- a change on a slot of it is one still
+on_later : {P : Event → Type 0} (v w : View) → WentOn P v w → (node base : ℕ)
+    → IsOnSubtree v node base → IsOnSubtree w node base
+on_later {P = P} v w g node base s =
+    let on = went_row P base v w g s.change s.published in
+    record {
+      change = on.0;
+      published = on.1;
+      under = subst (LiesUnder (now w) w.log node) (sym (ap (λ r. r.node) on.2.others))
+          (under_later v w g node s.change.node s.under);
+    }
+
+on_lower : (v : View) (node child base : ℕ) → LiesUnder (now v) v.log node child
+    → IsOnSubtree v child base → IsOnSubtree v node base
+on_lower v node child base top s =
+    record {
+      change = s.change;
+      published = s.published;
+      under = under_lower (now v) v.log node child s.change.node top s.under;
+    }
+
+-- ---- steps of marking
+
+-- what was a step of marking a subtree is one, as it is known later
+marks_later : {P : Event → Type 0} (v w : View) → WentOn P v w → (node : ℕ) (event : Event)
+    → Marks v node event → Marks w node event
+marks_later v w g node (Okay caller base) is = on_later v w g node base is
+marks_later v w g node (Decide caller base said) is = on_later v w g node base is
+marks_later v w g node (Resolve caller base) is = on_later v w g node base is
+marks_later v w g node (Mark caller row) is = under_later v w g node row is
+marks_later v w g node (Pass caller row i word) is = under_later v w g node row is
+marks_later v w g node (Finish caller row keys) is = under_later v w g node row is
+marks_later v w g node (Enter caller) is = absurd is
+marks_later v w g node (Reserve caller base size) is = absurd is
+marks_later v w g node (Install caller base rows) is = absurd is
+marks_later v w g node (Count caller row) is = absurd is
+marks_later v w g node (Root caller rebuild word rows) is = absurd is
+marks_later v w g node (Draw caller rebuild part) is = absurd is
+marks_later v w g node (Place caller rebuild i word rows) is = absurd is
+marks_later v w g node (Lose caller bases) is = absurd is
+
+-- a step of marking what hangs below the node is one of marking the node's subtree
+marks_lower : (v : View) (node child : ℕ) → LiesUnder (now v) v.log node child → (event : Event)
+    → Marks v child event → Marks v node event
+marks_lower v node child top (Okay caller base) is = on_lower v node child base top is
+marks_lower v node child top (Decide caller base said) is = on_lower v node child base top is
+marks_lower v node child top (Resolve caller base) is = on_lower v node child base top is
+marks_lower v node child top (Mark caller row) is =
+    under_lower (now v) v.log node child row top is
+marks_lower v node child top (Pass caller row i word) is =
+    under_lower (now v) v.log node child row top is
+marks_lower v node child top (Finish caller row keys) is =
+    under_lower (now v) v.log node child row top is
+marks_lower v node child top (Enter caller) is = absurd is
+marks_lower v node child top (Reserve caller base size) is = absurd is
+marks_lower v node child top (Install caller base rows) is = absurd is
+marks_lower v node child top (Count caller row) is = absurd is
+marks_lower v node child top (Root caller rebuild word rows) is = absurd is
+marks_lower v node child top (Draw caller rebuild part) is = absurd is
+marks_lower v node child top (Place caller rebuild i word rows) is = absurd is
+marks_lower v node child top (Lose caller bases) is = absurd is
+
+-- steps of help for a change on a slot of it are steps of marking it
+serves_marks : (v : View) (node base : ℕ) → IsOnSubtree v node base → (event : Event)
+    → Serves base event → Marks v node event
+serves_marks v node base s (Okay caller other) is = subst (IsOnSubtree v node) (sym is) s
+serves_marks v node base s (Decide caller other said) is = subst (IsOnSubtree v node) (sym is) s
+serves_marks v node base s (Resolve caller other) is = subst (IsOnSubtree v node) (sym is) s
+serves_marks v node base s (Mark caller row) is = absurd is
+serves_marks v node base s (Pass caller row i word) is = absurd is
+serves_marks v node base s (Finish caller row keys) is = absurd is
+serves_marks v node base s (Enter caller) is = absurd is
+serves_marks v node base s (Reserve caller at size) is = absurd is
+serves_marks v node base s (Install caller at rows) is = absurd is
+serves_marks v node base s (Count caller row) is = absurd is
+serves_marks v node base s (Root caller rebuild word rows) is = absurd is
+serves_marks v node base s (Draw caller rebuild part) is = absurd is
+serves_marks v node base s (Place caller rebuild i word rows) is = absurd is
+serves_marks v node base s (Lose caller bases) is = absurd is
+
+-- no step of marking changes what its caller holds
+pub marks_keep : (v : View) (node : ℕ) (event : Event) → Marks v node event → KeepsRows event
+marks_keep v node (Okay caller base) is = tt
+marks_keep v node (Decide caller base said) is = tt
+marks_keep v node (Resolve caller base) is = tt
+marks_keep v node (Mark caller row) is = tt
+marks_keep v node (Pass caller row i word) is = tt
+marks_keep v node (Finish caller row keys) is = tt
+marks_keep v node (Enter caller) is = tt
+marks_keep v node (Count caller row) is = tt
+marks_keep v node (Draw caller rebuild part) is = tt
+marks_keep v node (Reserve caller base size) is = absurd is
+marks_keep v node (Install caller base rows) is = absurd is
+marks_keep v node (Root caller rebuild word rows) is = absurd is
+marks_keep v node (Place caller rebuild i word rows) is = absurd is
+marks_keep v node (Lose caller bases) is = absurd is
+
+-- ---- seats that mark
+
+-- marking on
+pub marked_more : (node : ℕ) (u v w : View) → WentOn (Marks v node) u v → WentOn (Marks w node) v w
+    → WentOn (Marks w node) u w
+marked_more node u v w a b =
+    went_more (Marks w node) u v w
+    (went_all (Marks v node) (Marks w node) (marks_later v w b node) u v a) b
+
+-- marking on below the node
+pub marked_lower : (node child : ℕ) (u v w : View) → WentOn (Marks v node) u v
+    → LiesUnder (now v) v.log node child → WentOn (Marks w child) v w → WentOn (Marks w node) u w
+marked_lower node child u v w a under b =
+    marked_more node u v w a
+    (went_all (Marks w child) (Marks w node)
+    (marks_lower w node child (under_later v w b node child under)) v w b)
+
+-- helping a change that was met in a slot of the node
+pub marked_help : (node base : ℕ) (u v w : View) → WentOn (Marks v node) u v → IsMetAt v node base
+    → WentOn (Serves base) v w → WentOn (Marks w node) u w
+marked_help node base u v w a m h =
+    let on = went_row (Serves base) base v w h m.may_help.row m.may_help.installed in
+    let node_is : node ≡ on.0.node = sym m.node_is ∙ sym (ap (λ r. r.node) on.2.others) in
+    marked_more node u v w a
+    (went_all (Serves base) (Marks w node)
+    (serves_marks w node base record {
+      change = on.0;
+      published = on.1;
+      under = subst (LiesUnder (now w) w.log node) node_is the_node;
+    }) v w h)

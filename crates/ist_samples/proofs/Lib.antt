@@ -1,0 +1,4 @@
+pub mod StoredLemmas
+pub mod TableLemmas
+pub mod PutLemmas
+pub mod StartLemmas
