@@ -1,116 +1,230 @@
--- Walks over the keys of a row. Serves `keys`.
-use Rattle.std.proofs.Common.{◌≡◌, ℕ, ◌+◌, ◌-◌, ◌<◌, ◌≤◌, List, length, ⊎_elim, get_or, refl, ap, ◌∙◌, arith}
+-- Looks at the keys of a row: one after the other, and by a gallop. Serves `keys`.
+use Rattle.std.proofs.Common.{
+  ◌≡◌,
+  ◌∙◌,
+  ℕ,
+  suc,
+  ◌+◌,
+  ◌-◌,
+  ◌*◌,
+  ◌^◌,
+  ◌<◌,
+  ◌≤◌,
+  nat_le,
+  nat_lt,
+  cond,
+  Bool,
+  true,
+  false,
+  List,
+  length,
+  get_or,
+  take,
+  ⊎_elim,
+  refl,
+  sym,
+  ap,
+  arith,
+}
 use Rattle.std.proofs.lemmas.Bool.{cases_lt}
-use Rattle.std.specs.List.Sorted.{IsStrictlyIncreasing}
-use Rattle.ist_math.proofs.ChildLemmas as child
+use Rattle.std.proofs.lemmas.Bool.Decides.{nat_tests}
+use Rattle.std.proofs.lemmas.List.{take_all}
+use Rattle.std.proofs.lemmas.List.Sums.{count_by_more_yes, count_by_more_no}
+use Rattle.ist_core.specs.Arithmetic.{child_count}
+use Rattle.ist_math.specs.declared.gallops.Gallop.{Gallop}
+use Rattle.ist_math.specs.Guess.{distance}
+use Rattle.ist_math.specs.Gallops.{Gallops}
+use Rattle.ist_math.proofs.GallopLemmas.{end-near, end-far}
+use Rattle.ist_math.proofs.ChildLemmas.{HasGalloped, galloped_on, galloped_to}
 use Rattle.ist_rule.specs.declared.view.View.{View}
 use Rattle.ist_rule.specs.Rule.{IsSound}
 use Rattle.ist_rule.specs.Learning.{GoesOnTo}
 use Rattle.ist_rule.proofs.GoingOnLemmas.{goes_on_same, goes_on_more}
-use Rattle.ist_find.specs.Searches.{IsRow, keys_at, distance}
-use Rattle.ist_find.proofs.RowLemmas.{row_on, keys_on}
+use Rattle.ist_find.specs.Searches.{IsRow, keys_at}
+use Rattle.ist_find.proofs.RowLemmas.{row_on, keys_on, keys_rise}
 
--- a walk up that began at `from` has come to `at`: the key before it is at most the key
-pub record HasClimbed (v w : View) (node from at key : ℕ) : Type 0 where
+-- so many loads were made, and the row has its keys still
+pub record HasLoaded (v w : View) (node loads : ℕ) : Type 0 where
   pub seen : GoesOnTo v w
   pub row : IsRow w node
   pub keys : keys_at w node ≡ keys_at v node
-  pub loads : w.loaded ≤ v.loaded + (at - from)
-  pub low : from ≤ at
-  pub high : at ≤ length (keys_at v node)
-  pub below : from < at → get_or (keys_at v node) (at - 1) 0 ≤ key
+  pub count : w.loaded ≡ v.loaded + loads
 
--- a walk down that began at `from` has come to `at`: the key there is above the key
-pub record HasGoneDown (v w : View) (node from at key : ℕ) : Type 0 where
-  pub seen : GoesOnTo v w
-  pub row : IsRow w node
-  pub keys : keys_at w node ≡ keys_at v node
-  pub loads : w.loaded ≤ v.loaded + (from - at)
-  pub low : at ≤ from
-  pub above : at < length (keys_at v node) → key < get_or (keys_at v node) at 0
+-- so many of the keys before `at` are at most the key
+pub record HasCounted (v w : View) (node at key found : ℕ) : Type 0 where
+  pub loaded : HasLoaded v w node at
+  pub within : found ≤ at
+  pub found_is : child_count (take at (keys_at v node)) key ≡ found
 
-module _ (v : View) (s : IsSound v) (node : ℕ) (r : IsRow v node) (from key : ℕ) where
-  -- a walk begins
-  pub climb_begins : from ≤ length (keys_at v node) → HasClimbed v v node from from key
-  climb_begins high =
-      record {
-        seen = goes_on_same v s;
-        row = r;
-        keys = refl;
-        loads = omega arith;
-        low = omega arith;
-        high = high;
-        below = λ h. absurd (omega arith);
-      }
+-- a gallop among the keys made so many looks, and no other load
+pub record HasRun (v w : View) (node from key : ℕ) (g : Gallop) : Type 0 where
+  pub looks : ℕ
+  pub loaded : HasLoaded v w node looks
+  pub galloped : HasGalloped (keys_at v node) key from g looks
 
-  pub descent_begins : (from < length (keys_at v node) → key < get_or (keys_at v node) from 0)
-      → HasGoneDown v v node from from key
-  descent_begins above =
-      record {
-        seen = goes_on_same v s;
-        row = r;
-        keys = refl;
-        loads = omega arith;
-        low = omega arith;
-        above = above;
-      }
+-- nothing was loaded yet
+pub none_loaded : (v : View) → IsSound v → (node : ℕ) → IsRow v node → HasLoaded v v node 0
+none_loaded v s node r =
+    record { seen = goes_on_same v s; row = r; keys = refl; count = omega arith }
 
--- a walk up goes on past a key that is at most the key
-pub climbs : (v w u : View) (node from at key word : ℕ) → HasClimbed v w node from at key
-    → GoesOnTo w u → u.loaded ≡ w.loaded + 1 → at < length (keys_at v node)
-    → word ≡ get_or (keys_at w node) at 0 → word ≤ key
-    → HasClimbed v u node from (at + 1) key
-climbs v w u node from at key word h g count less is le =
-    let same : word ≡ get_or (keys_at v node) at 0 = is ∙ ap (λ ks. get_or ks at 0) h.keys in
-    let one : at ≡ at + 1 - 1 = omega arith in
-    let here = ap (λ n. get_or (keys_at v node) n 0) one in
-    let loads = h.loads in
-    let low = h.low in
+-- one more
+pub one_loaded : (v w u : View) (node loads : ℕ) → HasLoaded v w node loads → GoesOnTo w u
+    → u.loaded ≡ w.loaded + 1 → HasLoaded v u node (loads + 1)
+one_loaded v w u node loads h g count =
+    let so_far = h.count in
     record {
       seen = goes_on_more v w u h.seen g;
       row = row_on w u g node h.row;
       keys = keys_on w u g node h.row ∙ h.keys;
-      loads = omega arith;
-      low = omega arith;
-      high = omega arith;
-      below = λ b. omega arith;
+      count = omega arith;
     }
 
--- a walk down goes on past a key that is above the key
-pub goes_down : (v w u : View) (node from at key word : ℕ) → HasGoneDown v w node from at key
-    → GoesOnTo w u → u.loaded ≡ w.loaded + 1 → 0 < at
-    → word ≡ get_or (keys_at w node) (at - 1) 0 → key < word
-    → HasGoneDown v u node from (at - 1) key
-goes_down v w u node from at key word h g count some is above =
-    let same : word ≡ get_or (keys_at v node) (at - 1) 0 =
-    is ∙ ap (λ ks. get_or ks (at - 1) 0) h.keys in
-    let loads = h.loads in
-    let low = h.low in
-    record {
-      seen = goes_on_more v w u h.seen g;
-      row = row_on w u g node h.row;
-      keys = keys_on w u g node h.row ∙ h.keys;
-      loads = omega arith;
-      low = omega arith;
-      above = λ b. omega arith;
-    }
+-- ---- one after the other
 
--- a walk up to `top` and down from there turns at most once: where it went up, it stays there
-pub walk_is_short : (keys : List ℕ) (key from top result : ℕ) → IsStrictlyIncreasing keys
-    → from ≤ top → top ≤ length keys → result ≤ top
-    → (from < top → get_or keys (top - 1) 0 ≤ key)
-    → (result < length keys → key < get_or keys result 0)
-    → (top - from) + (top - result) ≤ distance from result
-walk_is_short keys key from top result rises low high less below above =
-    ⊎_elim up (λ h. omega arith) (cases_lt from top)
+-- no key was counted yet
+pub none_counted : (v : View) → IsSound v → (node : ℕ) → IsRow v node → (key : ℕ)
+    → HasCounted v v node 0 key 0
+none_counted v s node r key =
+    record { loaded = none_loaded v s node r; within = omega arith; found_is = refl }
+
+-- one more was, which is at most the key, or isn't
+module _ (v w u : View) (node at key found word : ℕ) (h : HasCounted v w node at key found)
+    (g : GoesOnTo w u) (count : u.loaded ≡ w.loaded + 1) (less : at < length (keys_at v node))
+    (is : word ≡ get_or (keys_at w node) at 0) where
+  here : word ≡ get_or (keys_at v node) at 0
+  here = is ∙ ap (λ ks. get_or ks at 0) h.loaded.keys
+
+  pub counted_yes : word ≤ key → HasCounted v u node (at + 1) key (found + 1)
+  counted_yes low =
+      let same = here in
+      let so_far = h.found_is in
+      let within = h.within in
+      let test : nat_le (get_or (keys_at v node) at 0) key ≡ true = grind (arith, nat_tests) in
+      let yes = count_by_more_yes (λ k. nat_le k key) (keys_at v node) at 0 less test in
+      record {
+        loaded = one_loaded v w u node at h.loaded g count;
+        within = omega arith;
+        found_is = omega arith;
+      }
+
+  pub counted_no : key < word → HasCounted v u node (at + 1) key found
+  counted_no high =
+      let same = here in
+      let so_far = h.found_is in
+      let within = h.within in
+      let test : nat_le (get_or (keys_at v node) at 0) key ≡ false = grind (arith, nat_tests) in
+      let no = count_by_more_no (λ k. nat_le k key) (keys_at v node) at 0 less test in
+      record {
+        loaded = one_loaded v w u node at h.loaded g count;
+        within = omega arith;
+        found_is = omega arith;
+      }
+
+-- all were
+pub all_counted : (v w : View) (node at key found : ℕ) → HasCounted v w node at key found
+    → length (keys_at v node) ≤ at → found ≡ child_count (keys_at v node) key
+all_counted v w node at key found h all =
+    sym (ap (λ ks. child_count ks key) (sym (take_all at (keys_at v node) all)) ∙ h.found_is)
+
+-- ---- by a gallop
+
+-- a gallop begins at a key that was loaded
+pub galloped_first : (keys : List ℕ) (x from : ℕ) (g : Gallop) → from < length keys
+    → get_or keys 0 0 ≤ x → x < get_or keys (length keys - 1) 0
+    → g.low ≡ cond (nat_lt x (get_or keys from 0)) 0 from
+    → g.high ≡ cond (nat_lt x (get_or keys from 0)) from (length keys - 1) → Gallops g from 1
+    → HasGalloped keys x from g 1
+galloped_first keys x from g less first last = by (nat_lt x (get_or keys from 0)) refl
   where
-    up : from < top → (top - from) + (top - result) ≤ distance from result
-    up climbed =
-        ⊎_elim
-        (λ down.
-        let under = below climbed in
-        let over = above (omega arith) in
-        let between = child.keys_rise keys result (top - 1) rises (omega arith) (omega arith) in
-        absurd (omega arith))
-        (λ same. omega arith)
-        (cases_lt result top)
+    by : (above : Bool) → nat_lt x (get_or keys from 0) ≡ above → g.low ≡ cond above 0 from
+        → g.high ≡ cond above from (length keys - 1) → Gallops g from 1
+        → HasGalloped keys x from g 1
+    by true test low high gallops =
+        let over : x < get_or keys from 0 = grind (arith, nat_tests) in
+        let a = ap (λ n. get_or keys n 0) low in
+        let b = ap (λ n. get_or keys n 0) high in
+        record {
+          within = omega arith;
+          below = omega arith;
+          above = omega arith;
+          gallops = gallops;
+        }
+    by false test low high gallops =
+        let under : get_or keys from 0 ≤ x = grind (arith, nat_tests) in
+        let a = ap (λ n. get_or keys n 0) low in
+        let b = ap (λ n. get_or keys n 0) high in
+        record {
+          within = omega arith;
+          below = omega arith;
+          above = omega arith;
+          gallops = gallops;
+        }
+
+-- a key that isn't above x isn't the last, where the last is
+pub before_last : (keys : List ℕ) (x from : ℕ) → from < length keys
+    → x < get_or keys (length keys - 1) 0 → nat_lt x (get_or keys from 0) ≡ false
+    → from + 1 < length keys
+before_last keys x from less last test =
+    let under : get_or keys from 0 ≤ x = grind (arith, nat_tests) in
+    ⊎_elim (λ (h : from + 1 < length keys). h)
+    (λ (h : length keys ≤ from + 1).
+    let same = ap (λ n. get_or keys n 0) (let e : from ≡ length keys - 1 = omega arith in e) in
+    absurd (omega arith))
+    (cases_lt (from + 1) (length keys))
+
+-- and the load of that key was its first look
+pub run_begins : (v w : View) → IsSound v → (node from key : ℕ) (g : Gallop) (word : ℕ)
+    → IsRow v node → GoesOnTo v w → w.loaded ≡ v.loaded + 1
+    → word ≡ get_or (keys_at v node) from 0 → from < length (keys_at v node)
+    → get_or (keys_at v node) 0 0 ≤ key
+    → key < get_or (keys_at v node) (length (keys_at v node) - 1) 0
+    → g.low ≡ cond (nat_lt key word) 0 from
+    → g.high ≡ cond (nat_lt key word) from (length (keys_at v node) - 1) → Gallops g from 1
+    → HasRun v w node from key g
+run_begins v w s node from key g word r go count is less first last low high gallops =
+    let keys = keys_at v node in
+    record {
+      looks = 1;
+      loaded = one_loaded v v w node 0 (none_loaded v s node r) go count;
+      galloped = galloped_first keys key from g less first last
+          (low ∙ ap (λ k. cond (nat_lt key k) 0 from) is)
+          (high ∙ ap (λ k. cond (nat_lt key k) from (length keys - 1)) is) gallops;
+    }
+
+-- a look of it is one more load
+pub run_on : (v w u : View) (node from key : ℕ) (g next : Gallop) (at word : ℕ)
+    → HasRun v w node from key g → GoesOnTo w u → u.loaded ≡ w.loaded + 1
+    → word ≡ get_or (keys_at w node) at 0 → g.low < at → at < g.high
+    → next.low ≡ cond (nat_lt key word) g.low at → next.high ≡ cond (nat_lt key word) at g.high
+    → ((guess looks : ℕ) → Gallops g guess looks → Gallops next guess (suc looks))
+    → HasRun v u node from key next
+run_on v w u node from key g next at word h go count is up down low high goes =
+    let keys = keys_at v node in
+    let here : word ≡ get_or keys at 0 = is ∙ ap (λ ks. get_or ks at 0) h.loaded.keys in
+    record {
+      looks = h.looks + 1;
+      loaded = one_loaded v w u node h.looks h.loaded go count;
+      galloped = galloped_on keys key from g next h.looks at h.galloped up down
+          (low ∙ ap (λ k. cond (nat_lt key k) g.low at) here)
+          (high ∙ ap (λ k. cond (nat_lt key k) at g.high) here)
+          (goes from h.looks h.galloped.gallops);
+    }
+
+-- at its end the child is found
+module _ (v w : View) (s : IsSound v) (node from key : ℕ) (g : Gallop)
+    (h : HasRun v w node from key g) (end : g.low + 1 ≡ g.high) where
+  pub run_to : IsRow v node → g.high ≡ child_count (keys_at v node) key
+  run_to r = sym (galloped_to (keys_at v node) key from g h.looks (keys_rise v s node r) h.galloped end)
+
+  -- in few loads
+  pub run-near : w.loaded ≤ v.loaded + distance from g.high + 3
+  run-near =
+      let near = end-near g from h.looks h.galloped.gallops end in
+      let count = h.loaded.count in
+      omega arith
+
+  pub run-far : (k : ℕ) → distance from g.high < 2 ^ k → w.loaded ≤ v.loaded + 2 * k + 2
+  run-far k less =
+      let far = end-far g from h.looks h.galloped.gallops end k less in
+      let count = h.loaded.count in
+      omega arith

@@ -4,3 +4,4 @@ pub mod LoadLemmas
 pub mod ReadLemmas
 pub mod LookLemmas
 pub mod SearchLemmas
+pub mod CostLemmas

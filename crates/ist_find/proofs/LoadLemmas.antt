@@ -1,24 +1,15 @@
 -- What a seat's loads tell the laws on searches, which speak of one log. Serves `reading` and `finding`.
 use Rattle.std.proofs.Common.{◌≡◌, ℕ, ◌≤◌, List, length, refl, sym, ap, subst, le_refl, arith}
 use Rattle.ist_core.specs.declared.pairs.Pair.{Pair}
-use Rattle.ist_core.specs.RowLayout.{anchor_slot_place}
-use Rattle.ist_core.specs.Snapshots.{Snapshot}
 use Rattle.ist_core.specs.Logs.{Log, GoesOn, same_log, one_event}
 use Rattle.ist_core.specs.Lawful.{state_of}
 use Rattle.ist_rule.specs.declared.view.View.{View}
-use Rattle.ist_rule.specs.Shown.{IsShown, shown_slot, shown_row}
+use Rattle.ist_core.specs.Shown.{IsShown}
 use Rattle.ist_rule.specs.Learning.{GoesOnTo, Looked}
 use Rattle.ist_rule.proofs.LaterLemmas.{later-goes_on}
-use Rattle.ist_histories.specs.Loads.{HasWord, in_anchor_slot, in_published, log_at, IsLoad}
+use Rattle.ist_histories.specs.Loads.{IsLoad}
 use Rattle.ist_histories.proofs.LoadOnLemmas.{at_prefix, load_on}
 use Rattle.ist_find.specs.Reads.{loaded_in}
-
--- a word that the table has at a place is shown there
-pub has_shown : (t : Snapshot) (place word : ℕ) → HasWord t place word → IsShown t place word
-has_shown t place word (in_anchor_slot at is) =
-    subst (λ p. IsShown t p word) (sym at) (subst (IsShown t anchor_slot_place) is shown_slot)
-has_shown t place word (in_published base k p e at got) =
-    subst (λ q. IsShown t q word) (sym at) (shown_row base p k e got)
 
 -- ---- the table and the log of a seat that went on
 
@@ -53,7 +44,7 @@ shown_load pairs words log place word least stood low =
     record {
       tells = λ x h. stood x
           (subst (λ l. IsShown (state_of pairs words l) place x) (at_prefix log log same_log)
-          (has_shown (state_of pairs words (log_at log (length log))) place x h));
+          h);
       place_is = refl;
       since = low;
       within = le_refl (length log);

@@ -1,6 +1,7 @@
 -- Looks at slots and the nodes that a search comes to, by what a seat has loaded. Serves `finding`.
-use Rattle.std.proofs.Common.{◌≡◌, ◌≢◌, ℕ, ◌≤◌, ◌⊎◌, List, length, Some, refl, sym, subst, inl, inr}
+use Rattle.std.proofs.Common.{◌≡◌, ◌≢◌, ℕ, ◌<◌, ◌≤◌, ◌⊎◌, List, [], ◌∷◌, ◌++◌, length, Option, Some, refl, sym, subst, inl, inr}
 use Rattle.std.proofs.Math.Nat.{le_trans}
+use Rattle.ist_core.specs.declared.loads.Load.{Load}
 use Rattle.ist_core.specs.declared.pairs.Pair.{Pair}
 use Rattle.ist_core.specs.declared.states.InnerRow.{InnerRow}
 use Rattle.ist_core.specs.RowLayout.{anchor}
@@ -20,32 +21,24 @@ use Rattle.ist_rule.specs.Rule.{IsSound}
 use Rattle.ist_rule.specs.Learning.{now, GoesOnTo}
 use Rattle.ist_rule.proofs.GoingOnLemmas.{goes_on_more}
 use Rattle.ist_dcss.proofs.SlotPlaceLemmas.{shown_in_slot}
-use Rattle.ist_histories.specs.Loads.{Load, log_at, IsLoad}
-use Rattle.ist_histories.specs.Searching.{ReadsSide, no_change, by_to, by_from, ComesTo, goes_down}
-use Rattle.ist_histories.proofs.LoadOnLemmas.{at_on, at_prefix, load_on, come_on}
+use Rattle.ist_histories.specs.Loads.{log_at, IsLoad}
+use Rattle.ist_histories.specs.Searching.{ReadsSide}
+use Rattle.ist_walks.specs.Walking.{ComesBy, goes_by}
+use Rattle.ist_walks.proofs.WalkLemmas.{meeting_comes, meeting_on}
+use Rattle.ist_histories.proofs.LoadOnLemmas.{at_on, at_prefix, load_on, side_on}
 use Rattle.ist_histories.proofs.LoadLemmas.{look_of, comes_of}
 use Rattle.ist_histories.proofs.SearchLemmas.{seen, leads_linked, there_on}
 use Rattle.ist_histories.proofs.PositionLemmas.{node_met, look_up}
 use Rattle.ist_histories.proofs.NeededLemmas.{all_needed}
-use Rattle.ist_find.specs.Searches.{IsNode, is_anchor, is_row}
-use Rattle.ist_find.specs.Reads.{Names, IsFoundAs, IsReached, IsEnd, TellsSide, TellsTarget, HasCome, HasLooked}
+use Rattle.ist_rule.specs.Watching.{IsNode, is_anchor, is_inner}
+use Rattle.ist_find.specs.Searches.{Names, HasCome}
+use Rattle.ist_find.specs.Reads.{IsPlain, IsFoundAs, IsReached, IsEnd, TellsSide, TellsTarget, HasLooked}
 use Rattle.ist_find.proofs.LoadLemmas.{by_table, goes_log, goes_length, shown_load}
-use Rattle.ist_find.proofs.ReadLemmas.{slot_named}
+use Rattle.ist_find.proofs.ReadLemmas.{slot_named, no_change_told, no_rebuild_told}
 
 -- ---- in a longer log
 
 module _ (pairs : List Pair) (words : ℕ) (log longer : Log) (g : GoesOn log longer) where
-  -- what a slot's word reads as stays
-  pub side_later : (slot : Load) (side last : ℕ) → ReadsSide pairs words log slot side last
-      → ReadsSide pairs words longer slot side last
-  side_later slot _ _ (no_change plain) = no_change plain
-  side_later slot _ _ (by_to base decision side is load said other) =
-      by_to base decision side is (load_on pairs words log longer g _ _ decision load) said
-      (load_on pairs words log longer g _ _ side other)
-  side_later slot _ _ (by_from base decision side is load unsaid other) =
-      by_from base decision side is (load_on pairs words log longer g _ _ decision load) unsaid
-      (load_on pairs words log longer g _ _ side other)
-
   -- the word that a slot held is a load of its place
   pub slot_later : EachEnabled (start pairs words) log → (node i word least : ℕ)
       → SlotHolds (state_of pairs words log) node i word → least ≤ length log
@@ -67,16 +60,18 @@ module _ (pairs : List Pair) (words : ℕ) (log longer : Log) (g : GoesOn log lo
 -- ---- the node
 
 -- a node to which a search has come is the anchor or a published inner row
-pub come_node : (v : View) → IsSound v → (key node : ℕ) → HasCome v key node → IsNode v node
-come_node v s key node h =
-    let met = node_met v.start v.words s.lawful.opens v.log s.lawful.enabled key v.loads.since h.last
-    node h.comes in
-    at (there_on v.start v.words s.lawful.opens key (log_at v.log h.last) v.log (at_on v.log h.last)
+pub come_node : (v : View) → IsSound v → (key last node : ℕ) (rows : List ℕ)
+    → ComesBy v.start v.words v.log key v.loads.since last node rows → IsNode (now v) node
+come_node v s key last node rows comes =
+    let met = node_met v.start v.words s.lawful.opens v.log s.lawful.enabled key v.loads.since last
+    node (meeting_comes v.start v.words v.log key v.loads.since last node rows comes) in
+    at (there_on v.start v.words s.lawful.opens key (log_at v.log last) v.log (at_on v.log last)
     s.lawful.enabled node met.published)
   where
-    at : (node ≡ anchor) ⊎ ((r : InnerRow) × ((now v).pieces node ≡ Some (Inner r))) → IsNode v node
+    at : (node ≡ anchor) ⊎ ((r : InnerRow) × ((now v).pieces node ≡ Some (Inner r)))
+        → IsNode (now v) node
     at (inl e) = is_anchor e
-    at (inr e) = is_row record { row = e.0; published = e.1 }
+    at (inr e) = is_inner e.0 e.1
 
 -- the word in a slot names a row
 pub holds_named : (v : View) → IsSound v → (node i word : ℕ) → SlotHolds (now v) node i word
@@ -87,11 +82,30 @@ holds_named v s node i word h =
 
 -- ---- the look
 
+-- a search came to a node still where its seat made loads
+pub comes_later : (v w : View) → GoesOnTo v w → (key last node : ℕ) (rows : List ℕ)
+    → ComesBy v.start v.words v.log key v.loads.since last node rows
+    → ComesBy w.start w.words w.log key w.loads.since last node rows
+comes_later v w g key last node rows comes =
+    subst (λ n. ComesBy w.start w.words w.log key n last node rows) (sym g.since)
+    (meeting_on w.start w.words v.log w.log (goes_log v w g) key v.loads.since last node rows
+    (by_table v w g (λ p n. ComesBy p n v.log key v.loads.since last node rows) comes))
+
+-- so it has come there still
+pub come_later : (v w : View) → GoesOnTo v w → (key node : ℕ) (rows : List ℕ)
+    → HasCome v key node rows → HasCome w key node rows
+come_later v w g key node rows h =
+    record {
+      last = h.last;
+      until = le_trans h.until (goes_length v w g);
+      comes = comes_later v w g key h.last node rows h.comes;
+    }
+
 -- the child, the side and the target tell what a look at the slot tells
-pub look_told : (v u t w : View) (key node i word side : ℕ) (ref : Ref) → HasCome v key node
-    → GoesOnTo v u → IsChildFor (now u) node key i → SlotHolds (now u) node i word
-    → TellsSide u t word side → TellsTarget t w side ref → HasLooked w key node i ref
-look_told v u t w key node i word side ref h a index holds told target =
+pub look_told : (v u t w : View) (key node i word side : ℕ) (ref : Ref) (rows : List ℕ)
+    → HasCome v key node rows → GoesOnTo v u → IsChildFor (now u) node key i → SlotHolds (now u) node i word
+    → TellsSide u t word side → TellsTarget t w side ref → HasLooked w key node i rows ref
+look_told v u t w key node i word side ref rows h a index holds told target =
     let b = goes_on_more u t w told.seen target.seen in
     let g = goes_on_more v u w a b in
     let place = place_of_slot (state_of w.start w.words u.log) node i in
@@ -99,9 +113,7 @@ look_told v u t w key node i word side ref h a index holds told target =
       least = h.last;
       last = told.has.last;
       until = le_trans told.has.until (goes_length t w target.seen);
-      comes = subst (λ n. ComesTo w.start w.words w.log key n h.last node) (sym g.since)
-          (come_on w.start w.words v.log w.log (goes_log v w g) key v.loads.since h.last node
-          (by_table v w g (λ p n. ComesTo p n v.log key v.loads.since h.last node) h.comes));
+      comes = comes_later v w g key h.last node rows h.comes;
       look = record {
         slot = record { place = place; word = word; length = length u.log };
         index = i;
@@ -114,7 +126,7 @@ look_told v u t w key node i word side ref h a index holds told target =
             (by_table u w b (λ p n. SlotHolds (state_of p n u.log) node i word) holds)
             (le_trans h.until (goes_length v u a));
         side = side;
-        side_is = side_later w.start w.words t.log w.log (goes_log t w target.seen)
+        side_is = side_on w.start w.words t.log w.log (goes_log t w target.seen)
             record { place = place; word = word; length = length u.log } side told.has.last
             (by_table t w target.seen (λ p n. ReadsSide p n t.log
             record { place = place; word = word; length = length u.log } side told.has.last)
@@ -125,8 +137,9 @@ look_told v u t w key node i word side ref h a index holds told target =
     }
 
 -- a search never reads a slot as a part that isn't built yet
-pub look_is_set : (v : View) → IsSound v → (key node i : ℕ) → ¬ (HasLooked v key node i Unset)
-look_is_set v s key node i h =
+pub look_is_set : (v : View) → IsSound v → (key node i : ℕ) (rows : List ℕ)
+    → ¬ (HasLooked v key node i rows Unset)
+look_is_set v s key node i rows h =
     let p = v.start in
     let n = v.words in
     let enabled : (m : ℕ) → EachEnabled (start p n) (log_at v.log m) =
@@ -134,7 +147,8 @@ look_is_set v s key node i h =
     let opens = s.lawful.opens in
     let saw = seen p n opens (all_needed p n opens) key (log_at v.log v.loads.since)
     (log_at v.log h.least) (log_at v.log h.last) node (Some Unset) (enabled h.last)
-    (comes_of p n opens v.log s.lawful.enabled key v.loads.since h.least node h.comes)
+    (comes_of p n opens v.log s.lawful.enabled key v.loads.since h.least node
+    (meeting_comes p n v.log key v.loads.since h.least node rows h.comes))
     (look_of p n opens v.log s.lawful.enabled key h.least h.last node Unset h.look) in
     linked_set p n opens saw.at
     (enabled_before (start p n) saw.at (log_at v.log h.last) saw.until (enabled h.last)) node
@@ -142,24 +156,25 @@ look_is_set v s key node i h =
     saw.read.reads
 
 -- what it reads there is reached: nothing, a leaf, or an inner row above the node
-pub look_reaches : (v : View) → IsSound v → (key node i : ℕ) (ref : Ref)
-    → HasLooked v key node i ref → IsFoundAs v ref → IsReached v node ref
-look_reaches v s key node i Empty h f = tt
-look_reaches v s key node i Unset h f = absurd (look_is_set v s key node i h)
-look_reaches v s key node i (LeafAt base) h f = f
-look_reaches v s key node i (InnerAt base) h f = (
+pub look_reaches : (v : View) → IsSound v → (key node i : ℕ) (rows : List ℕ) (ref : Ref)
+    → HasLooked v key node i rows ref → IsFoundAs v ref → IsReached v node ref
+look_reaches v s key node i rows Empty h f = tt
+look_reaches v s key node i rows Unset h f = absurd (look_is_set v s key node i rows h)
+look_reaches v s key node i rows (LeafAt base) h f = f
+look_reaches v s key node i rows (InnerAt base) h f = (
   look_up v.start v.words s.lawful.opens v.log s.lawful.enabled key v.loads.since h.least h.last
-      node base h.comes h.look,
+      node base (meeting_comes v.start v.words v.log key v.loads.since h.least node rows h.comes)
+      h.look,
   f,
 )
-look_reaches v s key node i (ChangeAt base) h f = absurd f
-look_reaches v s key node i (RebuildAt base) h f = absurd f
+look_reaches v s key node i rows (ChangeAt base) h f = absurd f
+look_reaches v s key node i rows (RebuildAt base) h f = absurd f
 
 -- a search that read an inner row has come to it
-pub look_comes : (v : View) (key node i base : ℕ) → HasLooked v key node i (InnerAt base)
-    → HasCome v key base
-look_comes v key node i base h =
-    record { last = h.last; until = h.until; comes = goes_down h.comes h.look }
+pub look_comes : (v : View) (key node i : ℕ) (rows : List ℕ) (base : ℕ)
+    → HasLooked v key node i rows (InnerAt base) → HasCome v key base (rows ++ base ∷ [])
+look_comes v key node i rows base h =
+    record { last = h.last; until = h.until; comes = goes_by h.comes h.look }
 
 -- where a search read no inner row, it ends
 pub reached_end : (v : View) (node : ℕ) (ref : Ref) → IsReached v node ref
@@ -170,3 +185,48 @@ reached_end v node (LeafAt base) h other = h
 reached_end v node (InnerAt base) h other = absurd (other base refl)
 reached_end v node (ChangeAt base) h other = absurd h
 reached_end v node (RebuildAt base) h other = absurd h
+
+-- ---- words as they stand
+
+-- the word in the slot, which names no change and no rebuild, is a look at it
+pub word_looked : (v w : View) → GoesOnTo v w → (key node i word : ℕ) (ref : Ref) (rows : List ℕ)
+    → HasCome v key node rows → IsChildFor (now w) node key i → SlotHolds (now w) node i word
+    → ref_of word ≡ Some ref → ((base : ℕ) → ref ≢ ChangeAt base)
+    → ((base : ℕ) → ref ≢ RebuildAt base) → HasLooked w key node i rows ref
+word_looked v w g key node i word ref rows h index holds is no_change no_rebuild =
+    let named = holds_named w g.sound node i word holds in
+    let plain : IsPlain (ref_of word) =
+    λ base e. no_change base (some_same (ref_of word) ref (ChangeAt base) is e) in
+    look_told v w w w key node i word word ref rows h g index holds
+    (no_change_told w g.sound word named plain)
+    (no_rebuild_told w g.sound word ref is named plain
+    (λ base e. no_rebuild base (some_same (ref_of word) ref (RebuildAt base) is e)))
+  where
+    some_same : (o : Option Ref) (a b : Ref) → o ≡ Some a → o ≡ Some b → a ≡ b
+    some_same o a b e f = cc
+
+-- a walk goes down by a word that is an inner row
+pub word_down : (v w : View) → GoesOnTo v w → (key node i word child : ℕ) (rows : List ℕ)
+    → HasCome v key node rows → IsChildFor (now w) node key i → SlotHolds (now w) node i word
+    → ref_of word ≡ Some (InnerAt child) → HasLooked w key node i rows (InnerAt child)
+word_down v w g key node i word child rows h index holds is =
+    word_looked v w g key node i word (InnerAt child) rows h index holds is (λ base e. cc)
+    (λ base e. cc)
+
+-- and never meets Unset
+pub word_is_set : (v w : View) → GoesOnTo v w → (key node i word : ℕ) (rows : List ℕ)
+    → HasCome v key node rows → IsChildFor (now w) node key i → SlotHolds (now w) node i word
+    → ref_of word ≢ Some Unset
+word_is_set v w g key node i word rows h index holds is =
+    look_is_set w g.sound key node i rows
+    (word_looked v w g key node i word Unset rows h index holds is (λ base e. cc) (λ base e. cc))
+
+-- the row lies above the node
+pub step_up : (v w : View) → GoesOnTo v w → (key node i word child : ℕ) (rows : List ℕ)
+    → HasCome v key node rows → IsChildFor (now w) node key i → SlotHolds (now w) node i word
+    → ref_of word ≡ Some (InnerAt child) → node < child
+step_up v w g key node i word child rows h index holds is =
+    let look = word_down v w g key node i word child rows h index holds is in
+    look_up w.start w.words g.sound.lawful.opens w.log g.sound.lawful.enabled key w.loads.since
+    look.least look.last node child
+    (meeting_comes w.start w.words w.log key w.loads.since look.least node rows look.comes) look.look

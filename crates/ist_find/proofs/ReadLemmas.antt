@@ -1,5 +1,5 @@
 -- What a word reads as, by the loads of its change, its rebuild or its leaf. Serves `reading`.
-use Rattle.std.proofs.Common.{◌≡◌, ◌≢◌, ℕ, ◌+◌, ◌≤◌, ◌==◌, Bool, true, false, if◌then◌else◌, length, slice_get, Option, Some, None, refl, sym, ap, ◌∙◌, subst, le_refl, ⊎_elim}
+use Rattle.std.proofs.Common.{◌≡◌, ◌≢◌, ℕ, ◌+◌, ◌≤◌, ◌==◌, Bool, true, false, length, slice_get, Option, Some, None, refl, sym, ap, ◌∙◌, subst, le_refl, ⊎_elim}
 use Rattle.std.proofs.lemmas.Bool.Decides.{eqb_tells}
 use Rattle.std.proofs.Math.Nat.{le_trans}
 use Rattle.ist_core.specs.RowLayout.{change_decision_offset, change_from_offset, change_to_offset, rebuild_target_offset, leaf_key_offset, leaf_value_offset}
@@ -16,24 +16,25 @@ use Rattle.ist_rule.proofs.GoingOnLemmas.{goes_on_same, goes_on_more, looked_goe
 use Rattle.ist_dcss.proofs.FieldLemmas.{looked_row}
 use Rattle.ist_histories.specs.Loads.{IsLoad}
 use Rattle.ist_histories.specs.Searching.{no_change, by_to, by_from, no_rebuild, by_target, of_nothing, of_other, of_key}
-use Rattle.ist_find.specs.Searches.{IsRow}
-use Rattle.ist_find.specs.Reads.{IsLeaf, IsChange, IsRebuild, Names, IsPlain, IsFoundAs, IsEnd, loaded_in, side_offset_of, HasSide, TellsSide, TellsTarget, TellsValue}
+use Rattle.ist_find.specs.Searches.{IsRow, SeesLeaf, SeesChange, SeesRebuild, Names}
+use Rattle.ist_dcss.specs.Naming.{outcome_offset_of}
+use Rattle.ist_find.specs.Reads.{IsPlain, IsFoundAs, IsEnd, loaded_in, HasSideRead, TellsSide, TellsTarget, TellsValue}
 use Rattle.ist_find.proofs.RowLemmas.{goes_grow}
 use Rattle.ist_find.proofs.LoadLemmas.{goes_length, looked_load, load_later}
 
 -- ---- rows stay
 
-pub change_on : (v w : View) → GoesOnTo v w → (base : ℕ) → IsChange v base → IsChange w base
+pub change_on : (v w : View) → GoesOnTo v w → (base : ℕ) → SeesChange v base → SeesChange w base
 change_on v w g base r =
     let on = change_there (now v).pieces (now w).pieces (goes_grow v w g) base r.row r.published in
     record { row = on.0; published = on.1 }
 
-pub rebuild_on : (v w : View) → GoesOnTo v w → (base : ℕ) → IsRebuild v base → IsRebuild w base
+pub rebuild_on : (v w : View) → GoesOnTo v w → (base : ℕ) → SeesRebuild v base → SeesRebuild w base
 rebuild_on v w g base r =
     let on = rebuild_there (now v).pieces (now w).pieces (goes_grow v w g) base r.row r.published in
     record { row = on.0; published = on.1 }
 
-pub leaf_on : (v w : View) → GoesOnTo v w → (base : ℕ) → IsLeaf v base → IsLeaf w base
+pub leaf_on : (v w : View) → GoesOnTo v w → (base : ℕ) → SeesLeaf v base → SeesLeaf w base
 leaf_on v w g base r =
     record {
       row = r.row;
@@ -67,11 +68,11 @@ slot_named v node i (Some (RebuildAt base)) h = record { row = h.row; published 
 
 -- a change that is named is published, and so is a rebuild
 pub change_named : (v : View) (word base : ℕ) → ref_of word ≡ Some (ChangeAt base)
-    → Names v (ref_of word) → IsChange v base
+    → Names v (ref_of word) → SeesChange v base
 change_named v word base e h = subst (Names v) e h
 
 pub rebuild_named : (v : View) (word base : ℕ) → ref_of word ≡ Some (RebuildAt base)
-    → Names v (ref_of word) → IsRebuild v base
+    → Names v (ref_of word) → SeesRebuild v base
 rebuild_named v word base e h = subst (Names v) e h
 
 pub named_some : (v : View) (ref : Option Ref) → Names v ref → ref ≢ None
@@ -81,7 +82,7 @@ named_some v (Some ref) h e = cc
 -- ---- a change
 
 -- both sides of a published change name rows, and no change
-sides_named : (w : View) → IsSound w → (base : ℕ) (r : IsChange w base)
+sides_named : (w : View) → IsSound w → (base : ℕ) (r : SeesChange w base)
     → (Names w (ref_of r.row.from) × IsPlain (ref_of r.row.from))
     × (Names w (ref_of r.row.to) × IsPlain (ref_of r.row.to))
 sides_named w s base r =
@@ -93,7 +94,7 @@ sides_named w s base r =
 
 -- the decision, and then a side, were loaded
 module _ (v u w : View) (word base decision side p q : ℕ) (is : ref_of word ≡ Some (ChangeAt base))
-    (r : IsChange v base) (first : Looked v p decision u) (at : p ≡ base + change_decision_offset)
+    (r : SeesChange v base) (first : Looked v p decision u) (at : p ≡ base + change_decision_offset)
     (second : Looked u q side w) where
   abbrev g : GoesOnTo v u
   g = looked_goes_on v p decision u first
@@ -101,7 +102,7 @@ module _ (v u w : View) (word base decision side p q : ℕ) (is : ref_of word �
   abbrev h : GoesOnTo u w
   h = looked_goes_on u q side w second
 
-  abbrev row : IsChange w base
+  abbrev row : SeesChange w base
   row = change_on u w h base (change_on v u g base r)
 
   -- the load of the decision, in the log behind both
@@ -118,7 +119,7 @@ module _ (v u w : View) (word base decision side p q : ℕ) (is : ref_of word �
   got k word there place = looked_row u q side w second base (Change row.row) k word row.published there place
 
   tells : (from : ℕ) → side ≡ from → Names w (ref_of from) × IsPlain (ref_of from)
-      → HasSide v w word side → TellsSide v w word side
+      → HasSideRead v w word side → TellsSide v w word side
   tells from same named has =
       record {
         seen = goes_on_more v u w g h;
@@ -153,13 +154,12 @@ module _ (v u w : View) (word base decision side p q : ℕ) (is : ref_of word �
             (goes_length v w (goes_on_more v u w g h)));
       }
 
-  pub side_told : (offset : ℕ) → q ≡ base + offset → offset ≡ side_offset_of decision
+  pub side_told : (offset : ℕ) → q ≡ base + offset → offset ≡ outcome_offset_of (decision == decided_yes)
       → TellsSide v w word side
   side_told offset there which =
       let place : (b : Bool) → (decision == decided_yes) ≡ b
-      → q ≡ base + (if b then change_to_offset else change_from_offset) =
-      λ b e. there ∙ ap (λ n. base + n) (which
-      ∙ ap (λ x. if x then change_to_offset else change_from_offset) e) in
+      → q ≡ base + outcome_offset_of b =
+      λ b e. there ∙ ap (λ n. base + n) (which ∙ ap outcome_offset_of e) in
       ⊎_elim (λ e. yes e.1 (place true e.0)) (λ e. no e.1 (place false e.0))
       (eqb_tells decision decided_yes)
 
@@ -179,7 +179,7 @@ no_change_told v s word named plain =
 
 -- the target was loaded
 pub target_told : (v w : View) (word base target p : ℕ) → ref_of word ≡ Some (RebuildAt base)
-    → IsRebuild v base → Looked v p target w → p ≡ base + rebuild_target_offset
+    → SeesRebuild v base → Looked v p target w → p ≡ base + rebuild_target_offset
     → TellsTarget v w word (InnerAt target)
 target_told v w word base target p is r l at =
     let g = looked_goes_on v p target w l in

@@ -15,14 +15,14 @@ use Rattle.ist_rule.specs.declared.view.View.{View}
 use Rattle.ist_rule.specs.Rule.{IsSound}
 use Rattle.ist_rule.specs.Learning.{now, GoesOnTo, Looked}
 use Rattle.ist_rule.proofs.GoingOnLemmas.{looked_goes_on}
-use Rattle.ist_dcss.proofs.GoingLemmas.{goes_on_helped, helped_grow}
+use Rattle.ist_rule.proofs.WentOnLemmas.{goes_on_grow}
 use Rattle.ist_dcss.proofs.SlotPlaceLemmas.{has_degree}
 use Rattle.ist_dcss.proofs.FieldLemmas.{row_low, looked_row}
 use Rattle.ist_find.specs.Searches.{IsRow, keys_in, keys_at}
 
 -- rows grow as a seat goes on
 pub goes_grow : (v w : View) → GoesOnTo v w → AllGrow (now v).pieces (now w).pieces
-goes_grow v w g = helped_grow 0 v w (goes_on_helped 0 v w g)
+goes_grow v w g = goes_on_grow v w g
 
 -- a published inner row is published still
 pub row_on : (v w : View) → GoesOnTo v w → (node : ℕ) → IsRow v node → IsRow w node

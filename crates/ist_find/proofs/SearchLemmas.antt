@@ -1,5 +1,5 @@
 -- A search from its begin to its end, as its seat knows it. Serves `find_from_anchor`.
-use Rattle.std.proofs.Common.{◌≡◌, ℕ, suc, ◌-◌, ◌≤◌, List, ◌∷◌, drop, length, Option, refl, sym, ap, ◌∙◌, subst, arith}
+use Rattle.std.proofs.Common.{◌≡◌, ℕ, suc, ◌-◌, ◌≤◌, List, [], ◌∷◌, drop, length, Option, refl, sym, ap, ◌∙◌, subst, arith}
 use Rattle.std.proofs.Math.Nat.{le_trans}
 use Rattle.ist_core.specs.declared.pairs.Pair.{Pair}
 use Rattle.ist_core.specs.Arithmetic.{child_count}
@@ -21,21 +21,22 @@ use Rattle.ist_rule.specs.Learning.{now, GoesOnTo, Turned, searching}
 use Rattle.ist_rule.proofs.LaterLemmas.{later_more, later-goes_on}
 use Rattle.ist_rule.specs.Authors.{Later}
 use Rattle.ist_histories.specs.Loads.{log_at, IsLoad}
-use Rattle.ist_histories.specs.Searching.{ReadsTarget, no_rebuild, by_target, LooksAt, ComesTo, begins, HasPosition}
+use Rattle.ist_histories.specs.Searching.{LooksAt, ComesTo, HasPosition}
+use Rattle.ist_walks.specs.Walking.{begins_by}
+use Rattle.ist_walks.proofs.WalkLemmas.{meeting_comes}
 use Rattle.ist_histories.proofs.ChangeLemmas.{changes_rise}
-use Rattle.ist_histories.proofs.LoadOnLemmas.{at_on, at_prefix, load_on, come_on}
+use Rattle.ist_histories.proofs.LoadOnLemmas.{at_on, at_prefix, load_on, come_on, side_on, target_on}
 use Rattle.ist_histories.proofs.PositionLemmas.{search_position, node_met}
-use Rattle.ist_find.specs.Searches.{HasSearched, HasFound}
-use Rattle.ist_find.specs.Reads.{HasCome, HasLooked, TellsValue}
+use Rattle.ist_find.specs.Searches.{HasSearched, HasFound, HasCome}
+use Rattle.ist_find.specs.Reads.{HasLooked, TellsValue}
 use Rattle.ist_find.proofs.LoadLemmas.{by_table, goes_log, length_rises}
-use Rattle.ist_find.proofs.LookLemmas.{side_later}
 
 -- ---- the begin
 
 -- a search begins at the anchor
-pub begun_comes : (v w : View) (key : ℕ) → Turned v (searching v) w → HasCome w key anchor
+pub begun_comes : (v w : View) (key : ℕ) → Turned v (searching v) w → HasCome w key anchor []
 begun_comes v w key t =
-    record { last = w.loads.since; until = t.sound.well_made.since; comes = begins }
+    record { last = w.loads.since; until = t.sound.well_made.since; comes = begins_by }
 
 -- a seat that has begun a search and gone on by loads has searched
 pub has_searched : (v b w : View) → Turned v (searching v) b → GoesOnTo b w → HasSearched v w
@@ -68,13 +69,6 @@ log_stays log _ (one_event {log = rest} event g) n h =
     ap (λ k. drop k (event ∷ rest)) more ∙ log_stays log rest g n h
 
 module _ (pairs : List Pair) (words : ℕ) (log longer : Log) (g : GoesOn log longer) where
-  -- what a rebuild reads as stays
-  target_later : (least side : ℕ) (ref : Ref) → ReadsTarget pairs words log least side ref
-      → ReadsTarget pairs words longer least side ref
-  target_later least side _ (no_rebuild ref is plain) = no_rebuild ref is plain
-  target_later least side _ (by_target base target is load) =
-      by_target base target is (load_on pairs words log longer g _ _ target load)
-
   -- a look is one in a longer log too, at the same slot
   look_later : (key least last node i : ℕ) (ref : Ref)
       → (x : LooksAt pairs words log key least last node ref) → x.index ≡ i
@@ -89,8 +83,8 @@ module _ (pairs : List Pair) (words : ℕ) (log longer : Log) (g : GoesOn log lo
               (place_of_slot (state_of pairs words l) node x.index) least x.slot) same
               (load_on pairs words log longer g _ least x.slot x.is_load);
           side = x.side;
-          side_is = side_later pairs words log longer g x.slot x.side last x.side_is;
-          ref_is = target_later last x.side ref x.ref_is;
+          side_is = side_on pairs words log longer g x.slot x.side last x.side_is;
+          ref_is = target_on pairs words log longer g last x.side ref x.ref_is;
         },
         e,
       )
@@ -104,9 +98,9 @@ child_later t u g node key i (of_row r e f) =
     of_row on.0 on.1 (f ∙ ap (λ ks. child_count ks key) (sym on.2.keys))
 
 -- the value was loaded behind the last look
-pub has_found : (v w : View) (key node i : ℕ) (ref : Ref) (value : Option ℕ)
-    → HasLooked v key node i ref → TellsValue v w key ref value → HasFound w key node i value
-has_found v w key node i ref value h t =
+pub has_found : (v w : View) (key node i : ℕ) (rows : List ℕ) (ref : Ref) (value : Option ℕ)
+    → HasLooked v key node i rows ref → TellsValue v w key ref value → HasFound w key node i value
+has_found v w key node i rows ref value h t =
     let g = goes_log v w t.seen in
     let look = by_table v w t.seen
     (λ p n. (y : LooksAt p n v.log key h.least h.last node ref) × (y.index ≡ i))
@@ -120,7 +114,8 @@ has_found v w key node i ref value h t =
         since = t.seen.sound.well_made.since;
         comes = subst (λ n. ComesTo w.start w.words w.log key n h.least node) (sym t.seen.since)
             (come_on w.start w.words v.log w.log g key v.loads.since h.least node
-            (by_table v w t.seen (λ p n. ComesTo p n v.log key v.loads.since h.least node) h.comes));
+            (by_table v w t.seen (λ p n. ComesTo p n v.log key v.loads.since h.least node)
+            (meeting_comes v.start v.words v.log key v.loads.since h.least node rows h.comes)));
         ref = ref;
         look = later.0;
         value_is = t.has h.last h.until;

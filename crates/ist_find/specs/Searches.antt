@@ -1,14 +1,20 @@
 -- What a search tells: by which words it came to its answer, and what the seat knows behind it.
-use Rattle.std.specs.Prelude.{◌≡◌, ℕ, ◌+◌, ◌-◌, ◌≤◌, List, [], length, slice_index, Option, Some, None}
+use Rattle.std.specs.Prelude.{◌≡◌, ℕ, ◌+◌, ◌≤◌, List, [], length, Option, Some, None}
+use Rattle.std.specs.List.{sum_by}
+use Rattle.ist_core.specs.declared.states.ChangeRow.{ChangeRow}
 use Rattle.ist_core.specs.declared.states.InnerRow.{InnerRow}
-use Rattle.ist_core.specs.RowLayout.{anchor}
-use Rattle.ist_core.specs.Pieces.{Inner, as_inner}
-use Rattle.ist_math.specs.Guess.{guess_of}
+use Rattle.ist_core.specs.declared.states.LeafRow.{LeafRow}
+use Rattle.ist_core.specs.declared.states.RebuildRow.{RebuildRow}
+use Rattle.ist_core.specs.Arithmetic.{child_count}
+use Rattle.ist_core.specs.References.{Ref, Empty, Unset, LeafAt, InnerAt, ChangeAt, RebuildAt}
+use Rattle.ist_core.specs.Pieces.{Leaf, Inner, Change, Rebuild, as_inner}
+use Rattle.ist_math.specs.Guess.{guess_in, distance}
 use Rattle.ist_rule.specs.declared.view.View.{View}
 use Rattle.ist_rule.specs.Authors.{Later}
 use Rattle.ist_rule.specs.Rule.{IsSound}
 use Rattle.ist_rule.specs.Learning.{now}
 use Rattle.ist_histories.specs.Searching.{Searched}
+use Rattle.ist_walks.specs.Walking.{ComesBy, IsChainOf}
 
 -- ---- nodes
 
@@ -16,11 +22,6 @@ use Rattle.ist_histories.specs.Searching.{Searched}
 pub record IsRow (v : View) (node : ℕ) : Type 0 where
   pub row : InnerRow
   pub published : (now v).pieces node ≡ Some (Inner row)
-
--- the node is the anchor, or such a row
-pub data IsNode (v : View) (node : ℕ) : Type 0 where
-  is_anchor : node ≡ anchor → IsNode v node
-  is_row : IsRow v node → IsNode v node
 
 -- the keys of an inner row
 abbrev pub keys_in : Option InnerRow → List ℕ
@@ -31,14 +32,54 @@ keys_in None = []
 abbrev pub keys_at : View → ℕ → List ℕ
 keys_at v node = keys_in (as_inner ((now v).pieces node))
 
--- the child at which linear interpolation between the end keys points
-abbrev pub guess_in : List ℕ → ℕ → ℕ
-guess_in keys key =
-    guess_of (slice_index keys 0) (slice_index keys (length keys - 1)) (length keys) key
+-- ---- what a word names
 
--- how far two numbers lie apart
-abbrev pub distance : ℕ → ℕ → ℕ
-distance a b = (a - b) + (b - a)
+-- a leaf is published at the base
+pub record SeesLeaf (v : View) (base : ℕ) : Type 0 where
+  pub row : LeafRow
+  pub published : (now v).pieces base ≡ Some (Leaf row)
+
+-- so is a change
+pub record SeesChange (v : View) (base : ℕ) : Type 0 where
+  pub row : ChangeRow
+  pub published : (now v).pieces base ≡ Some (Change row)
+
+-- so is a rebuild
+pub record SeesRebuild (v : View) (base : ℕ) : Type 0 where
+  pub row : RebuildRow
+  pub published : (now v).pieces base ≡ Some (Rebuild row)
+
+-- the reference names a row of its kind that is published in the seat's log, or no row
+abbrev pub Names : View → Option Ref → Type 0
+Names v None = ⊥
+Names v (Some Empty) = Unit {0}
+Names v (Some Unset) = Unit {0}
+Names v (Some (LeafAt base)) = SeesLeaf v base
+Names v (Some (InnerAt base)) = IsRow v base
+Names v (Some (ChangeAt base)) = SeesChange v base
+Names v (Some (RebuildAt base)) = SeesRebuild v base
+
+-- ---- where a search stands
+
+-- the seat's search for the key has come to the node, by way of these rows, of which it is the last
+pub record HasCome (v : View) (key node : ℕ) (rows : List ℕ) : Type 0 where
+  pub last : ℕ
+  pub until : last ≤ length v.log
+  pub comes : ComesBy v.start v.words v.log key v.loads.since last node rows
+
+-- the seat's search for the key has come to the node
+abbrev pub Came : View → ℕ → ℕ → Type 0
+Came v key node = (rows : List ℕ) × HasCome v key node rows
+
+-- how many loads a row costs at most: as many as the guess lies off the child for the key, and 12
+abbrev pub row_cost : View → ℕ → ℕ → ℕ
+row_cost v key row =
+    let keys = keys_at v row in
+    distance (guess_in keys key) (child_count keys key) + 12
+
+-- and how many these rows cost together
+abbrev pub cost_of : View → ℕ → List ℕ → ℕ
+cost_of v key = sum_by (row_cost v key)
 
 -- ---- a search
 
@@ -56,3 +97,10 @@ pub record HasSearched (v w : View) : Type 0 where
 pub record HasFound (v : View) (key node index : ℕ) (value : Option ℕ) : Type 0 where
   pub searched : Searched v.start v.words v.log key v.loads.since node value
   pub index_is : searched.look.index ≡ index
+
+-- a search that ended at the node made few loads: 12 at most, and what the rows on the chain of the
+-- node cost
+pub record HasFewLoads (v w : View) (key node : ℕ) : Type 0 where
+  pub rows : List ℕ
+  pub chain : IsChainOf w.start w.words w.log node rows
+  pub few : w.loaded ≤ v.loaded + 12 + cost_of w key rows

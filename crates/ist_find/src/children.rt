@@ -1,8 +1,11 @@
 //! The child of a node for a key, with what its slot holds.
-ghost use Rattle.std.specs.Prelude.{◌≡◌, ◌+◌, ◌≤◌};
+ghost use Rattle.std.specs.Prelude.{◌≡◌, ℕ, ◌+◌, ◌*◌, ◌<◌, ◌≤◌, ◌^◌};
+ghost use Rattle.ist_core.specs.RowLayout.{anchor};
 ghost use Rattle.ist_core.specs.Slots.{SlotHolds, IsChildFor};
 ghost use Rattle.ist_rule.specs.Learning.{now, GoesOnTo};
-ghost use Rattle.ist_find.specs.Searches.{IsRow, IsNode, keys_at, guess_in, distance};
+ghost use Rattle.ist_math.specs.Guess.{guess_in, distance};
+ghost use Rattle.ist_rule.specs.Watching.{IsNode};
+ghost use Rattle.ist_find.specs.Searches.{IsRow, keys_at};
 
 use crate::answers::Child;
 use crate::keys::{child_for, key_count};
@@ -12,8 +15,9 @@ use ist_rule::{TreeSeat, TreeTable, know, load};
 /// The child for the key of an inner row that is published in the seat's log, and the word that its
 /// slot holds at the last step of this call.
 ///
-/// It looks first where linear interpolation between the end keys points, and goes on from there
-/// one key at a time.
+/// Of at most four keys it loads each. Otherwise it looks first where linear interpolation between
+/// the end keys points, and gallops from there: it goes on by steps of one, two, four, .. keys, and
+/// halves what lies between once it passed the child.
 ///
 /// Source: Perl, Itai and Avni, "Interpolation search", CACM 1978.
 pub fn child_at(table: &TreeTable, seat: &mut TreeSeat, node: u32, key: u64) -> Child
@@ -24,7 +28,10 @@ pub fn child_at(table: &TreeTable, seat: &mut TreeSeat, node: u32, key: u64) -> 
     ensures word { SlotHolds (now seat.new.view) node result.index result.word }
     ensures seen { GoesOnTo seat.old.view seat.new.view }
     ensures loads { let guess = guess_in (keys_at seat.old.view node) key in
-        seat.new.view.loaded ≤ seat.old.view.loaded + distance guess result.index + 6 }
+        seat.new.view.loaded ≤ seat.old.view.loaded + distance guess result.index + 7 }
+    ensures loads_far { let guess = guess_in (keys_at seat.old.view node) key in
+        (k : ℕ) → distance guess result.index < 2 ^ k
+        → seat.new.view.loaded ≤ seat.old.view.loaded + 2 * k + 6 }
 {
     let count = key_count(table, seat, node);
     let index = child_for(table, seat, node, count, key);
@@ -36,11 +43,15 @@ pub fn child_at(table: &TreeTable, seat: &mut TreeSeat, node: u32, key: u64) -> 
 /// The same of the anchor too, whose one child is for all keys.
 pub(crate) fn slot_for(table: &TreeTable, seat: &mut TreeSeat, node: u32, key: u64) -> Child
     requires same_table { seat.old.table ≡ table.now.table }
-    requires node { IsNode seat.old.view node }
+    requires node { IsNode (now seat.old.view) node }
     ensures same_table { seat.new.table ≡ seat.old.table }
     ensures index { IsChildFor (now seat.new.view) node key result.index }
     ensures word { SlotHolds (now seat.new.view) node result.index result.word }
     ensures seen { GoesOnTo seat.old.view seat.new.view }
+    ensures anchor_loads { node ≡ anchor → seat.new.view.loaded ≤ seat.old.view.loaded + 1 }
+    ensures row_loads { IsRow seat.old.view node →
+        let guess = guess_in (keys_at seat.old.view node) key in
+        seat.new.view.loaded ≤ seat.old.view.loaded + distance guess result.index + 7 }
 {
     if node == ANCHOR {
         know(seat);

@@ -1,13 +1,15 @@
 //! The search for a key from the anchor down.
-ghost use Rattle.std.specs.Prelude.{◌≡◌};
+ghost use Rattle.std.specs.Prelude.{◌≡◌, ◌+◌, ◌≤◌, List, ℕ};
+ghost use Rattle.ist_core.specs.RowLayout.{anchor};
 ghost use Rattle.ist_core.specs.StartLayout.{start};
 ghost use Rattle.ist_core.specs.Slots.{IsChildFor};
 ghost use Rattle.ist_core.specs.Links.{WasLinked};
 ghost use Rattle.ist_layout.specs.Meanings.{ref_meant};
 ghost use Rattle.ist_rule.specs.Learning.{now, GoesOnTo};
 ghost use Rattle.ist_histories.specs.Searching.{HasPosition};
-ghost use Rattle.ist_find.specs.Searches.{HasSearched, HasFound};
-ghost use Rattle.ist_find.specs.Reads.{HasCome, HasLooked, IsReached};
+ghost use Rattle.ist_find.specs.Searches.{IsRow, HasCome, Came, row_cost};
+ghost use Rattle.ist_find.specs.Searches.{HasSearched, HasFound, HasFewLoads};
+ghost use Rattle.ist_find.specs.Reads.{HasLooked, IsReached};
 
 use crate::answers::{Found, Look};
 use crate::children::slot_for;
@@ -18,10 +20,14 @@ use ist_rule::{TreeSeat, TreeTable, begin_search, know};
 // Looks at the slot for the key of a node to which the search has come.
 fn look_at(table: &TreeTable, seat: &mut TreeSeat, node: u32, key: u64) -> Look
     requires same_table { seat.old.table ≡ table.now.table }
-    requires come { HasCome seat.old.view key node }
+    requires come { Came seat.old.view key node }
     ensures same_table { seat.new.table ≡ seat.old.table }
     ensures seen { GoesOnTo seat.old.view seat.new.view }
-    ensures looked { HasLooked seat.new.view key node result.index (ref_meant result.reference) }
+    ensures looked { (rows : List ℕ) → HasCome seat.old.view key node rows
+        → HasLooked seat.new.view key node result.index rows (ref_meant result.reference) }
+    ensures anchor_loads { node ≡ anchor → seat.new.view.loaded ≤ seat.old.view.loaded + 4 }
+    ensures row_loads { IsRow seat.old.view node
+        → seat.new.view.loaded ≤ seat.old.view.loaded + row_cost seat.old.view key node }
     ensures reached { IsReached seat.new.view node (ref_meant result.reference) }
 {
     know(seat);
@@ -40,7 +46,9 @@ fn look_at(table: &TreeTable, seat: &mut TreeSeat, node: u32, key: u64) -> Look
 ///
 /// A change is read by its decision, and a rebuild by its target. An inner row is entered at the
 /// child for the key. The answer stands at some number of changes, no fewer than those that the
-/// seat had seen when the call began. Never waits: each row lies above the one before it.
+/// seat had seen when the call began. Never waits: each row lies above the one before it, and the
+/// rows that it enters are the chain of the node in which it ends. It makes 12 loads at most, and
+/// for each of these rows as many as the guess lies off the child for the key, and 12.
 pub fn find_from_anchor(table: &TreeTable, seat: &mut TreeSeat, key: u64) -> Found
     requires same_table { seat.old.table ≡ table.now.table }
     ensures same_table { seat.new.table ≡ seat.old.table }
@@ -50,6 +58,7 @@ pub fn find_from_anchor(table: &TreeTable, seat: &mut TreeSeat, key: u64) -> Fou
     ensures found { HasFound seat.new.view key result.node result.index result.value }
     ensures linked { let w = seat.new.view in WasLinked (start w.start w.words) w.log result.node }
     ensures index { IsChildFor (now seat.new.view) result.node key result.index }
+    ensures loads { HasFewLoads seat.old.view seat.new.view key result.node }
 {
     begin_search(table, seat);
     know(seat);

@@ -1,12 +1,13 @@
 //! In which child of a node a key lies.
-ghost use Rattle.std.specs.Prelude.{◌≡◌, ◌+◌, ◌-◌, ◌<◌, ◌≤◌, length, slice_index};
+ghost use Rattle.std.specs.Prelude.{◌≡◌, ℕ, ◌+◌, ◌-◌, ◌*◌, ◌<◌, ◌≤◌, ◌^◌, length, slice_index};
 ghost use Rattle.ist_core.specs.RowLayout.{place_limit};
 ghost use Rattle.ist_core.specs.Arithmetic.{child_count};
 ghost use Rattle.ist_rule.specs.Learning.{GoesOnTo};
-ghost use Rattle.ist_find.specs.Searches.{IsRow, keys_at, guess_in, distance};
+ghost use Rattle.ist_math.specs.Guess.{guess_in, distance};
+ghost use Rattle.ist_find.specs.Searches.{IsRow, keys_at};
 
 use ist_layout::{INNER_DEGREE_OFFSET, key_place};
-use ist_math::guess;
+use ist_math::{FEW_KEYS, Gallop, guess};
 use ist_rule::{TreeSeat, TreeTable, know, load};
 
 /// How many keys an inner row has.
@@ -38,8 +39,15 @@ fn key_at(table: &TreeTable, seat: &mut TreeSeat, node: u32, j: u64) -> u64
     load(table, seat, key_place(node, j + 1))
 }
 
-// Where interpolation between the end keys points, of a row that has keys.
-fn near(table: &TreeTable, seat: &mut TreeSeat, node: u32, count: u64, key: u64) -> u64
+// The keys at both ends of a row.
+#[derive(Clone, Copy, Drop)]
+struct EndKeys {
+    first: u64,
+    last: u64,
+}
+
+// The keys at both ends of a row that has keys.
+fn end_keys(table: &TreeTable, seat: &mut TreeSeat, node: u32, count: u64) -> EndKeys
     requires same_table { seat.old.table ≡ table.now.table }
     requires row { IsRow seat.old.view node }
     requires count { count ≡ length (keys_at seat.old.view node) }
@@ -47,70 +55,68 @@ fn near(table: &TreeTable, seat: &mut TreeSeat, node: u32, count: u64, key: u64)
     ensures same_table { seat.new.table ≡ seat.old.table }
     ensures seen { GoesOnTo seat.old.view seat.new.view }
     ensures loads { seat.new.view.loaded ≡ seat.old.view.loaded + 2 }
-    ensures value { result ≡ guess_in (keys_at seat.old.view node) key }
+    ensures first { result.first ≡ slice_index (keys_at seat.old.view node) 0 }
+    ensures last { let keys = keys_at seat.old.view node in
+        result.last ≡ slice_index keys (length keys - 1) }
+{
+    let first = key_at(table, seat, node, 0);
+    let last = key_at(table, seat, node, count - 1);
+    EndKeys { first, last }
+}
+
+// How many keys of a row are at most `key`, by a look at each.
+fn count_through(table: &TreeTable, seat: &mut TreeSeat, node: u32, count: u64, key: u64) -> u64
+    requires same_table { seat.old.table ≡ table.now.table }
+    requires row { IsRow seat.old.view node }
+    requires count { count ≡ length (keys_at seat.old.view node) }
+    ensures same_table { seat.new.table ≡ seat.old.table }
+    ensures seen { GoesOnTo seat.old.view seat.new.view }
+    ensures loads { seat.new.view.loaded ≡ seat.old.view.loaded + count }
+    ensures value { result ≡ child_count (keys_at seat.old.view node) key }
+{
+    know(seat);
+    let mut found = 0;
+    for j in 0..count {
+        if key_at(table, seat, node, j) <= key {
+            found += 1;
+        }
+    }
+    found
+}
+
+// The child for a key between the end keys, by a gallop from a guess.
+fn gallop_from(
+    table: &TreeTable,
+    seat: &mut TreeSeat,
+    node: u32,
+    count: u64,
+    from: u64,
+    key: u64,
+) -> u64
+    requires same_table { seat.old.table ≡ table.now.table }
+    requires row { IsRow seat.old.view node }
+    requires count { count ≡ length (keys_at seat.old.view node) }
+    requires fits { count < place_limit }
+    requires some { 1 ≤ from }
+    requires within { from < count }
+    requires first { slice_index (keys_at seat.old.view node) 0 ≤ key }
+    requires last { let keys = keys_at seat.old.view node in
+        key < slice_index keys (length keys - 1) }
+    ensures same_table { seat.new.table ≡ seat.old.table }
+    ensures seen { GoesOnTo seat.old.view seat.new.view }
+    ensures loads { seat.new.view.loaded ≤ seat.old.view.loaded + distance from result + 3 }
+    ensures loads_far { (k : ℕ) → distance from result < 2 ^ k
+        → seat.new.view.loaded ≤ seat.old.view.loaded + 2 * k + 2 }
+    ensures value { result ≡ child_count (keys_at seat.old.view node) key }
     ensures within { result ≤ count }
 {
     know(seat);
-    let first = key_at(table, seat, node, 0);
-    let last = key_at(table, seat, node, count - 1);
-    guess(first, last, count, key)
-}
-
-// Goes up from `from` past the keys that are at most `key`.
-fn walk_up(
-    table: &TreeTable,
-    seat: &mut TreeSeat,
-    node: u32,
-    count: u64,
-    from: u64,
-    key: u64,
-) -> u64
-    requires same_table { seat.old.table ≡ table.now.table }
-    requires row { IsRow seat.old.view node }
-    requires count { count ≡ length (keys_at seat.old.view node) }
-    requires from { from ≤ count }
-    ensures same_table { seat.new.table ≡ seat.old.table }
-    ensures seen { GoesOnTo seat.old.view seat.new.view }
-    ensures loads { seat.new.view.loaded ≤ seat.old.view.loaded + (result - from) + 1 }
-    ensures within { (from ≤ result) × (result ≤ count) }
-    ensures above { result < count → key < slice_index (keys_at seat.old.view node) result }
-    ensures below { from < result → slice_index (keys_at seat.old.view node) (result - 1) ≤ key }
-{
-    know(seat);
-    let mut at = from;
-    while at < count && key_at(table, seat, node, at) <= key {
-        at += 1;
+    let mut gallop = Gallop::begin(count, from, key_at(table, seat, node, from) > key);
+    while gallop.is_open() {
+        let at = gallop.probe();
+        gallop = gallop.told(at, key_at(table, seat, node, at) > key);
     }
-    at
-}
-
-// Goes down from `from` past the keys that are above `key`.
-fn walk_down(
-    table: &TreeTable,
-    seat: &mut TreeSeat,
-    node: u32,
-    count: u64,
-    from: u64,
-    key: u64,
-) -> u64
-    requires same_table { seat.old.table ≡ table.now.table }
-    requires row { IsRow seat.old.view node }
-    requires count { count ≡ length (keys_at seat.old.view node) }
-    requires from { from ≤ count }
-    requires above { from < count → key < slice_index (keys_at seat.old.view node) from }
-    ensures same_table { seat.new.table ≡ seat.old.table }
-    ensures seen { GoesOnTo seat.old.view seat.new.view }
-    ensures loads { seat.new.view.loaded ≤ seat.old.view.loaded + (from - result) + 1 }
-    ensures within { result ≤ from }
-    ensures above { result < count → key < slice_index (keys_at seat.old.view node) result }
-    ensures below { 0 < result → slice_index (keys_at seat.old.view node) (result - 1) ≤ key }
-{
-    know(seat);
-    let mut at = from;
-    while at > 0 && key_at(table, seat, node, at - 1) > key {
-        at -= 1;
-    }
-    at
+    gallop.high
 }
 
 /// The child of an inner row for the key: the number of its keys that are at most it.
@@ -124,18 +130,28 @@ pub(crate) fn child_for(
     requires same_table { seat.old.table ≡ table.now.table }
     requires row { IsRow seat.old.view node }
     requires count { count ≡ length (keys_at seat.old.view node) }
+    requires fits { count < place_limit }
     ensures same_table { seat.new.table ≡ seat.old.table }
     ensures seen { GoesOnTo seat.old.view seat.new.view }
     ensures loads { let guess = guess_in (keys_at seat.old.view node) key in
-        seat.new.view.loaded ≤ seat.old.view.loaded + distance guess result + 4 }
+        seat.new.view.loaded ≤ seat.old.view.loaded + distance guess result + 5 }
+    ensures loads_far { let guess = guess_in (keys_at seat.old.view node) key in
+        (k : ℕ) → distance guess result < 2 ^ k
+        → seat.new.view.loaded ≤ seat.old.view.loaded + 2 * k + 4 }
     ensures value { result ≡ child_count (keys_at seat.old.view node) key }
     ensures within { result ≤ count }
 {
+    if count <= FEW_KEYS {
+        return count_through(table, seat, node, count, key);
+    }
     know(seat);
-    if count == 0 {
+    let ends = end_keys(table, seat, node, count);
+    if key < ends.first {
         return 0;
     }
-    let from = near(table, seat, node, count, key);
-    let above = walk_up(table, seat, node, count, from, key);
-    walk_down(table, seat, node, count, above, key)
+    if ends.last <= key {
+        return count;
+    }
+    let from = guess(ends.first, ends.last, count, key);
+    gallop_from(table, seat, node, count, from, key)
 }

@@ -1,7 +1,8 @@
 //! The search without waiting: it loads words, never writes one, and ends.
 //!
-//! Read `specs/Searches.antt`, then `finding.rt` and `children.rt`. Stands on `ist_core`,
-//! `ist_layout`, `ist_math`, `ist_links`, `ist_rebuilds`, `ist_histories`, `ist_rule` and `ist_dcss`.
+//! Read `specs/Searches.antt`, then `finding.rt`, `walking.rt` and `children.rt`. Stands on `ist_core`,
+//! `ist_layout`, `ist_math`, `ist_rule`, `ist_dcss`, and on the laws of `ist_links`, `ist_rebuilds`,
+//! `ist_stability`, `ist_histories` and `ist_walks`.
 #![tactic(auto)]
 
 mod answers;
@@ -11,7 +12,9 @@ mod keys;
 mod reading;
 #[cfg(test)]
 mod tests;
+mod walking;
 
 pub use answers::{Child, Found};
 pub use children::child_at;
 pub use finding::find_from_anchor;
+pub use walking::step_down;

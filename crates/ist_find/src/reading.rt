@@ -1,10 +1,13 @@
 //! What a word of a slot reads as, changes and rebuilds read away, and the value of a leaf.
-ghost use Rattle.std.specs.Prelude.{◌≡◌, ◌≢◌, ◌<◌, ℕ, Some, None, IfSome};
+ghost use Rattle.std.specs.Prelude.{◌≡◌, ◌≢◌, ◌==◌, ◌+◌, ◌<◌, ◌≤◌, ℕ, Some, None, IfSome};
 ghost use Rattle.ist_core.specs.RowLayout.{change_words};
 ghost use Rattle.ist_core.specs.References.{ChangeAt, RebuildAt, LeafAt, ref_of};
 ghost use Rattle.ist_layout.specs.Meanings.{ref_meant};
-ghost use Rattle.ist_find.specs.Reads.{IsLeaf, IsChange, IsRebuild, Names, IsPlain, IsEnd};
-ghost use Rattle.ist_find.specs.Reads.{side_offset_of, TellsSide, TellsTarget, TellsValue};
+ghost use Rattle.ist_find.specs.Searches.{SeesLeaf, SeesChange, SeesRebuild, Names};
+ghost use Rattle.ist_find.specs.Reads.{IsPlain, IsEnd};
+ghost use Rattle.ist_core.specs.Statuses.{decided_yes};
+ghost use Rattle.ist_dcss.specs.Naming.{outcome_offset_of};
+ghost use Rattle.ist_find.specs.Reads.{TellsSide, TellsTarget, TellsValue};
 
 use ist_layout::{
     CHANGE_DECISION_OFFSET, CHANGE_FROM_OFFSET, CHANGE_TO_OFFSET, DECIDED_YES, LEAF_KEY_OFFSET,
@@ -14,7 +17,7 @@ use ist_rule::{TreeSeat, TreeTable, know, load};
 
 // Which word of a change its slot reads as, where this is its decision.
 fn side_offset(decision: u64) -> u64
-    ensures value { result ≡ side_offset_of decision }
+    ensures value { result ≡ outcome_offset_of (decision == decided_yes) }
     ensures within { result < change_words }
 {
     if decision == DECIDED_YES {
@@ -40,9 +43,10 @@ fn change_in(word: u64) -> Option<u32>
 fn side(table: &TreeTable, seat: &mut TreeSeat, word: u64, base: u32) -> u64
     requires same_table { seat.old.table ≡ table.now.table }
     requires change { ref_of word ≡ Some (ChangeAt base) }
-    requires row { IsChange seat.old.view base }
+    requires row { SeesChange seat.old.view base }
     ensures same_table { seat.new.table ≡ seat.old.table }
     ensures side { TellsSide seat.old.view seat.new.view word result }
+    ensures loads { seat.new.view.loaded ≡ seat.old.view.loaded + 2 }
 {
     know(seat);
     let decision = load(table, seat, u64::from(base) + CHANGE_DECISION_OFFSET);
@@ -56,6 +60,7 @@ pub(crate) fn past_change(table: &TreeTable, seat: &mut TreeSeat, word: u64) -> 
     requires names { Names seat.old.view (ref_of word) }
     ensures same_table { seat.new.table ≡ seat.old.table }
     ensures side { TellsSide seat.old.view seat.new.view word result }
+    ensures loads { seat.new.view.loaded ≤ seat.old.view.loaded + 2 }
 {
     know(seat);
     match change_in(word) {
@@ -90,9 +95,10 @@ fn named(word: u64) -> Ref
 fn target(table: &TreeTable, seat: &mut TreeSeat, word: u64, base: u32) -> Ref
     requires same_table { seat.old.table ≡ table.now.table }
     requires rebuild { ref_of word ≡ Some (RebuildAt base) }
-    requires row { IsRebuild seat.old.view base }
+    requires row { SeesRebuild seat.old.view base }
     ensures same_table { seat.new.table ≡ seat.old.table }
     ensures target { TellsTarget seat.old.view seat.new.view word (ref_meant result) }
+    ensures loads { seat.new.view.loaded ≡ seat.old.view.loaded + 1 }
 {
     know(seat);
     let target = load(table, seat, u64::from(base) + REBUILD_TARGET_OFFSET);
@@ -109,6 +115,7 @@ pub(crate) fn past_rebuild(table: &TreeTable, seat: &mut TreeSeat, word: u64) ->
     requires plain { IsPlain (ref_of word) }
     ensures same_table { seat.new.table ≡ seat.old.table }
     ensures target { TellsTarget seat.old.view seat.new.view word (ref_meant result) }
+    ensures loads { seat.new.view.loaded ≤ seat.old.view.loaded + 1 }
 {
     know(seat);
     match rebuild_in(word) {
@@ -131,9 +138,10 @@ fn leaf_in(reference: Ref) -> Option<u32>
 // The value that the leaf gives the key.
 fn leaf_value(table: &TreeTable, seat: &mut TreeSeat, base: u32, key: u64) -> Option<u64>
     requires same_table { seat.old.table ≡ table.now.table }
-    requires leaf { IsLeaf seat.old.view base }
+    requires leaf { SeesLeaf seat.old.view base }
     ensures same_table { seat.new.table ≡ seat.old.table }
     ensures value { TellsValue seat.old.view seat.new.view key (LeafAt base) result }
+    ensures loads { seat.new.view.loaded ≤ seat.old.view.loaded + 2 }
 {
     know(seat);
     if load(table, seat, u64::from(base) + LEAF_KEY_OFFSET) != key {
@@ -154,6 +162,7 @@ pub(crate) fn value_in(
     requires end { IsEnd seat.old.view (ref_meant reference) }
     ensures same_table { seat.new.table ≡ seat.old.table }
     ensures value { TellsValue seat.old.view seat.new.view key (ref_meant reference) result }
+    ensures loads { seat.new.view.loaded ≤ seat.old.view.loaded + 2 }
 {
     know(seat);
     match leaf_in(reference) {

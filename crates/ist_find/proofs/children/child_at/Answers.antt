@@ -1,7 +1,7 @@
 use Rattle.std.proofs.Common.{◌∙◌, length, sym, ap, arith}
 use Rattle.ist_core.specs.Arithmetic.{child_count}
 use Rattle.ist_rule.proofs.GoingOnLemmas.{goes_on_more, looked_goes_on}
-use Rattle.ist_find.specs.Searches.{guess_in, distance}
+use Rattle.ist_math.specs.Guess.{guess_in, distance}
 use Rattle.ist_find.proofs.RowLemmas.{row_on, keys_on, knows_row, slot_told, child_is}
 use Rattle.ist_find.proofs.children.child_at.Goals as goal
 
@@ -66,4 +66,13 @@ returns-clause-loads c =
     let last = ap (λ x. x.loaded) c.load-word.ensures.looked.view in
     let same = ap (λ ks. distance (guess_in ks c.args.key) c.child_for-index.result)
     (keys_on _ _ c.key_count-count.ensures.seen c.args.node c.requires.row) in
+    omega arith
+
+pub returns-clause-loads_far : goal.returns-clause-loads_far
+returns-clause-loads_far c k less =
+    let first = c.key_count-count.ensures.loads in
+    let last = ap (λ x. x.loaded) c.load-word.ensures.looked.view in
+    let same = ap (λ ks. distance (guess_in ks c.args.key) c.child_for-index.result)
+    (keys_on _ _ c.key_count-count.ensures.seen c.args.node c.requires.row) in
+    let more = c.child_for-index.ensures.loads_far k (omega arith) in
     omega arith

@@ -1,14 +1,15 @@
 use Rattle.std.proofs.Common.{◌≡◌, ◌-◌}
 use Rattle.ist_layout.specs.Meanings.{ref_meant}
 use Rattle.ist_rule.specs.Learning.{GoesOnTo}
-use Rattle.ist_find.specs.Reads.{HasLooked, IsReached}
+use Rattle.ist_find.specs.Reads.{LooksFew, IsReached}
 use Rattle.ist_find.proofs.finding.find_from_anchor.Given as goal
 
--- each turn made loads alone, and looked at a slot of a node to which the search has come
+-- each turn made loads alone, and few, and looked at a slot of a node to which the search has come
 abbrev pub invariant-loop-look : goal.invariant-loop-look
 invariant-loop-look l = (l.seat.table ≡ l.initial.seat.table)
     × GoesOnTo l.initial.seat.view l.seat.view
-    × HasLooked l.seat.view l.key l.node l.look.index (ref_meant l.look.reference)
+    × LooksFew l.initial.seat.view l.seat.view l.key l.node l.look.index
+    (ref_meant l.look.reference)
     × IsReached l.seat.view l.node (ref_meant l.look.reference)
 
 -- each row lies above the one before it

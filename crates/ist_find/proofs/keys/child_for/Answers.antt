@@ -1,93 +1,71 @@
-use Rattle.std.proofs.Common.{◌-◌, ◌<◌, ◌≤◌, ◌∙◌, length, get_or, sym, ap, arith}
-use Rattle.ist_math.proofs.ChildLemmas.{child_count_is}
-use Rattle.ist_rule.proofs.GoingOnLemmas.{goes_on_same, goes_on_more}
+use Rattle.std.proofs.Common.{◌∙◌, ◌-◌, length, get_or, sym, ap, arith}
+use Rattle.ist_core.specs.Arithmetic.{child_count}
+use Rattle.ist_math.proofs.ChildLemmas.{child_is_first, child_is_last}
+use Rattle.ist_math.proofs.GuessLemmas.{guess_of-between}
+use Rattle.ist_rule.proofs.GoingOnLemmas.{goes_on_more}
 use Rattle.ist_find.specs.Searches.{keys_at}
 use Rattle.ist_find.proofs.RowLemmas.{row_on, keys_on, keys_rise}
-use Rattle.ist_find.proofs.KeyLemmas.{walk_is_short}
 use Rattle.ist_find.proofs.keys.child_for.Goals as goal
 
--- a row without keys has one child
-pub returns-then-count-eq0-clause-seen : goal.returns-then-count-eq0-clause-seen
-returns-then-count-eq0-clause-seen c = goes_on_same _ c.know.ensures.sound
+-- no key is at most the key, or each is
+pub returns-then-key-ends-clause-value : goal.returns-then-key-ends-clause-value
+returns-then-key-ends-clause-value c =
+    let v = c.args.seat.now.view in
+    let first = c.end_keys-ends.ensures.first in
+    let above = c.if-key-ends.true in
+    sym (child_is_first (keys_at v c.args.node) c.args.key
+    (keys_rise v c.know.ensures.sound c.args.node c.requires.row) (omega arith))
+
+pub returns-then-ends-key-clause-value : goal.returns-then-ends-key-clause-value
+returns-then-ends-key-clause-value c =
+    let v = c.args.seat.now.view in
+    let last = c.end_keys-ends.ensures.last in
+    let below = c.if-ends-key.true in
+    c.requires.count
+    ∙ sym (child_is_last (keys_at v c.args.node) c.args.key
+    (keys_rise v c.know.ensures.sound c.args.node c.requires.row) (omega arith))
 
 -- the row is published still, with the same keys
-pub walk_up-above-requires-clause-row : goal.walk_up-above-requires-clause-row
-walk_up-above-requires-clause-row c =
-    row_on _ _ c.near-from.ensures.seen c.args.node c.requires.row
+pub gallop_from-requires-clause-row : goal.gallop_from-requires-clause-row
+gallop_from-requires-clause-row c =
+    row_on _ _ c.end_keys-ends.ensures.seen c.args.node c.requires.row
 
-pub walk_up-above-requires-clause-count : goal.walk_up-above-requires-clause-count
-walk_up-above-requires-clause-count c =
+pub gallop_from-requires-clause-count : goal.gallop_from-requires-clause-count
+gallop_from-requires-clause-count c =
     c.requires.count
-    ∙ sym (ap length (keys_on _ _ c.near-from.ensures.seen c.args.node c.requires.row))
+    ∙ sym (ap length (keys_on _ _ c.end_keys-ends.ensures.seen c.args.node c.requires.row))
 
-pub walk_down-requires-clause-row : goal.walk_down-requires-clause-row
-walk_down-requires-clause-row c =
-    row_on _ _ (goes_on_more _ _ _ c.near-from.ensures.seen c.walk_up-above.ensures.seen)
-    c.args.node c.requires.row
+-- the key lies between the end keys
+pub gallop_from-requires-clause-within : goal.gallop_from-requires-clause-within
+gallop_from-requires-clause-within c =
+    let is = c.guess-from.ensures.value in
+    let many = c.if-count-le-FEW_KEYS.false in
+    let between = guess_of-between c.end_keys-ends.result.first c.end_keys-ends.result.last
+    c.args.count c.args.key (omega arith) c.if-key-ends.false c.if-ends-key.false in
+    omega (arith, between.1)
 
-pub walk_down-requires-clause-count : goal.walk_down-requires-clause-count
-walk_down-requires-clause-count c =
-    let g = goes_on_more _ _ _ c.near-from.ensures.seen c.walk_up-above.ensures.seen in
-    c.requires.count ∙ sym (ap length (keys_on _ _ g c.args.node c.requires.row))
+pub gallop_from-requires-clause-first : goal.gallop_from-requires-clause-first
+gallop_from-requires-clause-first c =
+    let same = keys_on _ _ c.end_keys-ends.ensures.seen c.args.node c.requires.row in
+    let here = ap (λ ks. get_or ks 0 0) same in
+    let first = c.end_keys-ends.ensures.first in
+    let low = c.if-key-ends.false in
+    omega arith
 
-pub walk_down-requires-clause-above : goal.walk_down-requires-clause-above
-walk_down-requires-clause-above c less =
-    let g = c.near-from.ensures.seen in
-    let first = keys_on _ _ g c.args.node c.requires.row in
-    let same = keys_on _ _ (goes_on_more _ _ _ g c.walk_up-above.ensures.seen) c.args.node
-    c.requires.row in
-    let here = ap (λ ks. get_or ks c.walk_up-above.result 0) (same ∙ sym first) in
-    let above = c.walk_up-above.ensures.above less in
+pub gallop_from-requires-clause-last : goal.gallop_from-requires-clause-last
+gallop_from-requires-clause-last c =
+    let same = keys_on _ _ c.end_keys-ends.ensures.seen c.args.node c.requires.row in
+    let here = ap (λ ks. get_or ks (length ks - 1) 0) same in
+    let last = c.end_keys-ends.ensures.last in
+    let high = c.if-ends-key.false in
     omega arith
 
 pub returns-clause-seen : goal.returns-clause-seen
 returns-clause-seen c =
-    goes_on_more _ _ _ (goes_on_more _ _ _ c.near-from.ensures.seen c.walk_up-above.ensures.seen)
-    c.walk_down.ensures.seen
+    goes_on_more _ _ _ c.end_keys-ends.ensures.seen c.gallop_from.ensures.seen
 
--- the walk goes one way
-pub returns-clause-loads : goal.returns-clause-loads
-returns-clause-loads c =
-    let v = c.args.seat.now.view in
-    let g = c.near-from.ensures.seen in
-    let keys = keys_at v c.args.node in
-    let first = keys_on _ _ g c.args.node c.requires.row in
-    let second = keys_on _ _ (goes_on_more _ _ _ g c.walk_up-above.ensures.seen) c.args.node
-    c.requires.row in
-    let count = c.requires.count in
-    let within = c.walk_up-above.ensures.within in
-    let low = within.0 in
-    let high = within.1 in
-    let below : c.near-from.result < c.walk_up-above.result
-    → get_or keys (c.walk_up-above.result - 1) 0 ≤ c.args.key =
-    λ h. let is = c.walk_up-above.ensures.below h in
-    let same = ap (λ ks. get_or ks (c.walk_up-above.result - 1) 0) first in omega arith in
-    let above : c.walk_down.result < length keys → c.args.key < get_or keys c.walk_down.result 0 =
-    λ h. let is = c.walk_down.ensures.above (omega arith) in
-    let same = ap (λ ks. get_or ks c.walk_down.result 0) second in omega arith in
-    let short = walk_is_short keys c.args.key c.near-from.result c.walk_up-above.result
-    c.walk_down.result (keys_rise v c.know.ensures.sound c.args.node c.requires.row) low
-    (omega arith) c.walk_down.ensures.within below above in
-    let loads = c.near-from.ensures.loads in
-    let up = c.walk_up-above.ensures.loads in
-    let down = c.walk_down.ensures.loads in
-    let guess = c.near-from.ensures.value in
-    omega arith
-
--- and ends where the keys turn from at most the key to above it
 pub returns-clause-value : goal.returns-clause-value
 returns-clause-value c =
-    let v = c.args.seat.now.view in
-    let keys = keys_at v c.args.node in
-    let second = keys_on _ _
-    (goes_on_more _ _ _ c.near-from.ensures.seen c.walk_up-above.ensures.seen) c.args.node
-    c.requires.row in
-    let count = c.requires.count in
-    let high = c.walk_up-above.ensures.within.1 in
-    let less = c.walk_down.ensures.within in
-    sym (child_count_is keys c.args.key c.walk_down.result
-    (keys_rise v c.know.ensures.sound c.args.node c.requires.row) (omega arith)
-    (λ h. let is = c.walk_down.ensures.above (omega arith) in
-    let same = ap (λ ks. get_or ks c.walk_down.result 0) second in omega arith)
-    (λ h. let is = c.walk_down.ensures.below h in
-    let same = ap (λ ks. get_or ks (c.walk_down.result - 1) 0) second in omega arith))
+    c.gallop_from.ensures.value
+    ∙ ap (λ ks. child_count ks c.args.key)
+    (keys_on _ _ c.end_keys-ends.ensures.seen c.args.node c.requires.row)

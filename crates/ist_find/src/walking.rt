@@ -1,0 +1,39 @@
+//! One step of a search that reads words as they stand, changes and rebuilds too: that of an update.
+ghost use Rattle.std.specs.Prelude.{◌≡◌, ◌≢◌, ◌++◌, ◌∷◌, ◌<◌, [], List, Some, ℕ};
+ghost use Rattle.ist_core.specs.References.{InnerAt, Unset, ref_of};
+ghost use Rattle.ist_core.specs.Slots.{SlotHolds, IsChildFor};
+ghost use Rattle.ist_rule.specs.Learning.{now, GoesOnTo};
+ghost use Rattle.ist_find.specs.Searches.{HasCome, Came, Names};
+
+use crate::answers::Child;
+use crate::children::slot_for;
+use ist_rule::{TreeSeat, TreeTable, know};
+
+/// The child for the key of a node to which the seat's search has come, and the word that its slot
+/// held at the last step of this call.
+///
+/// The node may be the anchor, whose one child is for all keys. Where the word is an inner row, the
+/// search has come to that row too, by one row more; it lies above the node. Any other word, which
+/// may be a change or a rebuild, ends the walk: the search has come as far as the node. The word is
+/// never Unset.
+pub fn step_down(table: &TreeTable, seat: &mut TreeSeat, node: u32, key: u64) -> Child
+    requires same_table { seat.old.table ≡ table.now.table }
+    requires come { Came seat.old.view key node }
+    ensures same_table { seat.new.table ≡ seat.old.table }
+    ensures index { IsChildFor (now seat.new.view) node key result.index }
+    ensures word { SlotHolds (now seat.new.view) node result.index result.word }
+    ensures seen { GoesOnTo seat.old.view seat.new.view }
+    ensures named { Names seat.new.view (ref_of result.word) }
+    ensures set { ref_of result.word ≢ Some Unset }
+    ensures stays { (rows : List ℕ) → HasCome seat.old.view key node rows
+        → HasCome seat.new.view key node rows }
+    ensures down { (rows : List ℕ) (child : ℕ) → HasCome seat.old.view key node rows
+        → ref_of result.word ≡ Some (InnerAt child)
+        → HasCome seat.new.view key child (rows ++ child ∷ []) }
+    ensures above { (child : ℕ) → ref_of result.word ≡ Some (InnerAt child) → node < child }
+{
+    know(seat);
+    let child = slot_for(table, seat, node, key);
+    know(seat);
+    child
+}
