@@ -1,0 +1,142 @@
+-- What the calls of this crate answer, in references and in the one relation of how a seat goes on.
+-- Serves `calls`.
+use Rattle.std.proofs.Common.{◌≡◌, ◌≢◌, ℕ, zero, suc, List, [], ◌∷◌, map, take, drop, Option, None, Some, refl, ap, sym, subst, ◌∙◌}
+use Rattle.ist_core.specs.declared.ports.Full.{Full}
+use Rattle.ist_core.specs.Ideals.{IsIdeal}
+use Rattle.ist_core.specs.Leaves.{PlacedLeaf, HasLeaves}
+use Rattle.ist_core.specs.Pieces.{Rebuild, with_inners}
+use Rattle.ist_core.specs.References.{Ref, InnerAt, LeafAt, ref_of, unset_word}
+use Rattle.ist_core.specs.Snapshots.{Snapshot, bases_of}
+use Rattle.ist_core.proofs.NamingLemmas.{RootNames}
+use Rattle.ist_core.proofs.OrderLemmas.{names}
+use Rattle.ist_rebuilds.proofs.FinishedLeafLemmas.{finished_leaves}
+use Rattle.ist_rule.specs.declared.view.View.{View}
+use Rattle.ist_rule.specs.Going.{WentOn}
+use Rattle.ist_rule.specs.Rule.{IsSound}
+use Rattle.ist_rule.specs.Learning.{now}
+use Rattle.ist_rows.specs.declared.callers.Caller.{Caller}
+use Rattle.ist_build.specs.Laying.{BuiltOn, IsLaid, IsShort}
+use Rattle.ist_build.specs.Calls.{Builds, MayBuild, IsLeafOf, IsPartLaid, HasRootAs, IsOutOfWords, RebuildIsShort}
+use Rattle.ist_build.specs.Putting.{PutOn, HasRoot, IsStopped}
+use Rattle.ist_build.proofs.LaidOnLemmas.{laid_went}
+use Rattle.ist_build.proofs.PutOnLemmas.{built_put}
+
+-- ---- leaves
+
+head_same : (x y : ℕ) (xs : List ℕ) → x ∷ xs ≡ y ∷ [] → x ≡ y
+head_same x y xs e = cc
+
+nothing_is_something : (y : ℕ) → [] ≡ y ∷ [] → ⊥
+nothing_is_something y e = cc
+
+-- the leaf that was read is the one with this number
+pub leaf_number : (leaves : List PlacedLeaf) (i base : ℕ)
+    → map (λ leaf. leaf.base) (take 1 (drop i leaves)) ≡ base ∷ []
+    → IsLeafOf leaves i (LeafAt base)
+leaf_number [] zero base e = absurd (nothing_is_something base e)
+leaf_number [] (suc i) base e = absurd (nothing_is_something base e)
+leaf_number (leaf ∷ leaves) zero base e =
+    record { leaf = leaf; there = refl; ref_is = ap LeafAt (sym (head_same leaf.base base [] e)) }
+leaf_number (leaf ∷ leaves) (suc i) base e =
+    let it = leaf_number leaves i base e in
+    record { leaf = it.leaf; there = it.there; ref_is = it.ref_is }
+
+-- ---- going on
+
+-- a seat that built went on by events of builds
+pub built_went : (v w : View) → IsSound v → BuiltOn v w → WentOn Builds v w
+built_went v w s b = laid_went Builds v w (built_put v w b) s
+
+pub put_went : (v w : View) → IsSound v → PutOn v w → WentOn Builds v w
+put_went v w s b = laid_went Builds v w b s
+
+-- ---- references
+
+one_ref : (o : Option Ref) (a b : Ref) → o ≡ Some a → o ≡ Some b → a ≡ b
+one_ref o a b e f = cc
+
+-- what was laid under a word is laid under its reference
+pub part_laid : (old new : Caller) (word : ℕ) (ref : Ref) (leaves : List PlacedLeaf)
+    → IsLaid new.seat.view new.number (now old.seat.view).next word leaves
+    → ref_of word ≡ Some ref → IsPartLaid old new ref leaves
+part_laid old new word ref leaves laid is =
+    let same = one_ref (ref_of word) laid.ref ref laid.ref_is is in
+    record {
+      rows = laid.rows;
+      owns = laid.owns;
+      ideal = λ above low. subst (λ r. IsIdeal (with_inners (now new.seat.view).pieces laid.rows) r
+          leaves above (bases_of laid.rows)) same (laid.ideal above low);
+    }
+
+-- a root that stands is the reference that its word names
+pub root_as : (t : Snapshot) (rebuild word : ℕ) (ref : Ref) → HasRoot t rebuild word
+    → ref_of word ≡ Some ref → HasRootAs t rebuild ref
+root_as t rebuild word ref h is =
+    record {
+      row = h.row;
+      published = h.published;
+      root_is = ap ref_of h.root_is ∙ is;
+      set = subst (λ w. w ≢ unset_word) (sym h.root_is) h.set;
+    }
+
+-- ---- refusals
+
+-- a build that was refused
+pub short_out : (v w : View) (words keys : ℕ) (full : Full) → IsSound v → IsShort v words keys full w
+    → IsOutOfWords v words keys full w
+short_out v w words keys full s h =
+    record {
+      before = h.before;
+      seen = built_went v h.before s h.seen;
+      looked = h.looked;
+      some = h.some;
+      few = h.few;
+      asked = h.asked;
+      words_is = h.words_is;
+      small = h.small;
+    }
+
+pub stopped_out : (v w : View) (rebuild words : ℕ) (full : Full) → IsSound v
+    → IsStopped v rebuild words full w → RebuildIsShort v rebuild words full w
+stopped_out v w rebuild words full s h =
+    record {
+      k = h.k;
+      told = h.told;
+      out = record {
+        before = h.before;
+        seen = put_went v h.before s h.seen;
+        looked = h.looked;
+        some = h.some;
+        few = h.few;
+        asked = h.asked;
+        words_is = h.words_is;
+        small = h.small;
+      };
+    }
+
+-- ---- words that name something
+
+-- what was laid names something
+pub laid_named : (v w : View) → IsSound v → (number low target start len word : ℕ)
+    → MayBuild (now v) target start len
+    → ((all : List PlacedLeaf) → HasLeaves (now v).pieces (Some (InnerAt target)) all
+    → IsLaid w number low word (take len (drop start all))) → ref_of word ≢ None
+laid_named v w s number low target start len word may laid =
+    let it = finished_leaves v.start v.words s.lawful.opens v.log s.lawful.enabled target may.k
+    may.finished in
+    λ none. nothing (ref_of word) (laid it.0 it.1).ref (laid it.0 it.1).ref_is none
+  where
+    nothing : (o : Option Ref) (ref : Ref) → o ≡ Some ref → o ≡ None → ⊥
+    nothing o ref e f = cc
+
+-- and so does a root
+pub root_named : (v : View) → IsSound v → (rebuild word : ℕ) → HasRoot (now v) rebuild word
+    → ref_of word ≢ None
+root_named v s rebuild word h =
+    let o = (names v.start v.words s.lawful.opens v.log s.lawful.enabled).rows rebuild (Rebuild h.row)
+    h.published in
+    λ none. no_root h.row.target (ref_of h.row.root) o.2 (ap ref_of h.root_is ∙ none)
+  where
+    no_root : (target : ℕ) (o : Option Ref) → RootNames (now v).pieces target o → o ≡ None → ⊥
+    no_root target None n e = n
+    no_root target (Some ref) n e = cc

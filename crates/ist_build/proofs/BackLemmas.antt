@@ -1,0 +1,108 @@
+-- A caller behind the step by which what it built is put in place or lost. Serves `root`.
+use Rattle.std.proofs.Common.{◌≡◌, ℕ, List, ◌++◌, refl, sym, ap, ap₂, ◌∙◌, subst}
+use Rattle.ist_core.specs.declared.events.Event.{Event}
+use Rattle.ist_core.specs.declared.lists.Row.{Row}
+use Rattle.ist_core.specs.After.{after}
+use Rattle.ist_core.specs.Snapshots.{Snapshot, bases_of, sizes_of, without}
+use Rattle.ist_rule.specs.declared.view.View.{View}
+use Rattle.ist_rule.specs.Authors.{Later}
+use Rattle.ist_rule.specs.Faces.{SeatFace}
+use Rattle.ist_rule.specs.Rule.{IsSound}
+use Rattle.ist_rule.specs.Learning.{now, made_behind, Logged, LoggedLoad, GoesOnTo}
+use Rattle.ist_rows.specs.declared.callers.Caller.{Caller}
+use Rattle.ist_rows.specs.Rows.{spares_of, build_sizes, IsCaller}
+use Rattle.ist_rows.specs.Building.{AreStuck, HasRefused, sizes_built}
+use Rattle.ist_rows.proofs.CallerLemmas.{comes_behind}
+use Rattle.ist_rows.proofs.CallerGoingLemmas.{now_is, caller_goes_on}
+use Rattle.ist_rows.proofs.BuildingLemmas.{all_stuck_on}
+use Rattle.ist_rows.proofs.BuildLemmas.{ComesBehind}
+use Rattle.ist_build.proofs.LaidOnLemmas.{logged_laid, logged_load_laid}
+use Rattle.ist_core.specs.Lawful.{Lawful}
+use Rattle.ist_build.specs.Laying.{BuiltOn, OwnsRows}
+use Rattle.ist_build.specs.Calls.{Builds}
+use Rattle.ist_build.specs.Putting.{PutOn}
+use Rattle.ist_build.proofs.AwayLemmas.{refused_back, caller_back}
+use Rattle.ist_build.proofs.PutOnLemmas.{built_put, put_more, loads_put}
+use Rattle.ist_build.proofs.TopLemmas.{sizes_on}
+
+-- behind the step the caller is one whose builds were refused
+pub record IsBack (old new : Caller) : Type 0 where
+  pub caller : IsCaller new
+  pub refused : HasRefused new
+  pub put : PutOn old.seat.view new.seat.view
+
+module _ (old mid : Caller) (c : IsCaller old) (refused : HasRefused old)
+    (s : IsSound old.seat.view)
+    (number : mid.number ≡ old.number) (spares : spares_of mid ≡ spares_of old)
+    (b : BuiltOn old.seat.view mid.seat.view) (rows : List Row)
+    (owns : OwnsRows mid.seat.view mid.number (now old.seat.view).next rows)
+    (sizes : sizes_built mid ≡ sizes_built old ++ sizes_of rows)
+    (event : Event) (is : Builds event) (made : (n : ℕ) → made_behind event n ≡ n)
+    (drops : (t : Snapshot) → (after t event).held ≡ without (bases_of rows) t.held)
+    (seat : SeatFace) where
+  abbrev v : View
+  v = old.seat.view
+
+  abbrev w : View
+  w = mid.seat.view
+
+  abbrev last : Caller
+  last = record mid { seat = seat }
+
+  owns_old : OwnsRows w old.number (now v).next rows
+  owns_old = subst (λ n. OwnsRows w n (now v).next rows) number owns
+
+  sizes_old : build_sizes (now w) old.number (spares_of old) ≡ sizes_built old ++ sizes_of rows
+  sizes_old = ap₂ (λ n own. build_sizes (now w) n own) (sym number) (sym spares) ∙ sizes
+
+  pub back_logged : Logged w event seat.view → IsBack old last
+  back_logged l =
+      let start_is = ap (λ x. x.start) l.view ∙ ap (λ x. x.start) b.same in
+      let words_is = ap (λ x. x.words) l.view ∙ ap (λ x. x.words) b.same in
+      let who_is = ap (λ x. x.who) l.view ∙ ap (λ x. x.who) b.same in
+      record {
+        caller = caller_back old c s w b (sizes_of rows) sizes_old rows owns_old refl last event
+            l.before l.later (ap (λ x. x.log) l.view) start_is words_is who_is l.sound number spares
+            drops;
+        refused = refused_back old c s w b (sizes_of rows) sizes_old rows owns_old refl last event
+            l.before l.later (ap (λ x. x.log) l.view) start_is words_is who_is l.sound number spares
+            drops refused;
+        put = put_more v w seat.view (built_put v w b)
+            (logged_laid Builds w event seat.view l is (made w.made));
+      }
+
+  pub back_lost : (place word : ℕ) → LoggedLoad w event place word seat.view → IsBack old last
+  back_lost place word l =
+      let start_is = ap (λ x. x.start) l.view ∙ ap (λ x. x.start) b.same in
+      let words_is = ap (λ x. x.words) l.view ∙ ap (λ x. x.words) b.same in
+      let who_is = ap (λ x. x.who) l.view ∙ ap (λ x. x.who) b.same in
+      record {
+        caller = caller_back old c s w b (sizes_of rows) sizes_old rows owns_old refl last event
+            l.before l.later (ap (λ x. x.log) l.view) start_is words_is who_is l.sound number spares
+            drops;
+        refused = refused_back old c s w b (sizes_of rows) sizes_old rows owns_old refl last event
+            l.before l.later (ap (λ x. x.log) l.view) start_is words_is who_is l.sound number spares
+            drops refused;
+        put = put_more v w seat.view (built_put v w b)
+            (logged_load_laid Builds w event place word seat.view l is (made w.made));
+      }
+
+-- behind loads it is one too
+pub back_loads : (who : Caller) (seat : SeatFace) → IsCaller who → HasRefused who
+    → GoesOnTo who.seat.view seat.view → IsBack who (record who { seat = seat })
+back_loads who seat c refused g =
+    let v = who.seat.view in
+    let lawful : Lawful v.start v.words seat.view.log =
+    subst (λ p. Lawful p v.words seat.view.log) (ap (λ x. x.start) g.same)
+    (subst (λ n. Lawful seat.view.start n seat.view.log) (ap (λ x. x.words) g.same)
+    g.sound.lawful) in
+    record {
+      caller = caller_goes_on who seat c g;
+      refused = subst (AreStuck (now seat.view)) (sym (sizes_on who seat c g))
+          (all_stuck_on (now v) (now seat.view)
+          (subst (ComesBehind (now v)) (sym (now_is v seat.view g))
+          (comes_behind v.start v.words who.number v.log seat.view.log lawful
+          (subst (λ x. Later x v.log seat.view.log) c.mine g.later)))
+          (sizes_built who) refused);
+      put = loads_put v seat.view g;
+    }

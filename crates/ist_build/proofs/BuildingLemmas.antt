@@ -1,0 +1,297 @@
+-- What a build asks and answers, by what it has laid. Serves `build`.
+use Rattle.std.proofs.Common.{◌≡◌, ◌≢◌, ℕ, ◌+◌, ◌-◌, ◌<◌, ◌≤◌, ◌==◌, true, false, List, [], ◌∷◌, ◌++◌, length, take, drop, Some, slice_index_or, refl, sym, ap, ap₂, ◌∙◌, subst, append-nil, append_assoc, arith}
+use Rattle.std.proofs.lemmas.Bool.Decides.{nat_tests}
+use Rattle.std.proofs.lemmas.List.{length-map}
+use Rattle.std.specs.List.{flat_map}
+use Rattle.ist_core.specs.declared.ports.Full.{Full}
+use Rattle.ist_core.specs.declared.states.LeafRow.{LeafRow}
+use Rattle.ist_core.specs.Arithmetic.{degree, part_len, part_start}
+use Rattle.ist_core.specs.Leaves.{PlacedLeaf}
+use Rattle.ist_core.specs.Parts.{first_keys}
+use Rattle.ist_core.specs.Pieces.{Leaf}
+use Rattle.ist_core.specs.References.{Empty, InnerAt, LeafAt, IsGoodBase, ref_of, word_of}
+use Rattle.ist_core.specs.RowLayout.{inner_words}
+use Rattle.ist_core.specs.Shapes.{shape}
+use Rattle.ist_core.specs.Snapshots.{HoldsRow}
+use Rattle.ist_core.proofs.PlaceLemmas.{placed, claimed_within}
+use Rattle.ist_core.proofs.ReferenceLemmas.{ref_of-word_of}
+use Rattle.ist_core.proofs.RootLemmas.{least_degree-le}
+use Rattle.ist_core.proofs.RoomLemmas.{next_within, words_same}
+use Rattle.ist_core.proofs.ShapeLemmas.{shape_none, shape_one, shape_many}
+use Rattle.ist_rule.specs.declared.view.View.{View}
+use Rattle.ist_rule.specs.Rule.{IsSound}
+use Rattle.ist_rule.specs.Learning.{now}
+use Rattle.ist_rule.proofs.GoingOnLemmas.{goes_on_more, looked_goes_on}
+use Rattle.ist_dcss.proofs.FieldLemmas.{good_base}
+use Rattle.ist_rows.specs.declared.callers.Caller.{Caller}
+use Rattle.ist_rows.specs.Rows.{IsFull}
+use Rattle.ist_rows.specs.Building.{IsInBuild, IsNext, HasTaken}
+use Rattle.ist_build.specs.Laying.{BuiltOn, ArePlaced, HaveLeaves, IsLeaf, IsLaid, IsDue, IsShort}
+use Rattle.ist_build.specs.Midway.{words_at, AreLaid, lens_to, lens_from, parts_to, IsOpened, IsMidway}
+use Rattle.ist_build.proofs.BuiltLemmas.{built_more, loads_built}
+use Rattle.ist_build.proofs.LayingLemmas.{laid_none, laid_leaf, laid_top}
+use Rattle.ist_build.proofs.MidwayLemmas.{part_placed, length-part_of}
+use Rattle.ist_build.proofs.PartsLemmas.{part_of, parts_all, lens_all, lens_first, lens_last, sizes_left}
+
+-- ---- few leaves
+
+-- tests of the number of leaves
+pub is_none : (n : ℕ) → (n == 0) ≡ true → n ≡ 0
+is_none n e = grind (arith, nat_tests)
+
+pub is_several : (n : ℕ) → (n == 0) ≡ false → n ≢ 1 → 2 ≤ n
+is_several n e ne = let some : n ≢ 0 = grind (arith, nat_tests) in omega arith
+
+-- no leaf
+pub none_laid : (v : View) (number word : ℕ) (leaves : List ℕ) → length leaves ≡ 0
+    → word ≡ word_of Empty → (placed : List PlacedLeaf) → ArePlaced (now v) leaves placed
+    → IsLaid v number (now v).next word placed
+none_laid v number word leaves none is [] a =
+    laid_none v number (now v).next word (ap ref_of is ∙ ref_of-word_of Empty tt)
+none_laid v number word leaves none is (leaf ∷ more) a =
+    absurd (let all = ap length a.bases_are in omega arith)
+
+pub none_taken : (who : Caller) (leaves : List ℕ) → length leaves ≡ 0
+    → HasTaken who (shape (length leaves)) who
+none_taken who leaves none stuck done rest h =
+    let e : shape (length leaves) ≡ [] = ap shape none ∙ shape_none in
+    subst (λ xs. IsInBuild who stuck (done ++ xs) rest) (sym e)
+    (subst (λ xs. IsInBuild who stuck xs rest) (sym (append-nil done))
+    (subst (λ xs. IsInBuild who stuck done (xs ++ rest)) e h))
+
+-- one leaf
+pub one_good : (v : View) → IsSound v → (leaves : List ℕ) → HaveLeaves (now v) leaves
+    → length leaves ≡ 1 → IsGoodBase (slice_index_or leaves 0 0)
+one_good v s leaves have one =
+    at leaves have.0 have.1 one
+  where
+    at : (bases : List ℕ) (placed : List PlacedLeaf) → ArePlaced (now v) bases placed
+        → length bases ≡ 1 → IsGoodBase (slice_index_or bases 0 0)
+    at bases [] a e = absurd (let all = ap length a.bases_are in omega arith)
+    at bases (leaf ∷ more) a e =
+        subst (λ xs. IsGoodBase (slice_index_or xs 0 0)) a.bases_are
+        (good_base v s leaf.base (Leaf leaf.row) a.published.0 (omega arith))
+
+pub one_laid : (v : View) → IsSound v → (number word : ℕ) (leaves : List ℕ) → length leaves ≡ 1
+    → word ≡ word_of (LeafAt (slice_index_or leaves 0 0)) → (placed : List PlacedLeaf)
+    → ArePlaced (now v) leaves placed → IsLaid v number (now v).next word placed
+one_laid v s number word leaves one is [] a =
+    absurd (let all = ap length a.bases_are in omega arith)
+one_laid v s number word leaves one is (leaf ∷ []) a =
+    let first : slice_index_or leaves 0 0 ≡ leaf.base =
+    ap (λ xs. slice_index_or xs 0 0) (sym a.bases_are) in
+    laid_leaf v number (now v).next leaf.base word leaf refl a.published.0
+    (ap ref_of is ∙ ap (λ b. ref_of (word_of (LeafAt b))) first
+    ∙ ref_of-word_of (LeafAt leaf.base)
+    (good_base v s leaf.base (Leaf leaf.row) a.published.0 (omega arith)))
+one_laid v s number word leaves one is (leaf ∷ second ∷ more) a =
+    absurd (let all = ap length a.bases_are in omega arith)
+
+pub one_taken : (who : Caller) (leaves : List ℕ) → length leaves ≡ 1
+    → HasTaken who (shape (length leaves)) who
+one_taken who leaves one stuck done rest h =
+    let e : shape (length leaves) ≡ [] = ap shape one ∙ shape_one in
+    subst (λ xs. IsInBuild who stuck (done ++ xs) rest) (sym e)
+    (subst (λ xs. IsInBuild who stuck xs rest) (sym (append-nil done))
+    (subst (λ xs. IsInBuild who stuck done (xs ++ rest)) e h))
+
+-- ---- the row
+
+-- its row is the next
+pub next_row : (who : Caller) (n : ℕ) → 2 ≤ n → IsDue who n → IsNext who (inner_words (degree n))
+next_row who n two h =
+    record {
+      stuck = h.stuck;
+      done = h.done;
+      rest = flat_map shape (lens_from n 0) ++ h.rest;
+      at = subst (λ xs. IsInBuild who h.stuck h.done (xs ++ h.rest))
+          (shape_many n two ∙ ap (λ xs. inner_words (degree n) ∷ flat_map shape xs)
+          (sym (lens_first n))) h.at;
+    }
+
+-- for which too few words are left
+pub row_short : (v : View) (words n d : ℕ) (full : Full) (w : View) → d ≡ degree n
+    → IsFull v words (inner_words d) full w → IsShort v words n full w
+row_short v words n d full w same f =
+    let asked = f.asked in
+    let small = f.small in
+    record {
+      before = f.before;
+      seen = loads_built v f.before f.seen;
+      looked = f.looked;
+      some = n;
+      few = omega arith;
+      asked = f.asked ∙ ap inner_words same;
+      words_is = f.words_is;
+      small = omega arith;
+    }
+
+pub full_built : (v : View) (words size : ℕ) (full : Full) (w : View) → IsFull v words size full w
+    → BuiltOn v w
+full_built v words size full w f =
+    loads_built v w (goes_on_more _ _ _ f.seen (looked_goes_on _ _ _ _ f.looked))
+
+-- a held row lies at a good base
+pub held_good : (v : View) → IsSound v → (number base size : ℕ) → HoldsRow (now v) number base size
+    → IsGoodBase base
+held_good v s number base size i =
+    let it = claimed_within v.start v.words v.log base size s.lawful.enabled
+    ((placed v.start v.words v.log s.lawful.enabled).held
+    record { caller = number; base = base; size = size } i) in
+    let low = it.below_next in
+    let some = it.some in
+    let next = next_within v.start v.words s.lawful.opens v.log s.lawful.enabled in
+    let all = words_same v.start v.words s.lawful.opens v.log in
+    let limit = s.lawful.opens.within in
+    record { behind_fixed = it.behind_fixed; below_limit = omega arith }
+
+-- ---- a part
+
+-- the part as a slice
+pub slice_part : (leaves : List ℕ) (n j start len : ℕ) → start ≡ part_start n j → len ≡ part_len n j
+    → take (start + len - start) (drop start leaves) ≡ part_of n j leaves
+slice_part leaves n j start len start_is len_is =
+    ap (λ k. take k (drop start leaves)) (let q : start + len - start ≡ len = omega arith in q)
+    ∙ ap₂ (λ l s. take l (drop s leaves)) len_is start_is
+
+module _ (old who : Caller) (leaves : List ℕ) (base d j : ℕ) (m : IsMidway old leaves base d j who)
+    (less : j < degree (length leaves)) (some : 1 ≤ part_len (length leaves) j) (own : List ℕ)
+    (own_is : own ≡ part_of (length leaves) j leaves) where
+  abbrev n : ℕ
+  n = length leaves
+
+  -- its leaves are published
+  pub part_leaves : HaveLeaves (now old.seat.view) leaves → HaveLeaves (now who.seat.view) own
+  part_leaves have = (
+    part_of n j have.0,
+    subst (λ bases. ArePlaced (now who.seat.view) bases (part_of n j have.0)) (sym own_is)
+        (part_placed old.seat.view who.seat.view m.built n j leaves have.0 have.1),
+  )
+
+  pub length_own : length own ≡ part_len n j
+  length_own = ap length own_is ∙ length-part_of n j leaves refl less
+
+  -- and so is the first
+  pub first_leaf : HaveLeaves (now old.seat.view) leaves
+      → IsLeaf (now who.seat.view) (slice_index_or own 0 0)
+  first_leaf have =
+      let it = part_leaves have in
+      at own it.0 it.1 (omega (arith, length_own))
+    where
+      at : (bases : List ℕ) (placed : List PlacedLeaf) → ArePlaced (now who.seat.view) bases placed
+          → 1 ≤ length bases → IsLeaf (now who.seat.view) (slice_index_or bases 0 0)
+      at bases [] a e = absurd (let all = ap length a.bases_are in omega arith)
+      at bases (leaf ∷ more) a e =
+          subst (λ xs. IsLeaf (now who.seat.view) (slice_index_or xs 0 0)) a.bases_are
+          record { row = leaf.row; published = a.published.0 }
+
+  -- whose key is the one that was loaded
+  pub key_told : (key : ℕ) → ((row : LeafRow)
+      → (now who.seat.view).pieces (slice_index_or own 0 0) ≡ Some (Leaf row) → key ≡ row.key)
+      → (placed : List PlacedLeaf) → ArePlaced (now old.seat.view) leaves placed
+      → (leaf : PlacedLeaf) (others : List PlacedLeaf) → part_of n j placed ≡ leaf ∷ others
+      → key ≡ leaf.row.key
+  key_told key told placed a leaf others is =
+      let it = subst (ArePlaced (now who.seat.view) (part_of n j leaves)) is
+      (part_placed old.seat.view who.seat.view m.built n j leaves placed a) in
+      let first : slice_index_or own 0 0 ≡ leaf.base =
+      ap (λ xs. slice_index_or xs 0 0) (own_is ∙ sym it.bases_are) in
+      told leaf.row (ap (now who.seat.view).pieces first ∙ it.published.0)
+
+  -- its rows are due
+  pub part_due : IsDue old n → IsDue who (length own)
+  part_due h =
+      record {
+        stuck = h.stuck;
+        done = h.done ++ inner_words d ∷ flat_map shape (lens_to n j);
+        rest = flat_map shape (lens_from n (j + 1)) ++ h.rest;
+        at = subst (λ k. IsInBuild who h.stuck
+            (h.done ++ inner_words d ∷ flat_map shape (lens_to n j))
+            (shape k ++ (flat_map shape (lens_from n (j + 1)) ++ h.rest))) (sym length_own)
+            (subst (IsInBuild who h.stuck (h.done ++ inner_words d ∷ flat_map shape (lens_to n j)))
+            (ap (λ xs. xs ++ h.rest) (sizes_left n j less)
+            ∙ append_assoc (shape (part_len n j)) (flat_map shape (lens_from n (j + 1))) h.rest)
+            (m.due h.stuck h.done h.rest h.at));
+      }
+
+  -- where too few words are left for one of them, they are for the whole
+  pub part_short : (words : ℕ) (full : Full) (w : View) → length own ≤ n
+      → IsShort who.seat.view words (length own) full w → IsShort old.seat.view words n full w
+  part_short words full w le h =
+      let few = h.few in
+      record {
+        before = h.before;
+        seen = built_more old.seat.view who.seat.view h.before m.built h.seen;
+        looked = h.looked;
+        some = h.some;
+        few = omega arith;
+        asked = h.asked;
+        words_is = h.words_is;
+        small = h.small;
+      }
+
+-- ---- all parts
+
+-- all parts are laid, by the number of leaves
+record Facts (who : Caller) (base : ℕ) (placed : List PlacedLeaf) (n : ℕ) : Type 0 where
+  held : HoldsRow (now who.seat.view) who.number base (inner_words (degree n))
+  opened : IsOpened who.seat.view.own base (degree n) n
+  keys : words_at who.seat.view.own (base + 4) (degree n - 1)
+      ≡ first_keys (λ leaf. leaf.row.key) (drop 1 (parts_to n (degree n) placed))
+  laid : AreLaid who.seat.view who.number (base + inner_words (degree n)) base
+      (words_at who.seat.view.own (base + 3 + degree n) (degree n)) (parts_to n (degree n) placed)
+  two : 2 ≤ n
+
+module _ (old who : Caller) (leaves : List ℕ) (base d j : ℕ) (m : IsMidway old leaves base d j who)
+    (degree_is : d ≡ degree (length leaves)) (all : j ≡ d) (two : 2 ≤ length leaves) where
+  whole : IsMidway old leaves base (degree (length leaves)) (degree (length leaves)) who
+  whole =
+      subst (λ k. IsMidway old leaves base k (degree (length leaves)) who) degree_is
+      (subst (λ k. IsMidway old leaves base d k who) (all ∙ degree_is) m)
+
+  pub all_laid : (word : ℕ) → word ≡ word_of (InnerAt base) → (placed : List PlacedLeaf)
+      → ArePlaced (now old.seat.view) leaves placed
+      → IsLaid who.seat.view who.number (now old.seat.view).next word placed
+  all_laid word is placed a =
+      let k : length placed ≡ length leaves =
+      sym (length-map placed (λ (leaf : PlacedLeaf). leaf.base)) ∙ ap length a.bases_are in
+      subst (λ n. Facts who base placed n → IsLaid who.seat.view who.number (now old.seat.view).next
+      word placed) k by_length
+      record {
+        held = whole.held;
+        opened = whole.opened;
+        keys = whole.keys placed a;
+        laid = whole.laid placed a;
+        two = two;
+      }
+    where
+      good : ref_of word ≡ Some (InnerAt base)
+      good = ap ref_of is ∙ ref_of-word_of (InnerAt base)
+          (held_good who.seat.view m.built.sound who.number base (inner_words d) m.held)
+
+      by_length : Facts who base placed (length placed)
+          → IsLaid who.seat.view who.number (now old.seat.view).next word placed
+      by_length f =
+          laid_top who.seat.view m.built.sound who.number (now old.seat.view).next base word placed
+          f.two m.high f.held f.opened
+          (f.keys ∙ ap (λ ps. first_keys (λ (leaf : PlacedLeaf). leaf.row.key) (drop 1 ps))
+          (parts_all placed))
+          (subst (AreLaid who.seat.view who.number (base + inner_words (degree (length placed)))
+          base
+          (words_at who.seat.view.own (base + 3 + degree (length placed)) (degree (length placed))))
+          (parts_all placed) f.laid)
+          (least_degree-le (length placed)) good
+
+  pub all_taken : HasTaken old (shape (length leaves)) who
+  all_taken stuck done rest h =
+      let n = length leaves in
+      let to : flat_map shape (lens_to n (degree n)) ≡ flat_map shape (lens_from n 0) =
+      ap (flat_map shape) (lens_all n ∙ sym (lens_first n)) in
+      let left : flat_map shape (lens_from n (degree n)) ++ rest ≡ rest =
+      ap (λ xs. flat_map shape xs ++ rest) (lens_last n) in
+      let done_is : inner_words (degree n) ∷ flat_map shape (lens_to n (degree n)) ≡ shape n =
+      ap (λ xs. inner_words (degree n) ∷ flat_map shape xs) (lens_all n) ∙ sym (shape_many n two) in
+      subst (λ xs. IsInBuild who stuck (done ++ xs) rest) done_is
+      (subst (IsInBuild who stuck (done ++ inner_words (degree n) ∷ flat_map shape
+      (lens_to n (degree n)))) left
+      (whole.due stuck done rest h))

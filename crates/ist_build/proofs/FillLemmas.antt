@@ -1,0 +1,270 @@
+-- Drawing parts, and filling slot by slot. Serves `filling`.
+use Rattle.std.proofs.Common.{◌≡◌, ℕ, ◌+◌, ◌-◌, ◌<◌, ◌==◌, not, List, [], ◌∷◌, Some, option_map, refl, sym, ap, ap₂, ◌∙◌, subst, append-nil, inl, inr, ⊎_elim, arith}
+use Rattle.std.specs.List.{list_any}
+use Rattle.std.proofs.lemmas.Bool.{cases_lt}
+use Rattle.ist_core.specs.declared.events.Event.{Event}
+use Rattle.ist_core.specs.declared.events.Event.TheVariants.{Draw}
+use Rattle.ist_core.specs.declared.lists.HeldRow.{HeldRow}
+use Rattle.ist_core.specs.declared.pairs.Pair.{Pair}
+use Rattle.ist_core.specs.declared.ports.Full.{Full}
+use Rattle.ist_core.specs.declared.states.RebuildRow.{RebuildRow}
+use Rattle.ist_core.specs.After.{after}
+use Rattle.ist_core.specs.Arithmetic.{degree}
+use Rattle.ist_core.specs.Building.{CanDraw}
+use Rattle.ist_core.specs.Lawful.{EachEnabled, state_of}
+use Rattle.ist_core.specs.Logs.{Log, Happened, Draws, same_log, one_event}
+use Rattle.ist_core.specs.Pieces.{Rebuild, drawn}
+use Rattle.ist_core.specs.Rebuilding.{IsFinishedWith}
+use Rattle.ist_core.specs.RowLayout.{rebuild_draw_offset}
+use Rattle.ist_core.specs.Snapshots.{Snapshot, without}
+use Rattle.ist_core.specs.StartLayout.{start}
+use Rattle.ist_core.specs.Slots.{SlotHolds}
+use Rattle.ist_core.proofs.DrawLemmas.{same_rebuild}
+use Rattle.ist_core.proofs.FateLemmas.{grow_between}
+use Rattle.ist_core.proofs.GrowingLemmas.{rebuild_there}
+use Rattle.ist_core.proofs.RowLemmas.{changed_at-same}
+use Rattle.ist_rule.specs.declared.view.View.{View}
+use Rattle.ist_rule.specs.declared.view.Who.TheVariants.{Caller as CallerOf}
+use Rattle.ist_rule.specs.Conditions.{CanAdd}
+use Rattle.ist_rule.specs.Faces.{SeatFace}
+use Rattle.ist_rule.specs.Rule.{IsSound}
+use Rattle.ist_rule.specs.Learning.{now, Looked, Logged, GoesOnTo}
+use Rattle.ist_rule.specs.Watching.{number_of}
+use Rattle.ist_rule.proofs.GoingOnLemmas.{looked_goes_on}
+use Rattle.ist_dcss.proofs.FieldLemmas.{looked_row, row_low}
+use Rattle.ist_rows.specs.declared.callers.Caller.{Caller}
+use Rattle.ist_rows.specs.Rows.{IsCaller, spares_of}
+use Rattle.ist_rows.specs.Building.{HasRefused, sizes_built}
+use Rattle.ist_stability.proofs.SetLemmas.{set_by, set_later}
+use Rattle.ist_coming.proofs.AddingLemmas.{draw_comes}
+use Rattle.ist_rule.proofs.WentOnLemmas.{later_by-goes_on}
+use Rattle.ist_build.specs.Laying.{IsShort}
+use Rattle.ist_build.specs.Naming.{drawing}
+use Rattle.ist_build.specs.Calls.{IsTold}
+use Rattle.ist_build.specs.Putting.{PutOn, IsShared, IsSlotSet, IsFilling, IsStopped}
+use Rattle.ist_build.proofs.AwayLemmas.{keeps_all}
+use Rattle.ist_build.proofs.BackLemmas.{IsBack, back_logged, back_loads}
+use Rattle.ist_build.proofs.BuiltLemmas.{loads_built, built_same}
+use Rattle.ist_build.proofs.PartPutLemmas.{shared_on, shared_now}
+use Rattle.ist_build.proofs.PutOnLemmas.{built_put, put_now, put_lawful, put_grow, put_more, short_stopped}
+use Rattle.ist_build.proofs.TopLemmas.{sizes_on}
+
+-- ---- draws
+
+-- a part that was drawn lies below the draw word
+pub record WasDrawn (t : Snapshot) (rebuild part : ℕ) : Type 0 where
+  pub row : RebuildRow
+  pub published : t.pieces rebuild ≡ Some (Rebuild row)
+  pub below : part < row.draw
+
+module _ (pairs : List Pair) (words caller rebuild part : ℕ) where
+  on_later : (log : Log) (event : Event) → EachEnabled (start pairs words) (event ∷ log)
+      → WasDrawn (state_of pairs words log) rebuild part
+      → WasDrawn (state_of pairs words (event ∷ log)) rebuild part
+  on_later log event h it =
+      let on = rebuild_there (state_of pairs words log).pieces
+      (state_of pairs words (event ∷ log)).pieces
+      (grow_between pairs words log (event ∷ log) h (one_event event same_log)) rebuild it.row
+      it.published in
+      let below = it.below in
+      let more = on.2.draw in
+      record { row = on.0; published = on.1; below = omega arith }
+
+  here : (log : Log) (event : Event) → EachEnabled (start pairs words) (event ∷ log)
+      → Draws caller rebuild part event → WasDrawn (state_of pairs words (event ∷ log)) rebuild part
+  here log (Draw c o p) h (x, y, z) =
+      subst (λ n. WasDrawn (state_of pairs words (Draw c o p ∷ log)) n part) y
+      (subst (λ n. WasDrawn (state_of pairs words (Draw c o p ∷ log)) o n) z
+      (let can = h.1 in
+      let is = can.part_is in
+      record {
+        row = record (can.row) { draw = can.row.draw + 1 };
+        published = changed_at-same (state_of pairs words log).pieces o drawn
+            ∙ ap (option_map drawn) can.published;
+        below = omega arith;
+      }))
+  here log _ h is = absurd is
+
+  pub was_drawn : (log : Log) → EachEnabled (start pairs words) log
+      → Happened (Draws caller rebuild part) log → WasDrawn (state_of pairs words log) rebuild part
+  was_drawn [] h i = absurd i
+  was_drawn (event ∷ log) h (inl is) = here log event h is
+  was_drawn (event ∷ log) h (inr i) = on_later log event h (was_drawn log h.0 i)
+
+drawing_drops : (number rebuild part : ℕ) (t : Snapshot)
+    → (after t (Draw number rebuild part)).held ≡ without [] t.held
+drawing_drops number rebuild part t =
+    sym (keeps_all (λ (h : HeldRow). not (list_any (λ base. base == h.base) [])) t.held
+    (λ h i. refl))
+
+module _ (old : Caller) (seat : SeatFace) (c : IsCaller old) (refused : HasRefused old)
+    (s : IsSound old.seat.view) (rebuild target root k d place word : ℕ)
+    (sh : IsShared (now old.seat.view) rebuild target root k) (d_is : d ≡ degree k)
+    (place_is : place ≡ rebuild + rebuild_draw_offset)
+    (l : Looked old.seat.view place word seat.view) where
+  gone : GoesOnTo old.seat.view seat.view
+  gone = looked_goes_on old.seat.view place word seat.view l
+
+  there : IsShared (now seat.view) rebuild target root k
+  there = shared_now old.seat.view seat.view gone rebuild target root k sh
+
+  mine : seat.view.who ≡ CallerOf old.number
+  mine = ap (λ x. x.who) gone.same ∙ c.mine
+
+  told_draw : word ≡ there.row.draw
+  told_draw =
+      looked_row old.seat.view place word seat.view l rebuild (Rebuild there.row) 4 there.row.draw
+      there.published refl place_is
+
+  pub draw_low : place < seat.view.words
+  draw_low =
+      let low = (row_low seat.view gone.sound rebuild (Rebuild there.row) there.published 4
+      (omega arith)).0 in
+      omega arith
+
+  can : word < d → CanDraw (now seat.view) seat.view.log old.number rebuild there.row.draw
+  can less =
+      record {
+        known = gone.sound.is_true.low old.number mine;
+        row = there.row;
+        published = there.published;
+        rooted = set_by there.row.root _ there.root_is (λ q. cc);
+        k = k;
+        finished = subst (λ n. IsFinishedWith (now seat.view) n k) (sym there.target_is)
+            there.finished;
+        shared = there.shared;
+        part_is = refl;
+        not_past = λ earlier i.
+            let it = was_drawn seat.view.start seat.view.words old.number rebuild earlier
+            seat.view.log
+            gone.sound.lawful.enabled i in
+            let below = it.below in
+            let same = ap (λ r. r.draw) (same_rebuild ((now seat.view).pieces rebuild) it.row
+            there.row
+            it.published there.published) in
+            let is = told_draw in
+            omega arith;
+      }
+
+  drawing_is : drawing seat.view place ≡ (λ found. Draw old.number rebuild found)
+  drawing_is =
+      ap₂ (λ n o. λ found. Draw n o found) (ap number_of mine)
+      (let q : place - rebuild_draw_offset ≡ rebuild = omega arith in q)
+
+  -- the part may be drawn
+  pub draw_allowed : word < d → CanAdd seat.view place (drawing seat.view place)
+  draw_allowed less =
+      subst (CanAdd seat.view place) (sym drawing_is)
+      (subst (λ p. CanAdd seat.view p (λ found. Draw old.number rebuild found)) (sym place_is)
+      (draw_comes seat.view gone.sound old.number mine rebuild there.row.draw (can less)))
+
+  -- and the caller is where it was
+  pub draw_back : (last : SeatFace) (part : ℕ) → Logged seat.view (drawing seat.view place part)
+      last.view
+      → IsBack old (record old { seat = last })
+  draw_back last part x =
+      let event = Draw old.number rebuild part in
+      let logged = subst (λ (e : Event). Logged seat.view e last.view)
+      (ap (λ f. f part) drawing_is) x in
+      back_logged old (record old { seat = seat }) c refused s refl refl
+      (loads_built old.seat.view seat.view gone) []
+      record { stored = tt; held = tt; once = tt; rising = tt; high = tt }
+      (sizes_on old seat c gone ∙ sym (append-nil (sizes_built old))) event tt (λ n. refl)
+      (drawing_drops old.number rebuild part) last logged
+
+  pub draw_looked : IsBack old (record old { seat = seat })
+  draw_looked = back_loads old seat c refused gone
+
+-- ---- slot by slot
+
+-- a set slot stays set
+pub set_on : (v w : View) → PutOn v w → (node j : ℕ) → IsSlotSet (now v) node j → IsSlotSet (now w)
+    node j
+set_on v w b node j h =
+    let later = set_later v.start v.words (put_lawful v w b).opens (later_by-goes_on b.later)
+    (put_lawful v w b).enabled node j record { word = h.word; holds = h.holds; set = h.set } in
+    record {
+      word = later.word;
+      holds = subst (λ t. SlotHolds t node j later.word) (sym (put_now v w b)) later.holds;
+      set = later.set;
+    }
+
+pub filling_begun : (old : Caller) → IsCaller old → HasRefused old → IsSound old.seat.view
+    → (rebuild target root k : ℕ) → IsShared (now old.seat.view) rebuild target root k
+    → IsFilling old rebuild target root k 0 old
+filling_begun old c refused s rebuild target root k sh =
+    record {
+      caller = c;
+      refused = refused;
+      number = refl;
+      rows = refl;
+      put = built_put old.seat.view old.seat.view (built_same old.seat.view s);
+      shared = sh;
+      filled = λ j less. absurd (omega arith);
+    }
+
+-- other slots
+filling_on : (old who new : Caller) (rebuild target root k i : ℕ)
+    → IsFilling old rebuild target root k i who → PutOn who.seat.view new.seat.view
+    → IsCaller new → HasRefused new → new.number ≡ who.number → spares_of new ≡ spares_of who
+    → IsFilling old rebuild target root k i new
+filling_on old who new rebuild target root k i f put caller refused number rows =
+    record {
+      caller = caller;
+      refused = refused;
+      number = number ∙ f.number;
+      rows = rows ∙ f.rows;
+      put = put_more old.seat.view who.seat.view new.seat.view f.put put;
+      shared = shared_on (now who.seat.view) (now new.seat.view)
+          (put_grow who.seat.view new.seat.view put) rebuild target root k f.shared;
+      filled = λ j less. set_on who.seat.view new.seat.view put root j (f.filled j less);
+    }
+
+pub filling_same : (old who new : Caller) (rebuild target root k : ℕ)
+    → IsFilling old rebuild target root k 0 who → PutOn who.seat.view new.seat.view
+    → IsCaller new → HasRefused new → new.number ≡ who.number → spares_of new ≡ spares_of who
+    → IsFilling old rebuild target root k 0 new
+filling_same old who new rebuild target root k f put caller refused number rows =
+    filling_on old who new rebuild target root k 0 f put caller refused number rows
+
+pub filling_more : (old who new : Caller) (rebuild target root k i : ℕ)
+    → IsFilling old rebuild target root k i who → PutOn who.seat.view new.seat.view
+    → IsCaller new → HasRefused new → new.number ≡ who.number → spares_of new ≡ spares_of who
+    → IsSlotSet (now new.seat.view) root i → IsFilling old rebuild target root k (i + 1) new
+filling_more old who new rebuild target root k i f put caller refused number rows set =
+    let on = filling_on old who new rebuild target root k i f put caller refused number rows in
+    record {
+      caller = caller;
+      refused = refused;
+      number = on.number;
+      rows = on.rows;
+      put = on.put;
+      shared = on.shared;
+      filled = λ j less. ⊎_elim (λ low. on.filled j low)
+          (λ high. subst (IsSlotSet (now new.seat.view) root) (let q : i ≡ j = omega arith in q)
+          set)
+          (cases_lt j i);
+    }
+
+-- a build that was refused on the way
+pub shared_told : (t : Snapshot) (rebuild target root k : ℕ) → IsShared t rebuild target root k
+    → IsTold t rebuild k
+shared_told t rebuild target root k h =
+    record {
+      row = h.row;
+      published = h.published;
+      started = h.started;
+      finished = subst (λ n. IsFinishedWith t n k) (sym h.target_is) h.finished;
+    }
+
+pub filling_stopped : (old who mid : Caller) (rebuild target root k i : ℕ) (w : View) (words : ℕ)
+    (full : Full) → IsShared (now old.seat.view) rebuild target root k
+    → IsFilling old rebuild target root k i who → PutOn who.seat.view mid.seat.view
+    → IsShort mid.seat.view words k full w → IsStopped old.seat.view rebuild words full w
+filling_stopped old who mid rebuild target root k i w words full sh f put short =
+    short_stopped old.seat.view mid.seat.view w rebuild words k full
+    (shared_told (now old.seat.view) rebuild target root k sh)
+    (put_more old.seat.view who.seat.view mid.seat.view f.put put) short
+
+pub put_same : (v : View) → IsSound v → PutOn v v
+put_same v s = built_put v v (built_same v s)

@@ -1,0 +1,212 @@
+-- A root whose slots are all set is filled. Serves `filling`.
+use Rattle.std.proofs.Common.{◌≡◌, ◌≢◌, ℕ, ◌+◌, ◌/◌, ◌^◌, ◌<◌, ◌≤◌, slice_get, Some, None, refl, Result, Ok, Err, IfOk, sym, ap, ◌∙◌, subst, arith}
+use Rattle.ist_core.specs.declared.ports.Full.{Full}
+use Rattle.ist_core.specs.declared.states.InnerRow.{InnerRow}
+use Rattle.ist_core.specs.declared.states.RebuildRow.{RebuildRow}
+use Rattle.ist_core.specs.Arithmetic.{degree}
+use Rattle.ist_core.specs.Growing.{AllGrow}
+use Rattle.ist_core.specs.Marking.{HasTarget}
+use Rattle.ist_core.specs.Pieces.{Inner, Rebuild}
+use Rattle.ist_core.specs.Rebuilding.{IsFinishedWith}
+use Rattle.ist_core.specs.References.{InnerAt, ref_of, unset_word}
+use Rattle.ist_core.specs.RowLayout.{rebuild_root_offset}
+use Rattle.ist_core.specs.Shapes.{share_from}
+use Rattle.ist_core.specs.Slots.{SlotHolds, in_anchor, in_row}
+use Rattle.ist_core.specs.Snapshots.{Snapshot}
+use Rattle.ist_core.proofs.DrawLemmas.{same_rebuild}
+use Rattle.ist_core.proofs.GrowingLemmas.{rebuild_there}
+use Rattle.ist_core.proofs.ImageLemmas.{get_below}
+use Rattle.ist_core.proofs.PlaceLemmas.{anchor_free}
+use Rattle.ist_core.proofs.ReferenceLemmas.{word_of-ref_of}
+use Rattle.ist_core.proofs.SlotLemmas.{slot_once}
+use Rattle.ist_rule.specs.declared.view.View.{View}
+use Rattle.ist_rule.specs.Rule.{IsSound}
+use Rattle.ist_rule.specs.Learning.{now, Looked}
+use Rattle.ist_rule.proofs.GoingOnLemmas.{looked_goes_on}
+use Rattle.ist_dcss.proofs.FieldLemmas.{looked_row}
+use Rattle.ist_dcss.proofs.SlotPlaceLemmas.{has_degree}
+use Rattle.ist_stability.proofs.SetLemmas.{set_by}
+use Rattle.ist_coming.proofs.BeatenLemmas.{finished_once}
+use Rattle.ist_build.specs.Calls.{IsTold, IsRooted, IsBuiltOut}
+use Rattle.ist_build.specs.Putting.{PutOn, IsShared, IsSlotSet, IsStopped}
+use Rattle.ist_build.proofs.BuiltLemmas.{built_grow, loads_built}
+use Rattle.ist_build.proofs.PartPutLemmas.{shared_on}
+use Rattle.ist_build.proofs.PutOnLemmas.{put_grow, put_more}
+use Rattle.ist_build.proofs.RootFormLemmas.{HasForm, IsRowSet, root_form}
+use Rattle.ist_build.proofs.RootPutLemmas.{told_on, told_target}
+
+-- a root stays
+pub rooted_on : (t u : Snapshot) → AllGrow t.pieces u.pieces → (rebuild : ℕ) → IsRooted t rebuild
+    → IsRooted u rebuild
+rooted_on t u g rebuild h =
+    let it = rebuild_there t.pieces u.pieces g rebuild h.row h.published in
+    record { row = it.0; published = it.1; set = λ e. h.set (sym (it.2.rooted h.set) ∙ e) }
+
+-- its form, by the number of keys
+record FormOf (v : View) (rebuild k : ℕ) (r : RebuildRow) : Type 0 where
+  form : HasForm (now v) r
+  same : form.k ≡ k
+
+form_of : (v : View) → IsSound v → (rebuild k : ℕ) → IsTold (now v) rebuild k
+    → (h : IsRooted (now v) rebuild) → FormOf v rebuild k h.row
+form_of v s rebuild k told h =
+    let f = root_form v.start v.words s.lawful.opens v.log s.lawful.enabled rebuild h.row
+    h.published
+    h.set in
+    let row_is = same_rebuild ((now v).pieces rebuild) told.row h.row told.published h.published in
+    record {
+      form = f;
+      same = finished_once (now v) h.row.target f.k k f.finished
+          (subst (λ r. IsFinishedWith (now v) r.target k) row_is told.finished);
+    }
+
+same_row : (v : View) (base : ℕ) (r s : InnerRow) → (now v).pieces base ≡ Some (Inner r)
+    → (now v).pieces base ≡ Some (Inner s) → r ≡ s
+same_row v base r s e f = cc
+
+-- over few keys the root is filled
+pub few_filled : (v : View) → IsSound v → (rebuild k : ℕ) → IsTold (now v) rebuild k
+    → IsRooted (now v) rebuild → k < share_from → IsBuiltOut (now v) rebuild
+few_filled v s rebuild k told h few =
+    let f = form_of v s rebuild k told h in
+    let same = f.same in
+    record {
+      row = h.row;
+      published = h.published;
+      built = record {
+        set = h.set;
+        whole = λ base i word e holds. by base i word (f.form.few (omega arith) base e) holds;
+      };
+    }
+  where
+    by : (base i word : ℕ) → IsRowSet (now v) base → SlotHolds (now v) base i word → word ≢
+        unset_word
+    by base i word it (in_anchor a b e) =
+        absurd (clash it (ap (now v).pieces a ∙ anchor_free v.start v.words v.log s.lawful.enabled))
+      where
+        clash : (x : IsRowSet (now v) base) → (now v).pieces base ≡ None → ⊥
+        clash x e = let p = x.published in cc
+    by base i word it (in_row r e got) =
+        λ is. it.set i (ap (λ x. slice_get x.slots i) (same_row v base it.row r it.published e) ∙
+        got
+        ∙ ap (λ x. Some x) is)
+
+-- over many it is where each slot is set
+pub many_filled : (v : View) → IsSound v → (rebuild target root k : ℕ)
+    → IsShared (now v) rebuild target root k
+    → ((i : ℕ) → i < degree k → IsSlotSet (now v) root i) → IsBuiltOut (now v) rebuild
+many_filled v s rebuild target root k sh all =
+    record {
+      row = sh.row;
+      published = sh.published;
+      built = record {
+        set = set_by sh.row.root _ sh.root_is (λ q. cc);
+        whole = λ base i word e holds.
+            by i word (subst (λ n. SlotHolds (now v) n i word) (one base root (sym e ∙ sh.root_is))
+            holds);
+      };
+    }
+  where
+    one : (a b : ℕ) → Some (InnerAt a) ≡ Some (InnerAt b) → a ≡ b
+    one a b e = cc
+
+    by : (i word : ℕ) → SlotHolds (now v) root i word → word ≢ unset_word
+    by i word (in_anchor a b e) =
+        absurd (clash (ap (now v).pieces a ∙ anchor_free v.start v.words v.log s.lawful.enabled)
+        sh.node.published)
+      where
+        clash : (now v).pieces root ≡ None → (now v).pieces root ≡ Some (Inner sh.node.row) → ⊥
+        clash e f = cc
+    by i word (in_row r e got) =
+        λ is.
+        let row_is = same_row v root sh.node.row r sh.node.published e in
+        let d = has_degree v.start v.words v.log s.lawful.enabled root r e in
+        let many = d.slots in
+        let degree_is : r.degree ≡ degree k = ap (λ x. x.degree) (sym row_is) ∙ sh.node.degree_is in
+        let inside = get_below r.slots i word got in
+        let h = all i (omega arith) in
+        h.set (slot_once (now v) root i h.word word
+        (anchor_free v.start v.words v.log s.lawful.enabled) h.holds (in_row r e got) ∙ is)
+
+pub ok_filled : (v w : View) → IsSound w → PutOn v w → (rebuild target root k : ℕ)
+    → IsShared (now v) rebuild target root k → (answer : Result (Unit {0}) Full)
+    → IfOk answer (λ done. (i : ℕ) → i < degree k → IsSlotSet (now w) root i)
+    → IfOk answer (λ done. IsBuiltOut (now w) rebuild)
+ok_filled v w s b rebuild target root k sh (Ok done) all =
+    many_filled w s rebuild target root k
+    (shared_on (now v) (now w) (put_grow v w b) rebuild target root k sh) all
+ok_filled v w s b rebuild target root k sh (Err full) all = tt
+
+-- ---- the shared root
+
+-- its word names its row
+pub record NamesRoot (v : View) (rebuild target k word : ℕ) : Type 0 where
+  pub low : word / 8 < 2 ^ 32
+  pub shared : IsShared (now v) rebuild target (word / 8) k
+
+pub names_root : (v w : View) (rebuild target k place word : ℕ) → IsTold (now v) rebuild k
+    → HasTarget (now v) rebuild target → IsRooted (now v) rebuild → share_from ≤ k
+    → place ≡ rebuild + rebuild_root_offset → Looked v place word w
+    → NamesRoot w rebuild target k word
+names_root v w rebuild target k place word told g h many at l =
+    let grow = built_grow v w (loads_built v w (looked_goes_on v place word w l)) in
+    let on = told_on (now v) (now w) grow rebuild k told in
+    let root = rooted_on (now v) (now w) grow rebuild h in
+    let t = told_target (now v) rebuild target k told g in
+    let f = form_of w l.sound rebuild k on root in
+    let same = f.same in
+    let top = f.form.many (omega arith) in
+    let is = looked_row v place word w l rebuild (Rebuild root.row) 3 root.row.root root.published
+    refl at in
+    let read = word_of-ref_of root.row.root (InnerAt top.base) top.ref_is in
+    let word_is = read.same_word in
+    let base_is : word / 8 ≡ top.base = omega arith in
+    let limit = read.good.below_limit in
+    let row_is = same_rebuild ((now w).pieces rebuild) on.row root.row on.published root.published
+    in
+    let there = rebuild_there (now v).pieces (now w).pieces grow rebuild g.row g.published in
+    let target_is : on.row.target ≡ target =
+    ap (λ r. r.target) (same_rebuild ((now w).pieces rebuild) on.row there.0 on.published there.1)
+    ∙ there.2.target ∙ g.target_is in
+    record {
+      low = omega arith;
+      shared = subst (λ n. IsShared (now w) rebuild target n k) (sym base_is)
+          record {
+            row = on.row;
+            published = on.published;
+            target_is = target_is;
+            started = on.started;
+            finished = subst (λ n. IsFinishedWith (now w) n k) target_is on.finished;
+            shared = many;
+            root_is = ap (λ r. ref_of r.root) row_is ∙ top.ref_is;
+            node = record {
+              row = top.row;
+              published = top.published;
+              degree_is = top.degree_is ∙ ap degree same;
+            };
+          };
+    }
+
+-- ---- refusals
+
+-- what was stopped behind something else was stopped
+pub err_stopped_on : (u v w : View) (rebuild words k : ℕ) → IsTold (now u) rebuild k → PutOn u v
+    → (full : Full) → IsStopped v rebuild words full w → IsStopped u rebuild words full w
+err_stopped_on u v w rebuild words k told a full h =
+    let on = told_on (now u) (now v) (put_grow u v a) rebuild k told in
+    let row_is = same_rebuild ((now v).pieces rebuild) on.row h.told.row on.published
+    h.told.published in
+    let same = finished_once (now v) h.told.row.target k h.k
+    (subst (λ r. IsFinishedWith (now v) r.target k) row_is on.finished) h.told.finished in
+    record {
+      k = h.k;
+      told = subst (IsTold (now u) rebuild) same told;
+      before = h.before;
+      seen = put_more u v h.before a h.seen;
+      looked = h.looked;
+      some = h.some;
+      few = h.few;
+      asked = h.asked;
+      words_is = h.words_is;
+      small = h.small;
+    }

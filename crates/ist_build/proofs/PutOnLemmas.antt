@@ -1,0 +1,63 @@
+-- How a seat goes on while its caller builds and puts in place. Serves `root`.
+use Rattle.std.proofs.Common.{◌≡◌, ℕ, ◌≤◌}
+use Rattle.ist_core.specs.declared.events.Event.{Event}
+use Rattle.ist_core.specs.declared.events.Event.TheVariants.{Reserve}
+use Rattle.ist_core.specs.declared.ports.Full.{Full}
+use Rattle.ist_core.specs.Growing.{AllGrow}
+use Rattle.ist_core.specs.Lawful.{Lawful, state_of}
+use Rattle.ist_rule.specs.declared.view.View.{View}
+use Rattle.ist_rule.specs.Learning.{now, GoesOnTo}
+use Rattle.ist_build.proofs.LaidOnLemmas.{laid_now, laid_lawful, laid_who, laid_grow, laid_next, laid_more, laid_all, goes_on_laid}
+use Rattle.ist_build.specs.Laying.{Reserves, BuiltOn, IsShort}
+use Rattle.ist_build.specs.Calls.{Builds, IsTold}
+use Rattle.ist_build.specs.Putting.{PutOn, IsStopped}
+
+pub put_now : (v w : View) → PutOn v w → now w ≡ state_of v.start v.words w.log
+put_now = laid_now Builds
+
+pub put_lawful : (v w : View) → PutOn v w → Lawful v.start v.words w.log
+put_lawful = laid_lawful Builds
+
+pub put_who : (v w : View) → PutOn v w → w.who ≡ v.who
+put_who = laid_who Builds
+
+pub put_grow : (v w : View) → PutOn v w → AllGrow (now v).pieces (now w).pieces
+put_grow = laid_grow Builds
+
+pub put_next : (v w : View) → PutOn v w → (now v).next ≤ (now w).next
+put_next = laid_next Builds
+
+-- going on twice
+pub put_more : (u v w : View) → PutOn u v → PutOn v w → PutOn u w
+put_more = laid_more Builds
+
+-- a build goes on so
+builds_reserving : (event : Event) → Reserves event → Builds event
+builds_reserving (Reserve c base size) is = tt
+builds_reserving _ is = absurd is
+
+pub built_put : (v w : View) → BuiltOn v w → PutOn v w
+built_put = laid_all Reserves Builds builds_reserving
+
+-- and so do loads
+pub loads_put : (v w : View) → GoesOnTo v w → PutOn v w
+loads_put = goes_on_laid Builds
+
+-- ---- refusals
+
+-- a build that was refused, behind what was done before
+pub short_stopped : (u v w : View) (rebuild words k : ℕ) (full : Full) → IsTold (now u) rebuild k
+    → PutOn u v → IsShort v words k full w → IsStopped u rebuild words full w
+short_stopped u v w rebuild words k full told a h =
+    record {
+      k = k;
+      told = told;
+      before = h.before;
+      seen = put_more u v h.before a (built_put v h.before h.seen);
+      looked = h.looked;
+      some = h.some;
+      few = h.few;
+      asked = h.asked;
+      words_is = h.words_is;
+      small = h.small;
+    }

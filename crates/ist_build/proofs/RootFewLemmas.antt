@@ -1,0 +1,275 @@
+-- A root over no key or over one, and what is known before a build. Serves `root`.
+use Rattle.std.proofs.Common.{◌≡◌, ◌≢◌, ℕ, ◌+◌, ◌-◌, ◌<◌, List, [], ◌∷◌, length, map, take, drop, Some, Result, Ok, Err, IfErr, refl, sym, ap, ap₂, ◌∙◌, subst, append-nil, arith}
+use Rattle.ist_core.specs.declared.events.Event.{Event}
+use Rattle.ist_core.specs.declared.events.Event.TheVariants.{Root}
+use Rattle.ist_core.specs.declared.ports.Full.{Full}
+use Rattle.ist_core.specs.Building.{IsRoot, root_whole, root_top}
+use Rattle.ist_core.specs.Elements.{Each}
+use Rattle.ist_core.specs.Growing.{AllGrow}
+use Rattle.ist_core.specs.Ideals.{IsIdeal, of_none, of_one}
+use Rattle.ist_core.specs.Leaves.{PlacedLeaf, HasLeaves}
+use Rattle.ist_core.specs.Marking.{HasTarget}
+use Rattle.ist_core.specs.Pieces.{Pieces, Rebuild, Leaf}
+use Rattle.ist_core.specs.Rebuilding.{IsFinishedWith}
+use Rattle.ist_core.specs.References.{Ref, Empty, LeafAt, InnerAt, Unset, IsGoodBase, ref_of, word_of, unset_word}
+use Rattle.ist_core.specs.RowLayout.{rebuild_root_offset}
+use Rattle.ist_core.specs.Shapes.{share_from, share_from_fits}
+use Rattle.ist_core.specs.Snapshots.{Snapshot}
+use Rattle.ist_core.proofs.GrowingLemmas.{rebuild_there}
+use Rattle.ist_core.proofs.ReferenceLemmas.{ref_of-unset, ref_of-word_of}
+use Rattle.ist_rule.specs.declared.view.View.{View}
+use Rattle.ist_rule.specs.declared.view.Who.TheVariants.{Caller as CallerOf}
+use Rattle.ist_rule.specs.Conditions.{CanExchange}
+use Rattle.ist_rule.specs.Faces.{SeatFace}
+use Rattle.ist_rule.specs.Rule.{IsSound}
+use Rattle.ist_rule.specs.Learning.{now, Looked, Logged, GoesOnTo}
+use Rattle.ist_rule.specs.Watching.{number_of}
+use Rattle.ist_rule.proofs.GoingOnLemmas.{looked_goes_on, goes_on_same, goes_on_more}
+use Rattle.ist_dcss.proofs.FieldLemmas.{row_low, good_base}
+use Rattle.ist_rows.specs.declared.callers.Caller.{Caller}
+use Rattle.ist_rows.specs.Rows.{IsCaller}
+use Rattle.ist_rows.specs.Building.{HasRefused, sizes_built}
+use Rattle.ist_coming.specs.Builds.{IsRootBuilt, WasUnset}
+use Rattle.ist_coming.proofs.RootLemmas.{root_comes}
+use Rattle.ist_build.specs.Laying.{BuiltOn, IsRootLaid, IsTarget, IsLeaf, IsShort}
+use Rattle.ist_build.specs.Naming.{rooting_few}
+use Rattle.ist_build.specs.Calls.{IsTold}
+use Rattle.ist_build.specs.Putting.{PutOn, IsStopped}
+use Rattle.ist_build.specs.Reading.{IsRebuild}
+use Rattle.ist_build.proofs.PutOnLemmas.{short_stopped}
+use Rattle.ist_build.proofs.BuiltLemmas.{built_grow, loads_built, leaf_goes_on}
+use Rattle.ist_build.proofs.ReadingLemmas.{leaves_number}
+use Rattle.ist_rebuilds.proofs.FinishedLeafLemmas.{finished_leaves}
+use Rattle.ist_rebuilds.proofs.FewLeafLemmas.{leaves_stand}
+use Rattle.ist_links.specs.Linking.{IsFinished}
+use Rattle.ist_coming.proofs.BeatenLemmas.{finished_once}
+use Rattle.ist_build.proofs.TopLemmas.{sizes_on, leaf_there}
+use Rattle.ist_build.proofs.UnsetLemmas.{unset_built}
+use Rattle.ist_build.proofs.BackLemmas.{IsBack, back_logged, back_loads}
+use Rattle.ist_build.proofs.RootPutLemmas.{IsRooted, told_on, told_target, root_looked, root_put, root_ready}
+
+-- ---- a root over no key or one
+
+-- a rebuild over no key is that of nothing
+pub none_root : (v : View) → IsSound v → (target k word : ℕ) → IsFinishedWith (now v) target k → k ≡
+    0
+    → word ≡ word_of Empty → (ps : Pieces) (leaves : List PlacedLeaf)
+    → HasLeaves (now v).pieces (Some (InnerAt target)) leaves → IsRoot ps word k leaves target []
+none_root v s target k word f none is ps leaves has =
+    at leaves (leaves_number v s target k f leaves has)
+  where
+    few : k < share_from
+    few = let fits = share_from_fits in omega arith
+
+    at : (ls : List PlacedLeaf) → length ls ≡ k → IsRoot ps word k ls target []
+    at [] e = root_whole Empty few (ap ref_of is ∙ ref_of-word_of Empty tt) of_none
+    at (x ∷ ls) e = absurd (omega arith)
+
+-- a leaf that was read lies at a good base
+pub leaf_good : (v : View) → IsSound v → (base : ℕ) → IsLeaf (now v) base → IsGoodBase base
+leaf_good v s base h = good_base v s base (Leaf h.row) h.published (omega arith)
+
+pub one_key_good : (v : View) → IsSound v → (target k base : ℕ) → IsFinishedWith (now v) target k
+    → k ≢ 0
+    → ((leaves : List PlacedLeaf) → HasLeaves (now v).pieces (Some (InnerAt target)) leaves
+    → map (λ l. l.base) (take 1 (drop 0 leaves)) ≡ base ∷ [])
+    → IsGoodBase base
+one_key_good v s target k base f some told =
+    leaf_good v s base
+    (leaf_there v v s (goes_on_same v s) target 0 base
+    record { k = k; finished = f; enough = omega arith } told)
+
+-- and one over one key is its leaf
+pub one_root : (v w : View) → IsSound v → GoesOnTo v w → (target k base word : ℕ)
+    → IsFinishedWith (now v) target k → k < 2 → k ≢ 0
+    → ((leaves : List PlacedLeaf) → HasLeaves (now v).pieces (Some (InnerAt target)) leaves
+    → map (λ l. l.base) (take 1 (drop 0 leaves)) ≡ base ∷ [])
+    → IsGoodBase base → word ≡ word_of (LeafAt base) → (leaves : List PlacedLeaf)
+    → HasLeaves (now v).pieces (Some (InnerAt target)) leaves
+    → IsRoot (now w).pieces word k leaves target []
+one_root v w s g target k base word f small some told good is leaves has =
+    at leaves (leaves_number v s target k f leaves has) (told leaves has)
+    (leaves_stand (now v).pieces (Some (InnerAt target)) leaves has)
+  where
+    few : k < share_from
+    few = let fits = share_from_fits in omega arith
+
+    at : (ls : List PlacedLeaf) → length ls ≡ k → map (λ l. l.base) (take 1 (drop 0 ls)) ≡ base ∷ []
+        → Each (λ l. (now v).pieces l.base ≡ Some (Leaf l.row)) ls
+        → IsRoot (now w).pieces word k ls target []
+    at [] e first all = absurd (omega arith)
+    at (x ∷ y ∷ ls) e first all = absurd (omega arith)
+    at (x ∷ []) e first all =
+        let same : x.base ≡ base = cc in
+        root_whole (LeafAt base) few (ap ref_of is ∙ ref_of-word_of (LeafAt base) good)
+        (of_one same (ap (now w).pieces (sym same) ∙ leaf_goes_on v w g x.base x.row all.0))
+
+-- the event that an exchange for such a word names
+pub rooting_few_is : (v : View) (number rebuild place word : ℕ) → v.who ≡ CallerOf number
+    → place ≡ rebuild + rebuild_root_offset
+    → rooting_few v place word ≡ Root number rebuild word []
+rooting_few_is v number rebuild place word mine at =
+    ap₂ (λ n o. Root n o word []) (ap number_of mine)
+    (let q : place - rebuild_root_offset ≡ rebuild = omega arith in q)
+
+module _ (old : Caller) (seat : SeatFace) (c : IsCaller old) (refused : HasRefused old)
+    (s : IsSound old.seat.view) (gone : GoesOnTo old.seat.view seat.view)
+    (rebuild target k word : ℕ) (told : IsTold (now old.seat.view) rebuild k)
+    (g : HasTarget (now old.seat.view) rebuild target)
+    (root : (leaves : List PlacedLeaf)
+    → HasLeaves (now old.seat.view).pieces (Some (InnerAt target)) leaves
+    → IsRoot (now seat.view).pieces word k leaves target [])
+    (place : ℕ) (at : place ≡ rebuild + rebuild_root_offset) where
+  abbrev mid : Caller
+  mid = record old { seat = seat }
+
+  b : BuiltOn old.seat.view seat.view
+  b = loads_built old.seat.view seat.view gone
+
+  t : IsTarget (now old.seat.view) target k
+  t = told_target (now old.seat.view) rebuild target k told g
+
+  some : (leaves : List PlacedLeaf) × HasLeaves (now old.seat.view).pieces (Some (InnerAt target))
+      leaves
+      × (length leaves ≡ k)
+  some =
+      finished_leaves old.seat.view.start old.seat.view.words s.lawful.opens old.seat.view.log
+      s.lawful.enabled target k t.finished
+
+  few_laid : IsRootLaid old mid target k word some.0
+  few_laid =
+      record {
+        rows = [];
+        owns = record { stored = tt; held = tt; once = tt; rising = tt; high = tt };
+        root = root some.0 some.1;
+        sizes = sizes_on old seat c gone ∙ sym (append-nil (sizes_built old));
+      }
+
+  ready : IsRootBuilt (now seat.view) old.number rebuild word []
+  unfolding few_laid
+  ready = root_ready old mid rebuild target k word s b told g some.0 some.1 few_laid
+
+  mine : seat.view.who ≡ CallerOf old.number
+  mine = ap (λ x. x.who) gone.same ∙ c.mine
+
+  pub few_allowed : (unset : ℕ) → unset ≡ unset_word
+      → CanExchange seat.view place unset word (rooting_few seat.view place word)
+  few_allowed unset is =
+      subst (λ (e : Event). CanExchange seat.view place unset word e)
+      (sym (rooting_few_is seat.view old.number rebuild place word mine at))
+      (subst (λ q. CanExchange seat.view q unset word (Root old.number rebuild word [])) (sym at)
+      (subst (λ q. CanExchange seat.view (rebuild + rebuild_root_offset) q word
+      (Root old.number rebuild word [])) (sym is)
+      (root_comes seat.view gone.sound old.number rebuild word [] mine tt ready)))
+
+  few_set : word ≢ unset_word
+  few_set = at_root (root some.0 some.1)
+    where
+      at_root : IsRoot (now seat.view).pieces word k some.0 target [] → word ≢ unset_word
+      at_root (root_whole ref less e ideal) f = by ref some.0 ideal
+          (sym e ∙ ap ref_of f ∙ ref_of-unset)
+        where
+          by : (x : Ref) (ls : List PlacedLeaf) → IsIdeal (now seat.view).pieces x ls target []
+              → Some x ≡ Some Unset → ⊥
+          by _ _ of_none h = cc
+          by _ _ (of_one same there) h = cc
+      at_root (root_top base row more e top unset one) f =
+          absurd (let n = ap length one in omega arith)
+
+  pub few_hit : (last : SeatFace) → Logged seat.view (rooting_few seat.view place word) last.view
+      → IsRooted old (record old { seat = last }) rebuild word
+  few_hit last l =
+      let event = Root old.number rebuild word [] in
+      let logged = subst (λ (e : Event). Logged seat.view e last.view)
+      (rooting_few_is seat.view old.number rebuild place word mine at) l in
+      record {
+        back = back_logged old mid c refused s refl refl b []
+            record { stored = tt; held = tt; once = tt; rising = tt; high = tt }
+            (sizes_on old seat c gone ∙ sym (append-nil (sizes_built old))) event tt (λ n. refl)
+            (λ x. refl) last logged;
+        root = root_put seat.view last.view old.number rebuild word [] few_set logged;
+      }
+
+  pub few_missed : (last : SeatFace) (found : ℕ) → found ≢ unset_word
+      → Looked seat.view place found last.view
+      → IsRooted old (record old { seat = last }) rebuild found
+  few_missed last found set l =
+      record {
+        back = back_loads old last c refused
+            (goes_on_more old.seat.view seat.view last.view gone
+            (looked_goes_on seat.view place found last.view l));
+        root = root_looked seat.view last.view rebuild place found ready.row ready.published at l
+            set;
+      }
+
+  pub few_low : place < seat.view.words
+  few_low =
+      let low = (row_low seat.view gone.sound rebuild (Rebuild ready.row) ready.published 3
+      (omega arith)).0 in
+      omega arith
+
+-- ---- before the build
+
+-- what was found of a rebuild without a root, behind loads
+pub record IsFound (old new : Caller) (rebuild target k : ℕ) : Type 0 where
+  pub back : IsBack old new
+  pub goes : GoesOnTo old.seat.view new.seat.view
+  pub told : IsTold (now new.seat.view) rebuild k
+  pub target_is : HasTarget (now new.seat.view) rebuild target
+  pub before : IsTold (now old.seat.view) rebuild k
+
+target_on : (t u : Snapshot) → AllGrow t.pieces u.pieces → (rebuild target : ℕ)
+    → HasTarget t rebuild target → HasTarget u rebuild target
+target_on t u g rebuild target h =
+    let it = rebuild_there t.pieces u.pieces g rebuild h.row h.published in
+    record { row = it.0; published = it.1; target_is = it.2.target ∙ h.target_is }
+
+-- the target is finished
+pub target_done : (v w : View) → GoesOnTo v w → (rebuild target k : ℕ) → IsTold (now v) rebuild k
+    → HasTarget (now w) rebuild target → IsFinished (now w) target
+target_done v w g rebuild target k told h =
+    let on = told_on (now v) (now w) (built_grow v w (loads_built v w g)) rebuild k told in
+    (k, (told_target (now w) rebuild target k on h).finished)
+
+pub found_so : (old : Caller) (seat last : SeatFace) → IsCaller old → HasRefused old
+    → (first : GoesOnTo old.seat.view seat.view) → (second : GoesOnTo seat.view last.view)
+    → (rebuild target k n : ℕ) → IsTold (now old.seat.view) rebuild k
+    → HasTarget (now seat.view) rebuild target → IsFinishedWith (now last.view) target n
+    → IsFound old (record old { seat = last }) rebuild target n
+found_so old seat last c refused first second rebuild target k n told h f =
+    let v = old.seat.view in
+    let goes = goes_on_more v seat.view last.view first second in
+    let on = told_on (now v) (now last.view) (built_grow v last.view (loads_built v last.view goes))
+    rebuild k told in
+    let there = target_on (now seat.view) (now last.view)
+    (built_grow seat.view last.view (loads_built seat.view last.view second)) rebuild target h in
+    let t = told_target (now last.view) rebuild target k on there in
+    let same : k ≡ n = finished_once (now last.view) target k n t.finished f in
+    record {
+      back = back_loads old last c refused goes;
+      goes = goes;
+      told = subst (IsTold (now last.view) rebuild) same on;
+      target_is = there;
+      before = subst (IsTold (now v) rebuild) same told;
+    }
+
+-- the rebuild is published
+pub told_rebuild : (v w : View) → GoesOnTo v w → (rebuild k : ℕ) → IsTold (now v) rebuild k
+    → IsRebuild (now w) rebuild
+told_rebuild v w g rebuild k told =
+    let on = told_on (now v) (now w) (built_grow v w (loads_built v w g)) rebuild k told in
+    record { row = on.row; published = on.published }
+
+-- the root was seen Unset
+pub found_unset : (u v w : View) → GoesOnTo v w → GoesOnTo u v → {number place : ℕ}
+    → u.who ≡ CallerOf number → WasUnset v number place → WasUnset w number place
+found_unset u v w g first {number = number} {place = place} mine was =
+    unset_built v w number place (ap (λ x. x.who) first.same ∙ mine) (loads_built v w g) was
+
+pub err_stopped : (u v w : View) (rebuild words k : ℕ) (answer : Result ℕ Full)
+    → IsTold (now u) rebuild k → PutOn u v
+    → IfErr answer (λ full. IsShort v words k full w)
+    → IfErr answer (λ full. IsStopped u rebuild words full w)
+err_stopped u v w rebuild words k (Ok word) told a short = tt
+err_stopped u v w rebuild words k (Err full) told a short =
+    short_stopped u v w rebuild words k full told a short

@@ -1,0 +1,191 @@
+-- Slots of finished nodes: what they were passed with, and what hangs below. Serves `reading`.
+use Rattle.std.proofs.Common.{◌≡◌, ℕ, ◌+◌, ◌<◌, ◌≤◌, length, length-append, get_or, Some, refl, sym, ap, ◌∙◌, subst, arith}
+use Rattle.std.proofs.lemmas.Option.{slice_get-get_or}
+use Rattle.ist_core.specs.declared.states.ChangeRow.{ChangeRow}
+use Rattle.ist_core.specs.Freezing.{KeepsWord, holds_it, holds_change}
+use Rattle.ist_core.specs.Logs.{Passes}
+use Rattle.ist_core.specs.Marking.{IsFrozen}
+use Rattle.ist_core.specs.Pieces.{Inner, Change}
+use Rattle.ist_core.specs.Rebuilding.{IsFinishedWith}
+use Rattle.ist_core.specs.References.{Ref, InnerAt, ChangeAt, ref_of, word_of}
+use Rattle.ist_core.specs.RowLayout.{slot_place, place_limit}
+use Rattle.ist_core.specs.Slots.{SlotHolds, in_row, past_rebuild}
+use Rattle.ist_core.proofs.FrozenLemmas.{closed, frozen_reads}
+use Rattle.ist_core.proofs.GrowingLemmas.{inner_there, change_there}
+use Rattle.ist_core.proofs.ImageLemmas.{get-words_of_slot}
+use Rattle.ist_core.proofs.PlaceLemmas.{anchor_free}
+use Rattle.ist_core.proofs.ReferenceLemmas.{ref_of-word_of}
+use Rattle.ist_core.proofs.SlotLemmas.{slot_once, same_inner}
+use Rattle.ist_links.specs.Linking.{IsFinished}
+use Rattle.ist_links.proofs.FinishedLemmas.{finished_slot, finished_down}
+use Rattle.ist_links.proofs.FormLemmas.{finished_with_grows}
+use Rattle.ist_links.proofs.PassLemmas.{passed_no_change}
+use Rattle.ist_rule.specs.declared.view.View.{View}
+use Rattle.ist_rule.specs.Rule.{IsSound}
+use Rattle.ist_rule.specs.Learning.{now, GoesOnTo, Looked}
+use Rattle.ist_rule.proofs.GoingOnLemmas.{looked_goes_on}
+use Rattle.ist_dcss.proofs.FieldLemmas.{row_low, looked_row, good_base}
+use Rattle.ist_dcss.proofs.SlotPlaceLemmas.{has_degree}
+use Rattle.ist_rule.proofs.WentOnLemmas.{goes_on_went, goes_on_grow}
+use Rattle.ist_mark.proofs.KeepingLemmas.{happened_went}
+use Rattle.ist_build.specs.Laying.{Reserves}
+use Rattle.ist_build.specs.Reading.{HasSlots, IsNoChange, SlotReads}
+
+-- ---- the node
+
+-- a finished node is finished, with its slots
+pub slots_on : (v w : View) → GoesOnTo v w → (node degree : ℕ) → HasSlots v node degree
+    → HasSlots w node degree
+slots_on v w g node degree h =
+    let grow = goes_on_grow v w g in
+    let it = inner_there (now v).pieces (now w).pieces grow node h.row h.published in
+    let f = finished_with_grows (now v) (now w) grow node h.keys
+    record { row = h.row; published = h.published; status = h.finished } in
+    let same = same_inner ((now w).pieces node) it.0 f.row it.1 f.published in
+    record {
+      row = it.0;
+      published = it.1;
+      keys = h.keys;
+      finished = ap (λ r. r.status) same ∙ f.status;
+      degree_is = it.2.degree ∙ h.degree_is;
+    }
+
+pub slots_finished : (v : View) (node degree : ℕ) → HasSlots v node degree → IsFinished (now v) node
+slots_finished v node degree h =
+    (h.keys, record { row = h.row; published = h.published; status = h.finished })
+
+pub finished_on : (v w : View) → GoesOnTo v w → (node k : ℕ) → IsFinishedWith (now v) node k
+    → IsFinishedWith (now w) node k
+finished_on v w g node k f =
+    finished_with_grows (now v) (now w) (goes_on_grow v w g) node k f
+
+pub frozen_on : (v w : View) → GoesOnTo v w → (node i word : ℕ) → IsFrozen v.log node i word
+    → IsFrozen w.log node i word
+frozen_on v w g node i word p =
+    happened_went Reserves v w (goes_on_went Reserves v w g) (Passes node i word) p
+
+-- ---- slots
+
+-- each slot holds some word
+pub slot_some : (v : View) → IsSound v → (node degree i : ℕ) → HasSlots v node degree → i < degree
+    → (word : ℕ) × SlotHolds (now v) node i word
+slot_some v s node degree i h less =
+    let d = has_degree v.start v.words v.log s.lawful.enabled node h.row h.published in
+    let many = d.slots in
+    let same = h.degree_is in (
+      get_or h.row.slots i 0,
+      in_row h.row h.published
+          (slice_get-get_or h.row.slots i 0 (omega arith)),
+    )
+
+-- there are few
+pub few_slots : (v : View) → IsSound v → (node degree : ℕ) → HasSlots v node degree
+    → (degree < place_limit) × (node + 3 + degree + degree ≤ v.words)
+few_slots v s node degree h =
+    let d = has_degree v.start v.words v.log s.lawful.enabled node h.row h.published in
+    let many = d.slots in
+    let keys = d.keys in
+    let same = h.degree_is in
+    let both = length-append h.row.keys h.row.slots in
+    let low = row_low v s node (Inner h.row) h.published
+    (3 + length h.row.keys + length h.row.slots) (omega arith) in
+    let place = low.0 in
+    let all = low.1 in
+    (omega arith, omega arith)
+
+-- a load of a slot's place gives what it holds
+pub slot_told : (v : View) (place word : ℕ) (w : View) → Looked v place word w
+    → (node degree i : ℕ) → HasSlots v node degree → i < degree → place ≡ slot_place node degree i
+    → SlotHolds (now w) node i word
+slot_told v place word w l node degree i before less at =
+    let h = slots_on v w (looked_goes_on v place word w l) node degree before in
+    let s = l.sound in
+    let d = has_degree w.start w.words w.log s.lawful.enabled node h.row h.published in
+    let many = d.slots in
+    let keys = d.keys in
+    let same = h.degree_is in
+    let got = slice_get-get_or h.row.slots i 0 (omega arith) in
+    let is = looked_row v place word w l node (Inner h.row) (4 + length h.row.keys + i)
+    (get_or h.row.slots i 0) h.published (get-words_of_slot h.row i ∙ got) (omega arith) in
+    in_row h.row h.published (got ∙ ap (λ x. Some x) (sym is))
+
+module _ (w : View) (s : IsSound w) (node degree i word : ℕ) (h : HasSlots w node degree)
+    (less : i < degree) (slot : SlotHolds (now w) node i word) where
+  -- the word with which it was passed
+  passed : (p : ℕ) × IsFrozen w.log node i p
+  passed =
+      let it = finished_slot w.start w.words w.log s.lawful.enabled node i word
+      (slots_finished w node degree h) slot in
+      (it.word, it.passed)
+
+  keeps : KeepsWord (now w) w.log node i passed.0
+  keeps = (closed w.start w.words s.lawful.opens w.log s.lawful.enabled node i passed.0
+      passed.1).keeps
+
+  once : (other : ℕ) → SlotHolds (now w) node i other → word ≡ other
+  once other o =
+      slot_once (now w) node i word other (anchor_free w.start w.words w.log s.lawful.enabled) slot
+      o
+
+  -- a word that is no change is that word
+  pub passed_plain : IsNoChange word → IsFrozen w.log node i word
+  passed_plain none = at keeps
+    where
+      at : KeepsWord (now w) w.log node i passed.0 → IsFrozen w.log node i word
+      at (holds_it k) = subst (λ x. IsFrozen w.log node i x) (sym (once passed.0 k)) passed.1
+      at (holds_change x) =
+          absurd (none x.base (ap ref_of (once (word_of (ChangeAt x.base)) x.in_slot)
+          ∙ ref_of-word_of (ChangeAt x.base)
+          (good_base w s x.base (Change x.change) x.published (omega arith))))
+
+  one_base : (a b : ℕ) → Some (ChangeAt a) ≡ Some (ChangeAt b) → a ≡ b
+  one_base a b e = cc
+
+  -- and a change would take it out
+  pub passed_change : (change : ℕ) → ref_of word ≡ Some (ChangeAt change)
+      → (row : ChangeRow) × ((now w).pieces change ≡ Some (Change row))
+      × IsFrozen w.log node i row.from
+  passed_change change is = at keeps
+    where
+      at : KeepsWord (now w) w.log node i passed.0
+          → (row : ChangeRow) × ((now w).pieces change ≡ Some (Change row))
+          × IsFrozen w.log node i row.from
+      at (holds_it k) =
+          absurd (passed_no_change _ w.log node i passed.0 s.lawful.enabled passed.1 change
+          (ap ref_of (sym (once passed.0 k)) ∙ is))
+      at (holds_change x) =
+          let same : change ≡ x.base =
+          one_base change x.base (sym is ∙ ap ref_of (once (word_of (ChangeAt x.base)) x.in_slot)
+          ∙ ref_of-word_of (ChangeAt x.base)
+          (good_base w s x.base (Change x.change) x.published (omega arith))) in (
+            x.change,
+            ap (now w).pieces same ∙ x.published,
+            subst (λ y. IsFrozen w.log node i y) (sym x.from) passed.1,
+          )
+
+-- the load of that word
+pub from_told : (v : View) (place word : ℕ) (w : View) → Looked v place word w → (change : ℕ)
+    (row : ChangeRow) → (now v).pieces change ≡ Some (Change row) → place ≡ change + 4
+    → word ≡ row.from
+from_told v place word w l change row e at =
+    let it = change_there (now v).pieces (now w).pieces
+    (goes_on_grow v w (looked_goes_on v place word w l)) change row e in
+    looked_row v place word w l change (Change it.0) 4 it.0.from it.1 refl at
+    ∙ ap (λ r. r.from) it.2.others
+
+-- ---- what hangs below
+
+-- a slot reads as the word that it was passed with
+pub frozen_slot_reads : (v : View) → IsSound v → (node i word : ℕ) (ref : Ref)
+    → IsFrozen v.log node i word → past_rebuild (now v).pieces (ref_of word) ≡ Some ref
+    → SlotReads (now v) node i ref
+frozen_slot_reads v s node i word ref p is held slot =
+    frozen_reads v.start v.words s.lawful.opens v.log s.lawful.enabled node i word held p slot ∙ is
+
+-- the child of a finished node is finished
+pub child_finished : (v : View) → IsSound v → (node degree i child : ℕ) → HasSlots v node degree
+    → i < degree → SlotReads (now v) node i (InnerAt child) → IsFinished (now v) child
+child_finished v s node degree i child h less reads =
+    let it = slot_some v s node degree i h less in
+    finished_down v.start v.words s.lawful.opens v.log s.lawful.enabled node i child
+    (slots_finished v node degree h) record { word = it.0; holds = it.1; reads = reads it.0 it.1 }

@@ -1,0 +1,22 @@
+use Rattle.std.proofs.Common.{rules}
+use Rattle.ist_build.proofs.AnswerLemmas.{put_went, root_named, stopped_out}
+use Rattle.ist_build.proofs.calls.set_root.Goals as goal
+
+-- a build that was refused
+pub returns-in_err-word-clause-went : goal.returns-in_err-word-clause-went
+returns-in_err-word-clause-went g c = put_went _ _ c.know.ensures.sound c.place_root.ensures.put
+
+pub returns-in_err-word-clause-full : goal.returns-in_err-word-clause-full
+returns-in_err-word-clause-full g c =
+    let full = stopped_out _ _ _ _ _ c.know.ensures.sound c.in_err-word.ensures.full in
+    search rules
+
+-- the word of the root names something
+pub named-requires : goal.named-requires
+named-requires g c =
+    record {
+      named = root_named _ c.know-2.ensures.sound c.args.rebuild _ c.in_ok-word.ensures.root;
+    }
+
+pub returns-clause-went : goal.returns-clause-went
+returns-clause-went g c = put_went _ _ c.know.ensures.sound c.place_root.ensures.put

@@ -1,0 +1,10 @@
+use Rattle.std.proofs.Common.{IfOk, subst, rules}
+use Rattle.ist_core.specs.Shapes.{shape}
+use Rattle.ist_rows.specs.Building.{HasTaken}
+use Rattle.ist_build.proofs.parts.build_few.Goals as goal
+
+pub returns-clause-taken : goal.returns-clause-taken
+returns-clause-taken g c =
+    subst (λ n. IfOk c.build_read.result
+    (λ word. HasTaken c.args.who.now (shape n) c.build_read.new.who))
+    (let few = c.requires.few in search rules) c.build_read.ensures.taken

@@ -1,0 +1,11 @@
+use Rattle.std.proofs.Common.{IfOk, subst, rules}
+use Rattle.std.proofs.lemmas.List.{length-take-le}
+use Rattle.ist_core.specs.Shapes.{shape}
+use Rattle.ist_rows.specs.Building.{HasTaken}
+use Rattle.ist_build.proofs.parts.build_many.Goals as goal
+
+pub returns-clause-taken : goal.returns-clause-taken
+returns-clause-taken g c =
+    subst (λ n. IfOk c.build_read.result
+    (λ word. HasTaken c.args.who.now (shape n) c.build_read.new.who))
+    (let few = c.requires.few in length-take-le _ _ (search rules)) c.build_read.ensures.taken

@@ -1,0 +1,38 @@
+use Rattle.std.proofs.Common.{◌^◌, ◌<◌, ap, arith}
+use Rattle.ist_core.specs.Pieces.{Rebuild}
+use Rattle.ist_rule.proofs.GoingOnLemmas.{looked_goes_on}
+use Rattle.ist_dcss.proofs.FieldLemmas.{row_low}
+use Rattle.ist_mark.proofs.BelowLemmas.{target_told, target_low}
+use Rattle.ist_build.proofs.reading.target_of.Goals as goal
+
+-- the row lies within the table
+pub load-requires-clause-within : goal.load-requires-clause-within
+load-requires-clause-within c =
+    let it = c.requires.published in
+    let low = (row_low _ c.know.ensures.sound c.args.rebuild (Rebuild it.row) it.published 0
+    (omega arith)).0 in
+    let from = c.from.ensures in
+    let known = c.know.ensures.words in
+    let same = ap (λ t. t.words) c.requires.same_table in
+    omega arith
+
+-- and the target is a row of it
+pub overflow_cast-result : goal.overflow_cast-result
+overflow_cast-result c =
+    let from = c.from.ensures in
+    let h : c.load.result < 2 ^ 32 =
+    target_low _ _ _ _ c.load.ensures.looked c.args.rebuild
+    (record { row = c.requires.published.row; published = c.requires.published.published })
+    (omega arith) in
+    record { fits = h }
+
+pub returns-clause-seen : goal.returns-clause-seen
+returns-clause-seen c = looked_goes_on _ _ _ _ c.load.ensures.looked
+
+-- the word is the target
+pub returns-clause-target : goal.returns-clause-target
+returns-clause-target c =
+    let from = c.from.ensures in
+    target_told _ _ _ _ c.load.ensures.looked c.args.rebuild
+    (record { row = c.requires.published.row; published = c.requires.published.published })
+    (omega arith)

@@ -1,0 +1,17 @@
+use Rattle.ist_rule.proofs.GoingOnLemmas.{goes_on_more}
+use Rattle.ist_build.proofs.TopLemmas.{leaf_there, key_told_at}
+use Rattle.ist_build.proofs.top.key_at.Goals as goal
+
+pub key_of-requires-clause-leaf : goal.key_of-requires-clause-leaf
+key_of-requires-clause-leaf c =
+    leaf_there _ _ c.know.ensures.sound c.leaf_base-leaf.ensures.seen c.args.target c.args.i _
+    c.requires.finished c.leaf_base-leaf.ensures.leaf
+
+pub returns-clause-seen : goal.returns-clause-seen
+returns-clause-seen c =
+    goes_on_more _ _ _ c.leaf_base-leaf.ensures.seen c.key_of.ensures.seen
+
+pub returns-clause-key : goal.returns-clause-key
+returns-clause-key c =
+    key_told_at _ _ c.leaf_base-leaf.ensures.seen c.args.target c.args.i _ _
+    c.leaf_base-leaf.ensures.leaf c.key_of.ensures.key

@@ -1,0 +1,122 @@
+-- What the calls of this crate ask, and what they tell.
+use Rattle.std.specs.Prelude.{◌≡◌, ◌≢◌, ℕ, ◌<◌, ◌≤◌, ◌+◌, List, slice_get, Some}
+use Rattle.ist_core.specs.declared.events.Event.{Event}
+use Rattle.ist_core.specs.declared.events.Event.TheVariants.{Reserve, Root, Draw, Place, Lose}
+use Rattle.ist_core.specs.declared.lists.Row.{Row}
+use Rattle.ist_core.specs.declared.ports.Full.{Full}
+use Rattle.ist_core.specs.declared.states.RebuildRow.{RebuildRow}
+use Rattle.ist_core.specs.Arithmetic.{degree, part_len, part_start}
+use Rattle.ist_core.specs.Ideals.{IsIdeal}
+use Rattle.ist_core.specs.Leaves.{PlacedLeaf}
+use Rattle.ist_core.specs.Pieces.{Rebuild, with_inners}
+use Rattle.ist_core.specs.Rebuilding.{IsStarted, IsFinishedWith, IsBuilt}
+use Rattle.ist_core.specs.References.{Ref, LeafAt, ref_of, unset_word}
+use Rattle.ist_core.specs.RowLayout.{next_place, inner_words}
+use Rattle.ist_core.specs.Shapes.{share_from}
+use Rattle.ist_core.specs.Snapshots.{Snapshot, bases_of}
+use Rattle.ist_rule.specs.declared.view.View.{View}
+use Rattle.ist_rule.specs.Going.{WentOn}
+use Rattle.ist_rule.specs.Learning.{now, Looked}
+use Rattle.ist_rows.specs.declared.callers.Caller.{Caller}
+use Rattle.ist_build.specs.Laying.{OwnsRows}
+
+-- ---- what is asked
+
+-- the target is finished, with no fewer keys than this
+pub record HasKeys (t : Snapshot) (target least : ℕ) : Type 0 where
+  pub k : ℕ
+  pub finished : IsFinishedWith t target k
+  pub enough : least ≤ k
+
+-- so many leaves from this one on are a whole target with few keys, or a part of one with many
+pub data IsShare (k start len : ℕ) : Type 0 where
+  share_whole : k < share_from → start ≡ 0 → len ≡ k → IsShare k start len
+  share_part : (j : ℕ) → share_from ≤ k → j < degree k → start ≡ part_start k j → len ≡ part_len k j
+      → IsShare k start len
+
+-- the target is that of a started rebuild, and is finished; the leaves are such a share of it
+pub record MayBuild (t : Snapshot) (target start len : ℕ) : Type 0 where
+  pub rebuild : ℕ
+  pub row : RebuildRow
+  pub published : t.pieces rebuild ≡ Some (Rebuild row)
+  pub target_is : row.target ≡ target
+  pub started : IsStarted t rebuild
+  pub k : ℕ
+  pub finished : IsFinishedWith t target k
+  pub share : IsShare k start len
+
+-- the rebuild is started, and its target is finished with so many keys
+pub record IsTold (t : Snapshot) (rebuild k : ℕ) : Type 0 where
+  pub row : RebuildRow
+  pub published : t.pieces rebuild ≡ Some (Rebuild row)
+  pub started : IsStarted t rebuild
+  pub finished : IsFinishedWith t row.target k
+
+-- the rebuild is started, and its target is finished
+pub record IsBuildable (t : Snapshot) (rebuild : ℕ) : Type 0 where
+  pub k : ℕ
+  pub told : IsTold t rebuild k
+
+-- the rebuild has a root
+pub record IsRooted (t : Snapshot) (rebuild : ℕ) : Type 0 where
+  pub row : RebuildRow
+  pub published : t.pieces rebuild ≡ Some (Rebuild row)
+  pub set : row.root ≢ unset_word
+
+-- ---- how the seat goes on
+
+-- the event is one of a build: a reserving, a draw, or what puts the build in place or loses it
+abbrev pub Builds : Event → Type 0
+Builds (Reserve caller base size) = Unit {0}
+Builds (Root caller rebuild word rows) = Unit {0}
+Builds (Draw caller rebuild part) = Unit {0}
+Builds (Place caller rebuild i word rows) = Unit {0}
+Builds (Lose caller bases) = Unit {0}
+Builds _ = ⊥
+
+-- ---- what is told
+
+-- the reference is that of the leaf number i
+pub record IsLeafOf (leaves : List PlacedLeaf) (i : ℕ) (ref : Ref) : Type 0 where
+  pub leaf : PlacedLeaf
+  pub there : slice_get leaves i ≡ Some leaf
+  pub ref_is : ref ≡ LeafAt leaf.base
+
+-- the reference is the ideal subtree over these leaves, in rows that the caller took since its earlier
+-- state: above each row that was published then
+pub record IsPartLaid (old new : Caller) (ref : Ref) (leaves : List PlacedLeaf) : Type 0 where
+  pub rows : List Row
+  pub owns : OwnsRows new.seat.view new.number (now old.seat.view).next rows
+  pub ideal : (above : ℕ) → above < (now old.seat.view).next
+      → IsIdeal (with_inners (now new.seat.view).pieces rows) ref leaves above (bases_of rows)
+
+-- the rebuild has this root
+pub record HasRootAs (t : Snapshot) (rebuild : ℕ) (ref : Ref) : Type 0 where
+  pub row : RebuildRow
+  pub published : t.pieces rebuild ≡ Some (Rebuild row)
+  pub root_is : ref_of row.root ≡ Some ref
+  pub set : row.root ≢ unset_word
+
+-- the rebuild has a root, and no slot of it is Unset
+pub record IsBuiltOut (t : Snapshot) (rebuild : ℕ) : Type 0 where
+  pub row : RebuildRow
+  pub published : t.pieces rebuild ≡ Some (Rebuild row)
+  pub built : IsBuilt t row.root
+
+-- a load of the first word gave how many words are used, and too few are left for a row over no more
+-- than so many keys
+pub record IsOutOfWords (v : View) (words keys : ℕ) (full : Full) (w : View) : Type 0 where
+  pub before : View
+  pub seen : WentOn Builds v before
+  pub looked : Looked before next_place full.next w
+  pub some : ℕ
+  pub few : some ≤ keys
+  pub asked : full.asked ≡ inner_words (degree some)
+  pub words_is : full.words ≡ words
+  pub small : words < full.next + full.asked
+
+-- the same, for a row over no more keys than the finished target of the rebuild has
+pub record RebuildIsShort (v : View) (rebuild words : ℕ) (full : Full) (w : View) : Type 0 where
+  pub k : ℕ
+  pub told : IsTold (now v) rebuild k
+  pub out : IsOutOfWords v words k full w

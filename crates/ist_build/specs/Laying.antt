@@ -1,0 +1,140 @@
+-- Ideal subtrees in rows that a caller holds, and how its seat goes on while it lays them.
+use Rattle.std.specs.Prelude.{◌≡◌, ℕ, ◌+◌, ◌<◌, ◌≤◌, List, [], ◌∷◌, ◌++◌, length, map, replicate, Some}
+use Rattle.ist_core.specs.declared.events.Event.{Event}
+use Rattle.ist_core.specs.declared.events.Event.TheVariants.{Reserve}
+use Rattle.ist_core.specs.declared.lists.Row.{Row}
+use Rattle.ist_core.specs.declared.states.InnerRow.{InnerRow}
+use Rattle.ist_core.specs.declared.states.LeafRow.{LeafRow}
+use Rattle.ist_core.specs.declared.states.RebuildRow.{RebuildRow}
+use Rattle.ist_core.specs.declared.ports.Full.{Full}
+use Rattle.ist_core.specs.Arithmetic.{degree}
+use Rattle.ist_core.specs.Elements.{Each, Distinct}
+use Rattle.ist_core.specs.Building.{IsRoot}
+use Rattle.ist_core.specs.Ideals.{IsIdeal, IsTop}
+use Rattle.ist_core.specs.Leaves.{PlacedLeaf}
+use Rattle.ist_core.specs.Pieces.{Leaf, Rebuild, with_inners}
+use Rattle.ist_core.specs.References.{Ref, InnerAt, ref_of, unset_word}
+use Rattle.ist_core.specs.RowLayout.{next_place, inner_words}
+use Rattle.ist_core.specs.Shapes.{shape}
+use Rattle.ist_core.specs.Rebuilding.{IsStarted, IsFinishedWith}
+use Rattle.ist_core.specs.Snapshots.{Snapshot, bases_of, sizes_of, HoldsRows}
+use Rattle.ist_rule.specs.declared.view.View.{View}
+use Rattle.ist_rule.specs.Rule.{IsSound, own_at}
+use Rattle.ist_rule.specs.Learning.{now, Looked}
+use Rattle.ist_rule.specs.Conditions.{StoredAll}
+use Rattle.ist_rows.specs.declared.callers.Caller.{Caller}
+use Rattle.ist_rows.specs.Building.{IsInBuild, sizes_built}
+use Rattle.ist_rule.specs.Authors.{LaterBy}
+
+-- ---- how the seat goes on
+
+-- the event is a reserving
+abbrev pub Reserves : Event → Type 0
+Reserves (Reserve caller base size) = Unit {0}
+Reserves _ = ⊥
+
+-- the seat has made loads, and events that P is true of, and stored words into rows that it reserved
+-- since, and nothing else
+pub record LaidOn (P : Event → Type 0) (v w : View) : Type 0 where
+  pub later : LaterBy v.who P v.log w.log
+  pub sound : IsSound w
+  pub same : w ≡ record v { log = w.log; own = w.own; loads = w.loads; loaded = w.loaded }
+  pub own : (place : ℕ) → place < (now v).next → own_at w.own place ≡ own_at v.own place
+  pub loaded : v.loaded ≤ w.loaded
+
+-- the same, where it has reserved rows and made no other event
+abbrev pub BuiltOn : View → View → Type 0
+BuiltOn = LaidOn Reserves
+
+-- ---- leaves
+
+-- these are published leaves, at these bases
+pub record ArePlaced (t : Snapshot) (bases : List ℕ) (leaves : List PlacedLeaf) : Type 0 where
+  pub bases_are : map (λ leaf. leaf.base) leaves ≡ bases
+  pub published : Each (λ leaf. t.pieces leaf.base ≡ Some (Leaf leaf.row)) leaves
+
+-- a leaf is published at the base
+pub record IsLeaf (t : Snapshot) (base : ℕ) : Type 0 where
+  pub row : LeafRow
+  pub published : t.pieces base ≡ Some (Leaf row)
+
+-- leaves are published at these bases
+abbrev pub HaveLeaves : Snapshot → List ℕ → Type 0
+HaveLeaves t bases = (leaves : List PlacedLeaf) × ArePlaced t bases leaves
+
+-- ---- what is laid
+
+-- each is greater than those before it
+abbrev pub Rises : List ℕ → Type 0
+Rises [] = Unit {0}
+Rises (x ∷ xs) = Each (λ y. x < y) xs × Rises xs
+
+-- the caller holds these rows, which lie from `low` on in their order, with the words that it stored
+pub record OwnsRows (w : View) (number low : ℕ) (rows : List Row) : Type 0 where
+  pub stored : StoredAll w rows
+  pub held : HoldsRows (now w) number rows
+  pub once : Distinct (bases_of rows)
+  pub rising : Rises (bases_of rows)
+  pub high : Each (λ row. low ≤ row.base) rows
+
+-- the word is the ideal subtree over these leaves, in rows that the caller holds, from `low` on
+pub record IsLaid (w : View) (number low word : ℕ) (leaves : List PlacedLeaf) : Type 0 where
+  pub rows : List Row
+  pub owns : OwnsRows w number low rows
+  pub ref : Ref
+  pub ref_is : ref_of word ≡ Some ref
+  pub ideal : (above : ℕ) → above < low
+      → IsIdeal (with_inners (now w).pieces rows) ref leaves above (bases_of rows)
+
+-- the word is the top row alone of the ideal tree over these leaves, with every slot Unset, in a row
+-- that the caller holds, from `low` on
+pub record IsTopLaid (w : View) (number low word : ℕ) (leaves : List PlacedLeaf) : Type 0 where
+  pub rows : List Row
+  pub owns : OwnsRows w number low rows
+  pub base : ℕ
+  pub row : InnerRow
+  pub ref_is : ref_of word ≡ Some (InnerAt base)
+  pub top : (above : ℕ) → above < low
+      → IsTop (with_inners (now w).pieces rows) base row leaves above
+  pub unset : row.slots ≡ replicate (degree (length leaves)) unset_word
+  pub one : bases_of rows ≡ base ∷ []
+
+-- the word is a root over these leaves of a target with k keys, in rows that the caller took since an
+-- earlier state of it: its others are those that it had then
+pub record IsRootLaid (old new : Caller) (target k word : ℕ) (leaves : List PlacedLeaf) : Type 0 where
+  pub rows : List Row
+  pub owns : OwnsRows new.seat.view new.number (now old.seat.view).next rows
+  pub root : IsRoot (with_inners (now new.seat.view).pieces rows) word k leaves target (bases_of rows)
+  pub sizes : sizes_built new ≡ sizes_built old ++ sizes_of rows
+
+-- ---- a build
+
+-- the rows of the build that the caller is at come to those of an ideal subtree of so many keys
+pub record IsDue (who : Caller) (keys : ℕ) : Type 0 where
+  pub stuck : List ℕ
+  pub done : List ℕ
+  pub rest : List ℕ
+  pub at : IsInBuild who stuck done (shape keys ++ rest)
+
+-- a load of the first word gave how many words are used, and too few are left for a row over no more
+-- than so many keys
+pub record IsShort (v : View) (words keys : ℕ) (full : Full) (w : View) : Type 0 where
+  pub before : View
+  pub seen : BuiltOn v before
+  pub looked : Looked before next_place full.next w
+  pub some : ℕ
+  pub few : some ≤ keys
+  pub asked : full.asked ≡ inner_words (degree some)
+  pub words_is : full.words ≡ words
+  pub small : words < full.next + full.asked
+
+-- ---- a target
+
+-- the target is that of a started rebuild, and is finished with so many keys
+pub record IsTarget (t : Snapshot) (target k : ℕ) : Type 0 where
+  pub rebuild : ℕ
+  pub row : RebuildRow
+  pub published : t.pieces rebuild ≡ Some (Rebuild row)
+  pub target_is : row.target ≡ target
+  pub started : IsStarted t rebuild
+  pub finished : IsFinishedWith t target k

@@ -1,0 +1,102 @@
+-- What a build has laid of a row's parts. What the functions inside this crate promise each other.
+use Rattle.std.specs.Prelude.{◌≡◌, ℕ, zero, suc, ◌+◌, ◌-◌, ◌≤◌, List, [], ◌∷◌, ◌++◌, length, map, drop, replicate, Some, nat_lt, if◌then◌else◌}
+use Rattle.std.specs.List.{flat_map, range_with_len}
+use Rattle.ist_core.specs.declared.lists.Row.{Row}
+use Rattle.ist_core.specs.Arithmetic.{degree, part_len}
+use Rattle.ist_core.specs.Ideals.{AreIdeal}
+use Rattle.ist_core.specs.Leaves.{PlacedLeaf, HasLeaves}
+use Rattle.ist_core.specs.Parts.{cut, first_keys}
+use Rattle.ist_core.specs.Pieces.{with_inners}
+use Rattle.ist_core.specs.References.{InnerAt, unset_word}
+use Rattle.ist_core.specs.RowLayout.{inner_words}
+use Rattle.ist_core.specs.Shapes.{shape}
+use Rattle.ist_core.specs.Snapshots.{bases_of, HoldsRow}
+use Rattle.ist_rule.specs.declared.view.View.{View}
+use Rattle.ist_rule.specs.declared.view.OwnWord.{OwnWord}
+use Rattle.ist_rule.specs.Rule.{own_at}
+use Rattle.ist_rule.specs.Learning.{now, storing}
+use Rattle.ist_rows.specs.declared.callers.Caller.{Caller}
+use Rattle.ist_rows.specs.Rows.{spares_of, IsCaller}
+use Rattle.ist_rows.specs.Building.{IsInBuild, sizes_built}
+use Rattle.ist_build.specs.Laying.{BuiltOn, ArePlaced, OwnsRows}
+
+-- so many words that were stored, from the place on
+abbrev pub words_at : List OwnWord → ℕ → ℕ → List ℕ
+words_at own place zero = []
+words_at own place (suc n) = own_at own place ∷ words_at own (place + 1) n
+
+-- each word is the ideal subtree over its part, in rows that the caller holds, from `low` on
+pub record AreLaid (w : View) (number low above : ℕ) (words : List ℕ)
+    (behind : List (List PlacedLeaf)) : Type 0 where
+  pub rows : List Row
+  pub owns : OwnsRows w number low rows
+  pub ideal : AreIdeal (with_inners (now w).pieces rows) words behind above (bases_of rows)
+
+-- how many keys the first parts have
+abbrev pub lens_to : ℕ → ℕ → List ℕ
+lens_to n j = map (part_len n) (range_with_len 0 j)
+
+-- and the others
+abbrev pub lens_from : ℕ → ℕ → List ℕ
+lens_from n j = map (part_len n) (range_with_len j (degree n - j))
+
+-- the first parts
+abbrev pub parts_to : ℕ → ℕ → List PlacedLeaf → List (List PlacedLeaf)
+parts_to n j leaves = cut (lens_to n j) leaves
+
+-- the row's first words were stored
+pub record IsOpened (own : List OwnWord) (base degree size : ℕ) : Type 0 where
+  pub status : own_at own base ≡ 0
+  pub count : own_at own (base + 1) ≡ 0
+  pub degree_is : own_at own (base + 2) ≡ degree
+  pub size_is : own_at own (base + 3) ≡ size
+
+-- the caller came from another state of it to one where the row at the base is its own, and the
+-- first parts are laid
+pub record IsMidway (old : Caller) (leaves : List ℕ) (base d j : ℕ) (who : Caller) : Type 0 where
+  pub caller : IsCaller who
+  pub number : who.number ≡ old.number
+  pub rows : spares_of who ≡ spares_of old
+  pub built : BuiltOn old.seat.view who.seat.view
+  pub high : (now old.seat.view).next ≤ base
+  pub held : HoldsRow (now who.seat.view) who.number base (inner_words d)
+  pub opened : IsOpened who.seat.view.own base d (length leaves)
+  pub laid : (placed : List PlacedLeaf) → ArePlaced (now old.seat.view) leaves placed
+      → AreLaid who.seat.view who.number (base + inner_words d) base
+      (words_at who.seat.view.own (base + 3 + d) j) (parts_to (length leaves) j placed)
+  pub keys : (placed : List PlacedLeaf) → ArePlaced (now old.seat.view) leaves placed
+      → words_at who.seat.view.own (base + 4) (j - 1)
+      ≡ first_keys (λ leaf. leaf.row.key) (drop 1 (parts_to (length leaves) j placed))
+  pub due : (stuck done rest : List ℕ) → IsInBuild old stuck done (shape (length leaves) ++ rest)
+      → IsInBuild who stuck
+      (done ++ inner_words d ∷ flat_map shape (lens_to (length leaves) j))
+      (flat_map shape (lens_from (length leaves) j) ++ rest)
+
+-- the caller came from another state of it to one where the row at the base is its own, with the
+-- first slots Unset and the keys of these parts: the top row alone of the target's ideal tree
+pub record IsTopMidway (old : Caller) (target k base d j : ℕ) (who : Caller) : Type 0 where
+  pub caller : IsCaller who
+  pub number : who.number ≡ old.number
+  pub rows : spares_of who ≡ spares_of old
+  pub built : BuiltOn old.seat.view who.seat.view
+  pub high : (now old.seat.view).next ≤ base
+  pub held : HoldsRow (now who.seat.view) who.number base (inner_words d)
+  pub opened : IsOpened who.seat.view.own base d k
+  pub slots : words_at who.seat.view.own (base + 3 + d) j ≡ replicate j unset_word
+  pub keys : (leaves : List PlacedLeaf)
+      → HasLeaves (now old.seat.view).pieces (Some (InnerAt target)) leaves
+      → words_at who.seat.view.own (base + 4) (j - 1)
+      ≡ first_keys (λ leaf. leaf.row.key) (drop 1 (parts_to k j leaves))
+  pub sizes : sizes_built who ≡ sizes_built old ++ inner_words d ∷ []
+
+-- ---- stores
+
+-- the view that has stored the first words of a row
+abbrev pub opening : View → ℕ → ℕ → ℕ → View
+opening v base d size = storing (storing v (base + 2) d) (base + 3) size
+
+-- the view that has stored slot j of a row, and key j, if there is one
+abbrev pub setting : View → ℕ → ℕ → ℕ → ℕ → ℕ → View
+setting v base d j key word =
+    if nat_lt 0 j then storing (storing v (base + (3 + d + j)) word) (base + (3 + j)) key
+    else storing v (base + (3 + d + j)) word

@@ -1,0 +1,88 @@
+-- How a caller's seat goes on while it builds, and puts in place what it has built.
+use Rattle.std.specs.Prelude.{◌≡◌, ◌≢◌, ℕ, ◌+◌, ◌<◌, ◌≤◌, Some}
+use Rattle.ist_core.specs.declared.ports.Full.{Full}
+use Rattle.ist_core.specs.declared.states.InnerRow.{InnerRow}
+use Rattle.ist_core.specs.declared.states.RebuildRow.{RebuildRow}
+use Rattle.ist_core.specs.Arithmetic.{degree}
+use Rattle.ist_core.specs.Pieces.{Inner, Rebuild}
+use Rattle.ist_core.specs.Rebuilding.{IsStarted, IsFinishedWith}
+use Rattle.ist_core.specs.References.{InnerAt, ref_of, unset_word}
+use Rattle.ist_core.specs.RowLayout.{next_place, inner_words}
+use Rattle.ist_core.specs.Shapes.{share_from}
+use Rattle.ist_core.specs.Slots.{SlotHolds}
+use Rattle.ist_core.specs.Snapshots.{Snapshot}
+use Rattle.ist_rule.specs.declared.view.View.{View}
+use Rattle.ist_rule.specs.Learning.{now, Looked}
+use Rattle.ist_rows.specs.declared.callers.Caller.{Caller}
+use Rattle.ist_rows.specs.Rows.{IsCaller, spares_of}
+use Rattle.ist_rows.specs.Building.{HasRefused}
+use Rattle.ist_build.specs.Calls.{Builds, IsTold}
+use Rattle.ist_build.specs.Laying.{LaidOn}
+
+-- ---- how the seat goes on
+
+-- the seat has made loads, and events of builds, and stored words into rows that it reserved since,
+-- and nothing else
+abbrev pub PutOn : View → View → Type 0
+PutOn = LaidOn Builds
+
+-- ---- rebuilds
+
+-- the rebuild has this root
+pub record HasRoot (t : Snapshot) (rebuild root : ℕ) : Type 0 where
+  pub row : RebuildRow
+  pub published : t.pieces rebuild ≡ Some (Rebuild row)
+  pub root_is : row.root ≡ root
+  pub set : root ≢ unset_word
+
+-- ---- parts
+
+-- the inner row at the base has so many slots
+pub record HasDegree (t : Snapshot) (node degree : ℕ) : Type 0 where
+  pub row : InnerRow
+  pub published : t.pieces node ≡ Some (Inner row)
+  pub degree_is : row.degree ≡ degree
+
+-- the slot holds a word that isn't Unset
+pub record IsSlotSet (t : Snapshot) (node i : ℕ) : Type 0 where
+  pub word : ℕ
+  pub holds : SlotHolds t node i word
+  pub set : word ≢ unset_word
+
+-- the rebuild is started, its target is finished with so many keys that the root is shared, and this
+-- is the root, with a slot for each part
+pub record IsShared (t : Snapshot) (rebuild target root k : ℕ) : Type 0 where
+  pub row : RebuildRow
+  pub published : t.pieces rebuild ≡ Some (Rebuild row)
+  pub target_is : row.target ≡ target
+  pub started : IsStarted t rebuild
+  pub finished : IsFinishedWith t target k
+  pub shared : share_from ≤ k
+  pub root_is : ref_of row.root ≡ Some (InnerAt root)
+  pub node : HasDegree t root (degree k)
+
+-- the caller came to fill slots of a shared root: the first so many are set
+pub record IsFilling (old : Caller) (rebuild target root k i : ℕ) (who : Caller) : Type 0 where
+  pub caller : IsCaller who
+  pub refused : HasRefused who
+  pub number : who.number ≡ old.number
+  pub rows : spares_of who ≡ spares_of old
+  pub put : PutOn old.seat.view who.seat.view
+  pub shared : IsShared (now who.seat.view) rebuild target root k
+  pub filled : (j : ℕ) → j < i → IsSlotSet (now who.seat.view) root j
+
+-- ---- refusals
+
+-- a load of the first word gave how many words are used, and too few are left for a row over no more
+-- keys than the target of the rebuild has
+pub record IsStopped (v : View) (rebuild words : ℕ) (full : Full) (w : View) : Type 0 where
+  pub k : ℕ
+  pub told : IsTold (now v) rebuild k
+  pub before : View
+  pub seen : PutOn v before
+  pub looked : Looked before next_place full.next w
+  pub some : ℕ
+  pub few : some ≤ k
+  pub asked : full.asked ≡ inner_words (degree some)
+  pub words_is : full.words ≡ words
+  pub small : words < full.next + full.asked

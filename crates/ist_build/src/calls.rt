@@ -1,0 +1,159 @@
+//! What callers of this crate call, in references.
+ghost use Rattle.std.specs.Prelude.{◌≡◌, ◌≢◌, ◌+◌, ◌≤◌, ℕ, List, [], take, drop, None, Some, IfOk, IfErr};
+ghost use Rattle.ist_core.specs.Leaves.{PlacedLeaf, HasLeaves};
+ghost use Rattle.ist_core.specs.References.{InnerAt, IsGoodRef, ref_of};
+ghost use Rattle.ist_core.specs.Shapes.{shape};
+ghost use Rattle.ist_layout.specs.Meanings.{ref_meant};
+ghost use Rattle.ist_rule.specs.Faces.{word_count_of};
+ghost use Rattle.ist_rule.specs.Going.{WentOn};
+ghost use Rattle.ist_rule.specs.Learning.{now, GoesOnTo};
+ghost use Rattle.ist_rows.specs.Rows.{IsCaller, spares_of};
+ghost use Rattle.ist_rows.specs.Building.{HasRefused, IsInBuild, sizes_built};
+ghost use Rattle.ist_build.specs.Calls.{HasKeys, MayBuild, IsBuildable, IsLeafOf, IsPartLaid};
+ghost use Rattle.ist_build.specs.Calls.{Builds, HasRootAs, IsRooted, IsBuiltOut, IsOutOfWords, RebuildIsShort};
+
+use crate::filling::fill_root;
+use crate::parts::{build_share, leaf_base};
+use crate::root::place_root;
+use ist_core::Full;
+use ist_layout::Ref;
+use ist_rows::Caller;
+use ist_rule::{TreeSeat, TreeTable, know};
+use std::sync::Wait;
+
+// The reference that the word names.
+fn named(word: u64) -> Ref
+    requires named { ref_of word ≢ None }
+    ensures value { ref_of word ≡ Some (ref_meant result) }
+    ensures good { IsGoodRef (ref_meant result) }
+{
+    match Ref::from_word(word) {
+        Some(reference) => reference,
+        None => Ref::Empty,
+    }
+}
+
+/// The leaf of the key number `i` of a finished target, counted from 0 in the order of the keys.
+///
+/// Leaves are shared by the old subtree and the new one. It goes down by the finished counts, and
+/// skips what lies before the leaf.
+pub fn leaf_at(table: &TreeTable, seat: &mut TreeSeat, target: u32, i: u64) -> Ref
+    requires same_table { seat.old.table ≡ table.now.table }
+    requires finished { HasKeys (now seat.old.view) target (i + 1) }
+    ensures same_table { seat.new.table ≡ seat.old.table }
+    ensures seen { GoesOnTo seat.old.view seat.new.view }
+    ensures leaf { (leaves : List PlacedLeaf)
+        → HasLeaves (now seat.old.view).pieces (Some (InnerAt target)) leaves
+        → IsLeafOf leaves i (ref_meant result) }
+    ensures good { IsGoodRef (ref_meant result) }
+{
+    know(seat);
+    let base = leaf_base(table, seat, target, i);
+    know(seat);
+    Ref::Leaf { base }
+}
+
+/// The ideal subtree over the leaves number `start` to `start + len - 1` of a finished target: Empty
+/// for no key, and the leaf for one.
+///
+/// Its inner rows are the caller's own, and lie above each row that was published before. `Full`
+/// comes where a load of the first word in this call left too few words for the next row, which is
+/// one over no more than `len` keys; the rows of the build stay held then, and the next build
+/// reserves anew. May wait while others reserve, and takes no memory.
+pub fn build_part<R: Wait>(
+    table: &TreeTable,
+    rt: &R,
+    who: &mut Caller,
+    target: u32,
+    start: u64,
+    len: u64,
+) -> Result<Ref, Full>
+    requires same_table { who.old.seat.table ≡ table.now.table }
+    requires caller { IsCaller who.old }
+    requires refused { HasRefused who.old }
+    requires share { MayBuild (now who.old.seat.view) target start len }
+    ensures same_table { who.new.seat.table ≡ table.now.table }
+    ensures caller { IsCaller who.new }
+    ensures number { who.new.number ≡ who.old.number }
+    ensures rows { spares_of who.new ≡ spares_of who.old }
+    ensures went { WentOn Builds who.old.seat.view who.new.seat.view }
+    ensures laid { IfOk result (λ part. (all : List PlacedLeaf)
+        → HasLeaves (now who.old.seat.view).pieces (Some (InnerAt target)) all
+        → IsPartLaid who.old who.new (ref_meant part) (take len (drop start all))) }
+    ensures good { IfOk result (λ part. IsGoodRef (ref_meant part)) }
+    ensures held { IfOk result (λ part. 2 ≤ len
+        → IsInBuild who.new (sizes_built who.old) (shape len) []) }
+    ensures full { IfErr result (λ full.
+        IsOutOfWords who.old.seat.view (word_count_of table.now) len full who.new.seat.view) }
+    ensures refused { IfErr result (λ full. HasRefused who.new) }
+{
+    know(&who.seat);
+    let word = build_share(table, rt, who, target, start, len)?;
+    Ok(named(word))
+}
+
+/// Gives a started rebuild with a finished target its root, and answers it.
+///
+/// Below `SHARE_FROM` keys that is the whole ideal subtree over the leaves of the target. From
+/// `SHARE_FROM` keys on it is its top row alone, with every slot Unset. Where another caller's root
+/// was first, that one is answered, and what this caller built is lost. `Full` comes where a load of
+/// the first word in this call left too few words for a row of the build; its rows stay held. May
+/// wait while others reserve, and takes no memory.
+pub fn set_root<R: Wait>(
+    table: &TreeTable,
+    rt: &R,
+    who: &mut Caller,
+    rebuild: u32,
+) -> Result<Ref, Full>
+    requires same_table { who.old.seat.table ≡ table.now.table }
+    requires caller { IsCaller who.old }
+    requires refused { HasRefused who.old }
+    requires buildable { IsBuildable (now who.old.seat.view) rebuild }
+    ensures same_table { who.new.seat.table ≡ table.now.table }
+    ensures caller { IsCaller who.new }
+    ensures number { who.new.number ≡ who.old.number }
+    ensures rows { spares_of who.new ≡ spares_of who.old }
+    ensures went { WentOn Builds who.old.seat.view who.new.seat.view }
+    ensures root { IfOk result (λ root.
+        HasRootAs (now who.new.seat.view) rebuild (ref_meant root)) }
+    ensures full { IfErr result (λ full.
+        RebuildIsShort who.old.seat.view rebuild (word_count_of table.now) full who.new.seat.view) }
+    ensures refused { HasRefused who.new }
+{
+    know(&who.seat);
+    let word = place_root(table, rt, who, rebuild)?;
+    know(&who.seat);
+    Ok(named(word))
+}
+
+/// Fills the root of a rebuild: afterwards no slot of it is Unset.
+///
+/// Where the target has fewer than `SHARE_FROM` keys that is so already. Otherwise the caller draws
+/// parts and fills them while there are parts to draw, beside others who do so. Then it fills each
+/// slot that is still Unset, so that it waits for nobody. `Full` comes where a load of the first word
+/// in this call left too few words for a row of a part; the rows of that build stay held. May wait
+/// while others reserve, and takes no memory.
+pub fn fill_parts<R: Wait>(
+    table: &TreeTable,
+    rt: &R,
+    who: &mut Caller,
+    rebuild: u32,
+) -> Result<(), Full>
+    requires same_table { who.old.seat.table ≡ table.now.table }
+    requires caller { IsCaller who.old }
+    requires refused { HasRefused who.old }
+    requires buildable { IsBuildable (now who.old.seat.view) rebuild }
+    requires rooted { IsRooted (now who.old.seat.view) rebuild }
+    ensures same_table { who.new.seat.table ≡ table.now.table }
+    ensures caller { IsCaller who.new }
+    ensures number { who.new.number ≡ who.old.number }
+    ensures rows { spares_of who.new ≡ spares_of who.old }
+    ensures went { WentOn Builds who.old.seat.view who.new.seat.view }
+    ensures filled { IfOk result (λ done. IsBuiltOut (now who.new.seat.view) rebuild) }
+    ensures full { IfErr result (λ full.
+        RebuildIsShort who.old.seat.view rebuild (word_count_of table.now) full who.new.seat.view) }
+    ensures refused { HasRefused who.new }
+{
+    know(&who.seat);
+    fill_root(table, rt, who, rebuild)
+}

@@ -1,0 +1,17 @@
+//! Building ideal subtrees over the leaves of a finished target.
+//!
+//! Read `specs/Calls.antt`, then `calls.rt`, `reading.rt` and `building.rt`. Stands on `ist_core`,
+//! `ist_layout`, `ist_math`, `ist_rule`, `ist_rows`, `ist_dcss`, `ist_mark`, and on the laws of
+//! `ist_links`, `ist_rebuilds`, `ist_stability` and `ist_coming`.
+#![tactic(auto)]
+
+mod below;
+mod building;
+mod calls;
+mod filling;
+mod parts;
+mod reading;
+mod root;
+mod top;
+
+pub use calls::{build_part, fill_parts, leaf_at, set_root};

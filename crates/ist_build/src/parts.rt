@@ -1,0 +1,185 @@
+//! Leaves and parts of a finished target.
+ghost use Rattle.std.specs.Prelude.{◌≡◌, ◌+◌, ◌<◌, ◌≤◌, ℕ, List, [], ◌∷◌, length, map, take, drop, Some, IfOk, IfErr};
+ghost use Rattle.ist_core.specs.Leaves.{PlacedLeaf, HasLeaves};
+ghost use Rattle.ist_core.specs.Rebuilding.{IsFinishedWith};
+ghost use Rattle.ist_core.specs.References.{InnerAt};
+ghost use Rattle.ist_core.specs.RowLayout.{place_limit};
+ghost use Rattle.ist_core.specs.Shapes.{shape};
+ghost use Rattle.ist_rule.specs.Faces.{word_count_of};
+ghost use Rattle.ist_rule.specs.Learning.{now, GoesOnTo};
+ghost use Rattle.ist_rows.specs.Rows.{IsCaller, spares_of};
+ghost use Rattle.ist_rows.specs.Building.{HasTaken, HasRefused, IsInBuild, sizes_built};
+ghost use Rattle.ist_build.specs.Calls.{MayBuild, HasKeys};
+ghost use Rattle.ist_build.specs.Laying.{BuiltOn, IsLaid, IsDue, IsShort};
+
+use crate::building::build;
+use crate::reading::{Cursor, read_leaves};
+use ist_core::Full;
+use ist_rows::Caller;
+use ist_rule::{TreeSeat, TreeTable, know};
+use std::sync::Wait;
+
+// The leaves of a target with few keys are no more than this.
+const FEW: usize = 256;
+
+// No part is longer than this.
+const MANY: usize = 16388;
+
+/// The leaf of the key number `i` of a finished target, counted from 0.
+pub(crate) fn leaf_base(table: &TreeTable, seat: &mut TreeSeat, target: u32, i: u64) -> u32
+    requires same_table { seat.old.table ≡ table.now.table }
+    requires finished { HasKeys (now seat.old.view) target (i + 1) }
+    ensures same_table { seat.new.table ≡ seat.old.table }
+    ensures seen { GoesOnTo seat.old.view seat.new.view }
+    ensures leaf { (leaves : List PlacedLeaf)
+        → HasLeaves (now seat.old.view).pieces (Some (InnerAt target)) leaves
+        → map (λ leaf. leaf.base) (take 1 (drop i leaves)) ≡ result ∷ [] }
+{
+    know(seat);
+    let mut leaves = [0; 1];
+    read_leaves(
+        table,
+        seat,
+        target,
+        &mut leaves,
+        Cursor { skip: i, count: 0 },
+    );
+    leaves[0]
+}
+
+// Builds over as many leaves as there is room for, from number `start` on.
+fn build_read<R: Wait>(
+    table: &TreeTable,
+    rt: &R,
+    who: &mut Caller,
+    target: u32,
+    start: u64,
+    leaves: &mut [u32],
+) -> Result<u64, Full>
+    requires same_table { who.old.seat.table ≡ table.now.table }
+    requires caller { IsCaller who.old }
+    requires due { 2 ≤ length leaves.old → IsDue who.old (length leaves.old) }
+    requires finished { HasKeys (now who.old.seat.view) target (start + length leaves.old) }
+    requires few { length leaves.old < place_limit }
+    ensures same_table { who.new.seat.table ≡ table.now.table }
+    ensures caller { IsCaller who.new }
+    ensures number { who.new.number ≡ who.old.number }
+    ensures rows { spares_of who.new ≡ spares_of who.old }
+    ensures built { BuiltOn who.old.seat.view who.new.seat.view }
+    ensures laid { IfOk result (λ word. (all : List PlacedLeaf)
+        → HasLeaves (now who.old.seat.view).pieces (Some (InnerAt target)) all
+        → IsLaid who.new.seat.view who.new.number (now who.old.seat.view).next word
+        (take (length leaves.old) (drop start all))) }
+    ensures taken { IfOk result (λ word. HasTaken who.old (shape (length leaves.old)) who.new) }
+    ensures full { IfErr result (λ full. IsShort who.old.seat.view (word_count_of table.now)
+        (length leaves.old) full who.new.seat.view) }
+    ensures refused { IfErr result (λ full. HasRefused who.new) }
+{
+    know(&who.seat);
+    let at = Cursor {
+        skip: start,
+        count: 0,
+    };
+    read_leaves(table, &mut who.seat, target, leaves, at);
+    build(table, rt, who, leaves)
+}
+
+fn build_few<R: Wait>(
+    table: &TreeTable,
+    rt: &R,
+    who: &mut Caller,
+    target: u32,
+    start: u64,
+    len: u64,
+) -> Result<u64, Full>
+    requires same_table { who.old.seat.table ≡ table.now.table }
+    requires caller { IsCaller who.old }
+    requires due { 2 ≤ len → IsDue who.old len }
+    requires finished { HasKeys (now who.old.seat.view) target (start + len) }
+    requires few { len ≤ 256 }
+    ensures same_table { who.new.seat.table ≡ table.now.table }
+    ensures caller { IsCaller who.new }
+    ensures number { who.new.number ≡ who.old.number }
+    ensures rows { spares_of who.new ≡ spares_of who.old }
+    ensures built { BuiltOn who.old.seat.view who.new.seat.view }
+    ensures laid { IfOk result (λ word. (all : List PlacedLeaf)
+        → HasLeaves (now who.old.seat.view).pieces (Some (InnerAt target)) all
+        → IsLaid who.new.seat.view who.new.number (now who.old.seat.view).next word
+        (take len (drop start all))) }
+    ensures taken { IfOk result (λ word. HasTaken who.old (shape len) who.new) }
+    ensures full { IfErr result (λ full. IsShort who.old.seat.view (word_count_of table.now) len
+        full who.new.seat.view) }
+    ensures refused { IfErr result (λ full. HasRefused who.new) }
+{
+    let mut leaves = [0; FEW];
+    build_read(table, rt, who, target, start, &mut leaves[..len as usize])
+}
+
+fn build_many<R: Wait>(
+    table: &TreeTable,
+    rt: &R,
+    who: &mut Caller,
+    target: u32,
+    start: u64,
+    len: u64,
+) -> Result<u64, Full>
+    requires same_table { who.old.seat.table ≡ table.now.table }
+    requires caller { IsCaller who.old }
+    requires due { 2 ≤ len → IsDue who.old len }
+    requires finished { HasKeys (now who.old.seat.view) target (start + len) }
+    requires few { len ≤ 16388 }
+    ensures same_table { who.new.seat.table ≡ table.now.table }
+    ensures caller { IsCaller who.new }
+    ensures number { who.new.number ≡ who.old.number }
+    ensures rows { spares_of who.new ≡ spares_of who.old }
+    ensures built { BuiltOn who.old.seat.view who.new.seat.view }
+    ensures laid { IfOk result (λ word. (all : List PlacedLeaf)
+        → HasLeaves (now who.old.seat.view).pieces (Some (InnerAt target)) all
+        → IsLaid who.new.seat.view who.new.number (now who.old.seat.view).next word
+        (take len (drop start all))) }
+    ensures taken { IfOk result (λ word. HasTaken who.old (shape len) who.new) }
+    ensures full { IfErr result (λ full. IsShort who.old.seat.view (word_count_of table.now) len
+        full who.new.seat.view) }
+    ensures refused { IfErr result (λ full. HasRefused who.new) }
+{
+    let mut leaves = [0; MANY];
+    build_read(table, rt, who, target, start, &mut leaves[..len as usize])
+}
+
+/// The ideal subtree over the leaves number `start` to `start + len - 1` of a finished target.
+///
+/// Its inner rows are the caller's own, and lie above each row that was published before. Where too
+/// few words are left the build is refused: its rows stay held, and the next build reserves anew.
+pub(crate) fn build_share<R: Wait>(
+    table: &TreeTable,
+    rt: &R,
+    who: &mut Caller,
+    target: u32,
+    start: u64,
+    len: u64,
+) -> Result<u64, Full>
+    requires same_table { who.old.seat.table ≡ table.now.table }
+    requires caller { IsCaller who.old }
+    requires refused { HasRefused who.old }
+    requires share { MayBuild (now who.old.seat.view) target start len }
+    ensures same_table { who.new.seat.table ≡ table.now.table }
+    ensures caller { IsCaller who.new }
+    ensures number { who.new.number ≡ who.old.number }
+    ensures rows { spares_of who.new ≡ spares_of who.old }
+    ensures built { BuiltOn who.old.seat.view who.new.seat.view }
+    ensures laid { IfOk result (λ word. (all : List PlacedLeaf)
+        → HasLeaves (now who.old.seat.view).pieces (Some (InnerAt target)) all
+        → IsLaid who.new.seat.view who.new.number (now who.old.seat.view).next word
+        (take len (drop start all))) }
+    ensures at { IfOk result (λ word. 2 ≤ len
+        → IsInBuild who.new (sizes_built who.old) (shape len) []) }
+    ensures full { IfErr result (λ full. IsShort who.old.seat.view (word_count_of table.now) len
+        full who.new.seat.view) }
+    ensures refused { IfErr result (λ full. HasRefused who.new) }
+{
+    if len <= FEW as u64 {
+        return build_few(table, rt, who, target, start, len);
+    }
+    know(&who.seat);
+    build_many(table, rt, who, target, start, len)
+}

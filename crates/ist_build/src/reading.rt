@@ -1,0 +1,214 @@
+//! Reading the leaves of a finished target, in the order of their keys.
+ghost use Rattle.std.specs.Prelude.{◌≡◌, ◌<◌, ◌≤◌, ℕ, None, Some, List, [], ◌∷◌, length};
+ghost use Rattle.ist_core.specs.Leaves.{PlacedLeaf, HasLeaves};
+ghost use Rattle.ist_core.specs.Marking.{HasTarget, IsFrozen};
+ghost use Rattle.ist_core.specs.Rebuilding.{IsFinishedWith};
+ghost use Rattle.ist_core.specs.References.{ref_of, ChangeAt, InnerAt};
+ghost use Rattle.ist_core.specs.Slots.{SlotHolds, logical};
+ghost use Rattle.ist_links.specs.Linking.{IsFinished};
+ghost use Rattle.ist_rule.specs.Learning.{now, GoesOnTo};
+ghost use Rattle.ist_build.specs.Reading.{HasSlots, IsNoChange, IsRebuild, IsUnder, HasRead};
+
+use crate::below::Below;
+use ist_layout::{
+    CHANGE_FROM_OFFSET, INNER_DEGREE_OFFSET, INNER_STATUS_OFFSET, REBUILD_TARGET_OFFSET, Ref,
+    slot_place,
+};
+use ist_rule::{TreeSeat, TreeTable, know, load};
+
+// How far the reading has come: so many leaves are to be left out still, and so many were written.
+#[derive(Clone, Copy, Drop)]
+pub(crate) struct Cursor {
+    pub(crate) skip: u64,
+    pub(crate) count: usize,
+}
+
+// The change whose word this is, if it is one's.
+fn change_in(word: u64) -> Option<u32>
+    ensures change { (change : ℕ) → result ≡ Some change → ref_of word ≡ Some (ChangeAt change) }
+    ensures no_change { result ≡ None → IsNoChange word }
+{
+    match Ref::from_word(word) {
+        Some(Ref::Change { base }) => Some(base),
+        _ => None,
+    }
+}
+
+// The word with which the slot was passed. Where a change stands in the slot, it came too late, and
+// would take this word out.
+fn passed_word(table: &TreeTable, seat: &mut TreeSeat, node: u32, degree: u64, index: u64) -> u64
+    requires same_table { seat.old.table ≡ table.now.table }
+    requires slots { HasSlots seat.old.view node degree }
+    requires within { index < degree }
+    ensures same_table { seat.new.table ≡ seat.old.table }
+    ensures seen { GoesOnTo seat.old.view seat.new.view }
+    ensures frozen { IsFrozen seat.new.view.log node index result }
+{
+    know(seat);
+    let word = load(table, seat, slot_place(node, degree, index));
+    match change_in(word) {
+        Some(change) => load(table, seat, u64::from(change) + CHANGE_FROM_OFFSET),
+        None => word,
+    }
+}
+
+// The number of keys with which the node is finished.
+pub(crate) fn keys_of(table: &TreeTable, seat: &mut TreeSeat, node: u32) -> u64
+    requires same_table { seat.old.table ≡ table.now.table }
+    requires finished { IsFinished (now seat.old.view) node }
+    ensures same_table { seat.new.table ≡ seat.old.table }
+    ensures seen { GoesOnTo seat.old.view seat.new.view }
+    ensures finished { IsFinishedWith (now seat.new.view) node result }
+{
+    know(seat);
+    // A finished status is 4 * keys + 3.
+    load(table, seat, u64::from(node) + INNER_STATUS_OFFSET) / 4
+}
+
+// The node that is rebuilt.
+pub(crate) fn target_of(table: &TreeTable, seat: &mut TreeSeat, rebuild: u32) -> u32
+    requires same_table { seat.old.table ≡ table.now.table }
+    requires published { IsRebuild (now seat.old.view) rebuild }
+    ensures same_table { seat.new.table ≡ seat.old.table }
+    ensures seen { GoesOnTo seat.old.view seat.new.view }
+    ensures target { HasTarget (now seat.new.view) rebuild result }
+{
+    know(seat);
+    load(table, seat, u64::from(rebuild) + REBUILD_TARGET_OFFSET) as u32
+}
+
+// What hangs below a slot of the finished node.
+fn look_below(table: &TreeTable, seat: &mut TreeSeat, node: u32, degree: u64, index: u64) -> Below
+    requires same_table { seat.old.table ≡ table.now.table }
+    requires slots { HasSlots seat.old.view node degree }
+    requires within { index < degree }
+    ensures same_table { seat.new.table ≡ seat.old.table }
+    ensures seen { GoesOnTo seat.old.view seat.new.view }
+    ensures under { IsUnder seat.new.view node index result }
+{
+    let word = passed_word(table, seat, node, degree, index);
+    know(seat);
+    match Ref::from_word(word) {
+        Some(Ref::Empty) => Below::Nothing,
+        Some(Ref::Leaf { base }) => Below::Leaf { base },
+        Some(Ref::Inner { base }) => {
+            let keys = keys_of(table, seat, base);
+            Below::Row { base, keys }
+        }
+        Some(Ref::Rebuild { base }) => {
+            let target = target_of(table, seat, base);
+            let keys = keys_of(table, seat, target);
+            Below::Row { base: target, keys }
+        }
+        Some(Ref::Unset) => unreachable!(),
+        Some(Ref::Change { base: _ }) => unreachable!(),
+        None => unreachable!(),
+    }
+}
+
+// Takes one leaf, if it isn't to be left out and there is room.
+fn take_leaf(base: u32, into: &mut [u32], at: Cursor) -> Cursor
+    requires within { at.count ≤ length into.old }
+    ensures within { result.count ≤ length into.new }
+    ensures read { (leaf : PlacedLeaf) → leaf.base ≡ base
+        → HasRead into.old at (leaf ∷ []) into.new result }
+{
+    if at.skip > 0 {
+        return Cursor {
+            skip: at.skip - 1,
+            count: at.count,
+        };
+    }
+    if at.count == into.len() {
+        return at;
+    }
+    into[at.count] = base;
+    Cursor {
+        skip: 0,
+        count: at.count + 1,
+    }
+}
+
+// How many slots the finished node has.
+fn degree_of(table: &TreeTable, seat: &mut TreeSeat, node: u32) -> u64
+    requires same_table { seat.old.table ≡ table.now.table }
+    requires finished { IsFinished (now seat.old.view) node }
+    ensures same_table { seat.new.table ≡ seat.old.table }
+    ensures seen { GoesOnTo seat.old.view seat.new.view }
+    ensures slots { HasSlots seat.new.view node result }
+{
+    know(seat);
+    load(table, seat, u64::from(node) + INNER_DEGREE_OFFSET)
+}
+
+// Reads the leaves below one slot.
+#[cycle(reading)]
+fn read_slot(
+    table: &TreeTable,
+    seat: &mut TreeSeat,
+    node: u32,
+    degree: u64,
+    index: u64,
+    into: &mut [u32],
+    at: Cursor,
+) -> Cursor
+    requires same_table { seat.old.table ≡ table.now.table }
+    requires slots { HasSlots seat.old.view node degree }
+    requires index_within { index < degree }
+    requires within { at.count ≤ length into.old }
+    ensures same_table { seat.new.table ≡ seat.old.table }
+    ensures seen { GoesOnTo seat.old.view seat.new.view }
+    ensures within { result.count ≤ length into.new }
+    ensures read { (word : ℕ) (leaves : List PlacedLeaf)
+        → SlotHolds (now seat.old.view) node index word
+        → HasLeaves (now seat.old.view).pieces (logical (now seat.old.view).pieces word) leaves
+        → HasRead into.old at leaves into.new result }
+{
+    know(seat);
+    match look_below(table, seat, node, degree, index) {
+        Below::Nothing => at,
+        Below::Leaf { base } => take_leaf(base, into, at),
+        Below::Row { base, keys } => {
+            if at.skip >= keys {
+                return Cursor {
+                    skip: at.skip - keys,
+                    count: at.count,
+                };
+            }
+            read_leaves(table, seat, base, into, at)
+        }
+    }
+}
+
+// Reads the leaves of a finished node in the order of their keys: leaves out as many as the cursor
+// says, and writes the bases of the others behind those that were written before, as far as there is
+// room.
+#[cycle(reading)]
+pub(crate) fn read_leaves(
+    table: &TreeTable,
+    seat: &mut TreeSeat,
+    node: u32,
+    into: &mut [u32],
+    at: Cursor,
+) -> Cursor
+    requires same_table { seat.old.table ≡ table.now.table }
+    requires finished { IsFinished (now seat.old.view) node }
+    requires within { at.count ≤ length into.old }
+    ensures same_table { seat.new.table ≡ seat.old.table }
+    ensures seen { GoesOnTo seat.old.view seat.new.view }
+    ensures within { result.count ≤ length into.new }
+    ensures read { (leaves : List PlacedLeaf)
+        → HasLeaves (now seat.old.view).pieces (Some (InnerAt node)) leaves
+        → HasRead into.old at leaves into.new result }
+{
+    know(seat);
+    let degree = degree_of(table, seat, node);
+    let mut at = at;
+    for index in 0..degree {
+        if at.count == into.len() {
+            return at;
+        }
+        at = read_slot(table, seat, node, degree, index, into, at);
+    }
+    at
+}

@@ -1,0 +1,199 @@
+//! The root of a rebuild: building it, and putting it in place.
+ghost use Rattle.std.specs.Prelude.{◌≡◌, ◌≢◌, ℕ, ◌+◌, ◌<◌, ◌≤◌, List, [], Some, IfOk, IfErr};
+ghost use Rattle.ist_core.specs.Building.{IsRoot};
+ghost use Rattle.ist_core.specs.Leaves.{PlacedLeaf, HasLeaves};
+ghost use Rattle.ist_core.specs.Marking.{HasTarget};
+ghost use Rattle.ist_core.specs.Rebuilding.{IsFinishedWith};
+ghost use Rattle.ist_core.specs.References.{InnerAt, unset_word};
+ghost use Rattle.ist_core.specs.RowLayout.{rebuild_root_offset};
+ghost use Rattle.ist_rule.specs.Faces.{word_count_of};
+ghost use Rattle.ist_rule.specs.Learning.{now, GoesOnTo};
+ghost use Rattle.ist_rows.specs.Rows.{IsCaller, spares_of};
+ghost use Rattle.ist_rows.specs.Building.{HasRefused};
+ghost use Rattle.ist_coming.specs.Builds.{WasUnset};
+ghost use Rattle.ist_build.specs.Laying.{BuiltOn, IsRootLaid, IsTarget, IsShort};
+ghost use Rattle.ist_build.specs.Calls.{IsTold, IsBuildable};
+ghost use Rattle.ist_build.specs.Putting.{PutOn, HasRoot, IsStopped};
+ghost use Rattle.ist_build.specs.Reading.{IsRebuild};
+
+use crate::parts::{build_share, leaf_base};
+use crate::reading::{keys_of, target_of};
+use crate::top::build_top;
+use ist_core::Full;
+use ist_layout::{REBUILD_ROOT_OFFSET, Ref};
+use ist_math::SHARE_FROM;
+use ist_rows::Caller;
+use ist_rule::{TreeSeat, TreeTable, exchange, exchange_or_lose, know, load};
+use std::sync::Wait;
+
+// The word that stands for the root of a rebuild.
+fn root_of(table: &TreeTable, seat: &mut TreeSeat, rebuild: u32) -> u64
+    requires same_table { seat.old.table ≡ table.now.table }
+    requires published { IsRebuild (now seat.old.view) rebuild }
+    ensures same_table { seat.new.table ≡ seat.old.table }
+    ensures seen { GoesOnTo seat.old.view seat.new.view }
+    ensures set { result ≢ unset_word → HasRoot (now seat.new.view) rebuild result }
+    ensures unset { result ≡ unset_word → (number : ℕ)
+        → WasUnset seat.new.view number (rebuild + rebuild_root_offset) }
+{
+    know(seat);
+    load(table, seat, u64::from(rebuild) + REBUILD_ROOT_OFFSET)
+}
+
+// Builds a root over the leaves of a finished target with two keys or more, and answers its word: the
+// whole ideal subtree, or from `SHARE_FROM` keys on its top row alone.
+fn build_root<R: Wait>(
+    table: &TreeTable,
+    rt: &R,
+    who: &mut Caller,
+    target: u32,
+    keys: u64,
+) -> Result<u64, Full>
+    requires same_table { who.old.seat.table ≡ table.now.table }
+    requires caller { IsCaller who.old }
+    requires refused { HasRefused who.old }
+    requires target { IsTarget (now who.old.seat.view) target keys }
+    requires several { 2 ≤ keys }
+    ensures same_table { who.new.seat.table ≡ table.now.table }
+    ensures caller { IsCaller who.new }
+    ensures number { who.new.number ≡ who.old.number }
+    ensures rows { spares_of who.new ≡ spares_of who.old }
+    ensures built { BuiltOn who.old.seat.view who.new.seat.view }
+    ensures laid { IfOk result (λ word. (leaves : List PlacedLeaf)
+        → HasLeaves (now who.old.seat.view).pieces (Some (InnerAt target)) leaves
+        → IsRootLaid who.old who.new target keys word leaves) }
+    ensures full { IfErr result (λ full.
+        IsShort who.old.seat.view (word_count_of table.now) keys full who.new.seat.view) }
+    ensures refused { IfErr result (λ full. HasRefused who.new) }
+{
+    know(&who.seat);
+    if keys < SHARE_FROM {
+        return build_share(table, rt, who, target, 0, keys);
+    }
+    build_top(table, rt, who, target, keys)
+}
+
+// Builds a root of inner rows and puts it in place, and answers the root that stands then.
+fn set_rows<R: Wait>(
+    table: &TreeTable,
+    rt: &R,
+    who: &mut Caller,
+    rebuild: u32,
+    target: u32,
+    keys: u64,
+) -> Result<u64, Full>
+    requires same_table { who.old.seat.table ≡ table.now.table }
+    requires caller { IsCaller who.old }
+    requires refused { HasRefused who.old }
+    requires told { IsTold (now who.old.seat.view) rebuild keys }
+    requires target { HasTarget (now who.old.seat.view) rebuild target }
+    requires several { 2 ≤ keys }
+    requires unset { WasUnset who.old.seat.view who.old.number (rebuild + rebuild_root_offset) }
+    ensures same_table { who.new.seat.table ≡ table.now.table }
+    ensures caller { IsCaller who.new }
+    ensures number { who.new.number ≡ who.old.number }
+    ensures rows { spares_of who.new ≡ spares_of who.old }
+    ensures put { PutOn who.old.seat.view who.new.seat.view }
+    ensures root { IfOk result (λ word. HasRoot (now who.new.seat.view) rebuild word) }
+    ensures full { IfErr result (λ full. IsShort who.old.seat.view (word_count_of table.now) keys
+        full who.new.seat.view) }
+    ensures refused { HasRefused who.new }
+{
+    know(&who.seat);
+    let word = build_root(table, rt, who, target, keys)?;
+    know(&who.seat);
+    let unset = Ref::Unset.to_word();
+    let place = u64::from(rebuild) + REBUILD_ROOT_OFFSET;
+    // Root, or the Lose of these rows. Meets another caller's root.
+    let stood = exchange_or_lose(table, &mut who.seat, place, unset, word);
+    if stood == unset {
+        return Ok(word);
+    }
+    Ok(stood)
+}
+
+// The root over no key or over one, which has no rows.
+fn small_root(table: &TreeTable, seat: &mut TreeSeat, target: u32, keys: u64) -> u64
+    requires same_table { seat.old.table ≡ table.now.table }
+    requires finished { IsFinishedWith (now seat.old.view) target keys }
+    requires few { keys < 2 }
+    ensures same_table { seat.new.table ≡ seat.old.table }
+    ensures seen { GoesOnTo seat.old.view seat.new.view }
+    ensures root { (leaves : List PlacedLeaf)
+        → HasLeaves (now seat.old.view).pieces (Some (InnerAt target)) leaves
+        → IsRoot (now seat.new.view).pieces result keys leaves target [] }
+{
+    know(seat);
+    if keys == 0 {
+        return Ref::Empty.to_word();
+    }
+    let base = leaf_base(table, seat, target, 0);
+    Ref::Leaf { base }.to_word()
+}
+
+// Puts a root without rows in place, and answers the root that stands then.
+fn set_small(table: &TreeTable, who: &mut Caller, rebuild: u32, target: u32, keys: u64) -> u64
+    requires same_table { who.old.seat.table ≡ table.now.table }
+    requires caller { IsCaller who.old }
+    requires refused { HasRefused who.old }
+    requires told { IsTold (now who.old.seat.view) rebuild keys }
+    requires target { HasTarget (now who.old.seat.view) rebuild target }
+    requires few { keys < 2 }
+    ensures same_table { who.new.seat.table ≡ table.now.table }
+    ensures caller { IsCaller who.new }
+    ensures number { who.new.number ≡ who.old.number }
+    ensures rows { spares_of who.new ≡ spares_of who.old }
+    ensures put { PutOn who.old.seat.view who.new.seat.view }
+    ensures root { HasRoot (now who.new.seat.view) rebuild result }
+    ensures refused { HasRefused who.new }
+{
+    know(&who.seat);
+    let word = small_root(table, &mut who.seat, target, keys);
+    know(&who.seat);
+    let unset = Ref::Unset.to_word();
+    let place = u64::from(rebuild) + REBUILD_ROOT_OFFSET;
+    // Root. Meets another caller's: then there are no rows to lose, and it is a load.
+    let stood = exchange(table, &mut who.seat, place, unset, word);
+    if stood == unset {
+        return word;
+    }
+    stood
+}
+
+/// Gives a started rebuild with a finished target its root, and answers it.
+///
+/// Below `SHARE_FROM` keys that is the whole ideal subtree over the leaves of the target. From
+/// `SHARE_FROM` keys on it is its top row alone, with every slot Unset. Where another caller's root
+/// was first, that one is answered, and what this caller built is lost. `Full` comes where too few
+/// words are left for a row of the build; its rows stay held.
+pub(crate) fn place_root<R: Wait>(
+    table: &TreeTable,
+    rt: &R,
+    who: &mut Caller,
+    rebuild: u32,
+) -> Result<u64, Full>
+    requires same_table { who.old.seat.table ≡ table.now.table }
+    requires caller { IsCaller who.old }
+    requires refused { HasRefused who.old }
+    requires buildable { IsBuildable (now who.old.seat.view) rebuild }
+    ensures same_table { who.new.seat.table ≡ table.now.table }
+    ensures caller { IsCaller who.new }
+    ensures number { who.new.number ≡ who.old.number }
+    ensures rows { spares_of who.new ≡ spares_of who.old }
+    ensures put { PutOn who.old.seat.view who.new.seat.view }
+    ensures root { IfOk result (λ word. HasRoot (now who.new.seat.view) rebuild word) }
+    ensures full { IfErr result (λ full.
+        IsStopped who.old.seat.view rebuild (word_count_of table.now) full who.new.seat.view) }
+    ensures refused { HasRefused who.new }
+{
+    let stood = root_of(table, &mut who.seat, rebuild);
+    if stood != Ref::Unset.to_word() {
+        return Ok(stood);
+    }
+    let target = target_of(table, &mut who.seat, rebuild);
+    let keys = keys_of(table, &mut who.seat, target);
+    if keys < 2 {
+        return Ok(set_small(table, who, rebuild, target, keys));
+    }
+    set_rows(table, rt, who, rebuild, target, keys)
+}
