@@ -1,0 +1,174 @@
+-- Rows that are reached from a row, and whether they are settled. Serves `settling`.
+use Rattle.std.proofs.Common.{◌≡◌, ℕ, zero, suc, ◌+◌, ◌<◌, ◌≤◌, ◌⊎◌, List, [], ◌∷◌, ◌++◌, length}
+use Rattle.std.proofs.Common.{get_or, Some, refl, sym, ap, ◌∙◌, subst, inl, inr, ⊎_elim, ◌≢◌}
+use Rattle.std.proofs.Common.{nat_le, true, false, arith}
+use Rattle.std.proofs.lemmas.Bool.Decides.{leb_tells, eqb_tells}
+use Rattle.ist_core.specs.declared.pairs.Pair.{Pair}
+use Rattle.ist_core.specs.References.{InnerAt}
+use Rattle.ist_core.specs.RowLayout.{next_place}
+use Rattle.ist_core.specs.Elements.{Among, Each}
+use Rattle.ist_core.proofs.ElementLemmas.{each-append}
+use Rattle.ist_words.specs.WordRows.{Span, word_at, row_degree, row_keys, row_slots, reads_in}
+use Rattle.ist_words.specs.Walks.{Way, Visit, IsGood, IsGoodAs, IsGoodRow, visits_from}
+use Rattle.ist_words.specs.Walks.{visits_below, Walks, ends, goes_on, first_visit}
+use Rattle.ist_words.specs.RestingWords.{HoldPairs}
+use Rattle.ist_words.specs.Steps.{IsRowHere}
+use Rattle.ist_words.proofs.RowLemmas.{row_lengths}
+use Rattle.ist_rest.specs.Settling.{ReachedFrom, itself, through, IsSettledRow, AreSettledFrom}
+use Rattle.ist_rest.specs.Settling.{AreInShapeFrom}
+
+element : (xs : List ℕ) (i : ℕ) → i < length xs → Among (get_or xs i 0) xs
+element [] i h = absurd (omega arith)
+element (x ∷ xs) zero h = inl refl
+element (x ∷ xs) (suc i) h = inr (element xs i (omega arith))
+
+position : (w : ℕ) (xs : List ℕ) → Among w xs → (i : ℕ) × (i < length xs) × (get_or xs i 0 ≡ w)
+position w [] h = absurd h
+position w (x ∷ xs) (inl e) = (0, omega arith, sym e)
+position w (x ∷ xs) (inr a) = let it = position w xs a in let l = it.1 in
+    (suc it.0, omega arith, it.2)
+
+-- a slot of a row in good shape, by its number
+pub slot_among : (words : List ℕ) (base degree i word : ℕ) → IsRowHere words base
+    → word_at words next_place ≤ length words → degree ≡ row_degree words base → i < degree
+    → word ≡ get_or (row_slots words base) i 0 → Among word (row_slots words base)
+slot_among words base degree i word row used d less e =
+    let within = row.within.below_next in
+    let two = row.degree in
+    let long = (row_lengths words base (omega arith) (omega arith)).1 in
+    subst (λ w. Among w (row_slots words base)) (sym e)
+    (element (row_slots words base) i (omega arith))
+
+-- the number of one
+pub slot_number : (words : List ℕ) (base word : ℕ) → IsRowHere words base
+    → word_at words next_place ≤ length words
+    → Among word (row_slots words base)
+    → (i : ℕ) × (i < row_degree words base) × (get_or (row_slots words base) i 0 ≡ word)
+slot_number words base word row used a =
+    let within = row.within.below_next in
+    let two = row.degree in
+    let long = (row_lengths words base (omega arith) (omega arith)).1 in
+    let it = position word (row_slots words base) a in
+    let less = it.1 in
+    (it.0, omega arith, it.2)
+
+-- ---- the shape of rows that are reached
+
+pub shape_child : (words : List ℕ) (base child word : ℕ) → AreInShapeFrom words base
+    → Among word (row_slots words base)
+    → reads_in words word ≡ Some (InnerAt child) → AreInShapeFrom words child
+shape_child words base child word h a e node r = h node (through word a e r)
+
+-- a slot in good shape that reads as an inner row
+pub good_child : (words : List ℕ) (visit : Visit) (child : ℕ) → IsGood words visit
+    → reads_in words visit.word ≡ Some (InnerAt child)
+    → IsGoodRow words visit.node child
+good_child words visit child g e =
+    let same : Some g.ref ≡ Some (InnerAt child) = sym g.reads.is ∙ e in
+    let same : g.ref ≡ InnerAt child = cc in
+    subst (IsGoodAs words visit) same g.good
+
+pub row_here : (words : List ℕ) (node base : ℕ) → IsGoodRow words node base → IsRowHere words base
+row_here words node base g = record { within = g.within; degree = g.degree; keys = g.keys }
+
+pub child_good : (words : List ℕ) (base child word : ℕ) → AreInShapeFrom words base
+    → Among word (row_slots words base)
+    → reads_in words word ≡ Some (InnerAt child) → IsGoodRow words base child
+child_good words base child word h a e =
+    let it = (h base itself).slots word a in
+    subst (λ n. IsGoodRow words n child) it.2
+    (good_child words it.0 child it.3 (ap (reads_in words) it.1 ∙ e))
+
+-- ---- settled rows
+
+pub settled_all : (words : List ℕ) (base : ℕ) → IsSettledRow words base
+    → ((word child : ℕ) → Among word (row_slots words base) → reads_in words word ≡ Some
+    (InnerAt child) → AreSettledFrom words child)
+    → AreSettledFrom words base
+settled_all words base row all _ itself = row
+settled_all words base row all node (through {child = child} word a e r) = all word child a e node r
+
+-- ---- shape by a walk
+
+-- the slot is in good shape, and so is each row that is reached through it
+abbrev AllGood : List ℕ → Visit → Type 0
+AllGood words visit = IsGood words visit
+    × ((base : ℕ) → reads_in words visit.word ≡ Some (InnerAt base) → AreInShapeFrom words base)
+
+-- each slot of a row is visited
+visit_of : (words : List ℕ) (base : ℕ) (ways : List Way) (keys : List ℕ) (i place : ℕ)
+    (slots : List ℕ)
+    → Each (AllGood words) (visits_from base ways keys i place slots) → (word : ℕ)
+    → Among word slots
+    → (visit : Visit) × (visit.word ≡ word) × (visit.node ≡ base) × AllGood words visit
+visit_of words base ways keys i place [] h word a = absurd a
+visit_of words base ways keys i place (s ∷ slots) h word (inl e) = (
+  record {
+    place = place;
+    word = s;
+    node = base;
+    ways = record { keys = keys; index = i } ∷
+        ways;
+  },
+  sym e,
+  refl,
+  h.0,
+)
+visit_of words base ways keys i place (s ∷ slots) h word (inr a) = visit_of words base ways keys
+    (i + 1) (place + 1) slots h.1 word a
+
+shape_from : (words : List ℕ) (visit : Visit) (base : ℕ) → IsGoodRow words visit.node base
+    → Each (AllGood words) (visits_below words visit (InnerAt base)) → AreInShapeFrom words base
+shape_from words visit base g h _ itself =
+    record {
+      row = row_here words visit.node base g;
+      slots = λ word a.
+          let it = visit_of words base visit.ways (row_keys words base) 0
+          (base + 3 + row_degree words base) (row_slots words base) h word a in
+          (it.0, it.1, it.2, it.3.0);
+    }
+shape_from words visit base g h node (through {child = child} word a e r) =
+    let it = visit_of words base visit.ways (row_keys words base) 0
+    (base + 3 + row_degree words base) (row_slots words base) h word a in
+    it.3.1 child (ap (reads_in words) it.1 ∙ e) node r
+
+walk_good : (words : List ℕ) (zs : List Visit) (rows : List Span) (pairs : List Pair)
+    → Walks words zs rows pairs → Each (AllGood words) zs
+walk_good words _ _ _ ends = tt
+walk_good words _ _ _ (goes_on {visit = visit} {visits = visits} {rows = rows} {pairs = pairs} at
+    w) =
+    let it = each-append (AllGood words) (visits_below words visit at.ref) visits
+    (walk_good words (visits_below words visit at.ref ++ visits) rows pairs w) in (
+      (
+        at,
+        λ base e.
+            let same : Some at.ref ≡ Some (InnerAt base) = sym at.reads.is ∙ e in
+            let same : at.ref ≡ InnerAt base = cc in
+            shape_from words visit base (good_child words visit base at e)
+            (subst (λ r. Each (AllGood words) (visits_below words visit r)) same it.0),
+      ),
+      it.1,
+    )
+
+pub first_good : (words : List ℕ) (pairs : List Pair) → HoldPairs words pairs
+    → AllGood words (first_visit words)
+first_good words pairs h = (walk_good words (first_visit words ∷ []) h.rows pairs h.walk).0
+
+pub below_more : (k i : ℕ) → k < i + 1 → k ≢ i → k < i
+below_more k i less other = ⊎_elim (λ same. absurd (other same.1)) (λ no. at (leb_tells i k))
+    (eqb_tells k i)
+  where
+    at : ((nat_le i k ≡ true) × (i ≤ k)) ⊎ ((nat_le i k ≡ false) × (k < i)) → k < i
+    at (inl h) = let l = h.1 in absurd (other (omega arith))
+    at (inr h) = h.1
+
+pub same_child : (a b : ℕ) → Some (InnerAt a) ≡ Some (InnerAt b) → a ≡ b
+same_child a b e = cc
+
+-- one row further
+pub reached_on : (words : List ℕ) (base node child word : ℕ) → ReachedFrom words base node
+    → Among word (row_slots words node)
+    → reads_in words word ≡ Some (InnerAt child) → ReachedFrom words base child
+reached_on words _ node child word itself a e = through word a e itself
+reached_on words _ node child word (through {child = c} w b f r) a e =
+    through w b f (reached_on words c node child word r a e)

@@ -1,0 +1,163 @@
+-- A table is settled just where its words are. Serves `closed.Closed.settled`.
+-- `laws.standing_words_hold_the_map`.
+use Rattle.std.proofs.Common.{◌≡◌, ℕ, zero, suc, ◌+◌, ◌<◌, ◌⊎◌, List, [], ◌∷◌}
+use Rattle.std.proofs.Common.{length, slice_get, Some, refl, sym, ap}
+use Rattle.std.proofs.Common.{◌∙◌, subst, inl, inr, ⊎_elim, ◌↔◌, arith}
+use Rattle.std.proofs.lemmas.Option.{get_or_from_slice_get}
+use Rattle.ist_core.specs.declared.pairs.Pair.{Pair}
+use Rattle.ist_core.specs.declared.states.InnerRow.{InnerRow}
+use Rattle.ist_core.specs.Arithmetic.{limit}
+use Rattle.ist_core.specs.RowLayout.{anchor, anchor_slot_place}
+use Rattle.ist_core.specs.References.{InnerAt}
+use Rattle.ist_core.specs.References.{ref_of}
+use Rattle.ist_core.specs.Elements.{Among}
+use Rattle.ist_core.specs.Pieces.{Inner}
+use Rattle.ist_core.specs.Snapshots.{Snapshot}
+use Rattle.ist_core.specs.Links.{IsChild, Linked, at_anchor, below}
+use Rattle.ist_core.specs.Resting.{IsSettled}
+use Rattle.ist_rest.specs.Settling.{ReachedFrom, itself, through, IsSettledRow, AreSettled}
+use Rattle.ist_rest.proofs.SettleLemmas.{reached_on}
+use Rattle.ist_core.proofs.MentionLemmas.{child_mentioned}
+use Rattle.ist_core.proofs.SlotLemmas.{no_row}
+use Rattle.ist_core.specs.Slots.{SlotHolds, in_anchor, in_row}
+use Rattle.ist_core.specs.Slots.{logical}
+use Rattle.ist_core.specs.Logs.{Log}
+use Rattle.ist_core.specs.Lawful.{state_of}
+use Rattle.ist_core.proofs.NamingLemmas.{InnerHere, slot_names}
+use Rattle.ist_core.proofs.HomeLemmas.{mentioned_here}
+use Rattle.ist_words.specs.WordRows.{word_at, row_size}
+use Rattle.ist_words.specs.WordRows.{reads_in}
+use Rattle.ist_rest.proofs.RowLemmas.{word_is, first_word, size_word}
+use Rattle.ist_rest.proofs.PublishedLemmas.{IsStood, all_names, free, room, told, stands, shape}
+use Rattle.ist_rest.proofs.PublishedLemmas.{slots_there}
+
+module _ {pairs : List Pair} {words : List ℕ} {log : Log} (s : IsStood pairs words log) where
+  abbrev t : Snapshot
+  t = state_of pairs (length words) log
+
+  -- a word reads as it reads in the table
+  same_reading : (node i word : ℕ) → SlotHolds t node i word → reads_in words word ≡ logical
+      t.pieces word
+  same_reading node i word slot =
+      (told s node i word (ref_of word) slot refl (slot_names t node i word (all_names s) slot)).2
+
+  anchor_word : word_at words anchor_slot_place ≡ t.anchor
+  anchor_word = get_or_from_slice_get words anchor_slot_place t.anchor 0 s.image.anchor_slot
+
+  -- the row is reached from the anchor
+  abbrev IsReached : ℕ → Type 0
+  IsReached node = (base : ℕ) × (reads_in words (word_at words anchor_slot_place) ≡ Some
+      (InnerAt base)) × ReachedFrom words base node
+
+  at_index : (xs : List ℕ) (i word : ℕ) → slice_get xs i ≡ Some word → Among word xs
+  at_index [] i word e = absurd (cc)
+  at_index (x ∷ xs) zero word e = let same : x ≡ word = cc in inl (sym same)
+  at_index (x ∷ xs) (suc i) word e = inr (at_index xs i word e)
+
+  index_at : (xs : List ℕ) (word : ℕ) → Among word xs → (i : ℕ) × (slice_get xs i ≡ Some word)
+  index_at [] word a = absurd a
+  index_at (x ∷ xs) word (inl e) = (0, ap (λ w. Some w) (sym e))
+  index_at (x ∷ xs) word (inr a) = let it = index_at xs word a in (suc it.0, it.1)
+
+  -- a linked row is reached
+  linked_reached : (node : ℕ) → Linked t node → (node ≡ anchor) ⊎ IsReached node
+  linked_reached _ at_anchor = inl refl
+  linked_reached _ (below {node = node} {child = child} i l c) =
+      inr (at c.holds (linked_reached node l))
+    where
+      at : SlotHolds t node i c.word → (node ≡ anchor) ⊎ IsReached node → IsReached child
+      at (in_anchor a z e) up =
+          let first : SlotHolds t anchor 0 t.anchor = in_anchor refl refl refl in (
+            child,
+            ap (reads_in words) anchor_word ∙ same_reading anchor 0 t.anchor first
+                ∙ ap (logical t.pieces) e ∙ c.reads,
+            itself,
+          )
+      at (in_row r p g) (inl a) = absurd (no_row t.pieces node r (free s) a p)
+      at (in_row r p g) (inr up) =
+          let among = subst (Among c.word) (sym (slots_there s node r p))
+          (at_index r.slots i c.word g) in (
+            up.0,
+            up.1,
+            reached_on words up.0 node child c.word up.2 among
+                (same_reading node i c.word c.holds ∙ c.reads),
+          )
+
+  -- a row that is reached is linked
+  reached_linked : (base node : ℕ) → ReachedFrom words base node → Linked t base
+      → InnerHere t.pieces base → Linked t node × InnerHere t.pieces node
+  reached_linked _ node itself l h = (l, h)
+  reached_linked base node (through {child = child} word a e r) l h =
+      let it = index_at h.0.slots word (subst (Among word) (slots_there s base h.0 h.1) a) in
+      let holds : SlotHolds t base it.0 word = in_row h.0 h.1 it.1 in
+      let c : IsChild t base it.0 child = record {
+        word = word;
+        holds = holds;
+        reads =
+            sym (same_reading base it.0 word holds) ∙ e;
+      } in
+      reached_linked child node r (below it.0 l c) (mentioned_here t base it.0 child (all_names s)
+      (child_mentioned t base it.0 child (all_names s) c))
+
+  first_linked : (base : ℕ) → reads_in words (word_at words anchor_slot_place) ≡ Some
+      (InnerAt base) → Linked t base × InnerHere t.pieces base
+  first_linked base e =
+      let first : SlotHolds t anchor 0 t.anchor = in_anchor refl refl refl in
+      let c : IsChild t anchor 0 base = record {
+        word = t.anchor;
+        holds = first;
+        reads =
+            sym (same_reading anchor 0 t.anchor first) ∙ ap (reads_in words) (sym anchor_word)
+            ∙ e;
+      } in (
+        below 0 at_anchor c,
+        mentioned_here t anchor 0 base (all_names s)
+            (child_mentioned t anchor 0 base (all_names s) c),
+      )
+
+  status_there : (base : ℕ) (r : InnerRow) → t.pieces base ≡ Some (Inner r)
+      → word_at words base ≡ r.status
+  status_there base r e = first_word words base (Inner r) (stands s base r e) (omega arith)
+
+  count_there : (base : ℕ) (r : InnerRow) → t.pieces base ≡ Some (Inner r)
+      → word_at words (base + 1) ≡ r.count
+  count_there base r e = word_is words base 1 (Inner r) (stands s base r e) (omega arith)
+
+  size_there : (base : ℕ) (r : InnerRow) → t.pieces base ≡ Some (Inner r)
+      → row_size words base ≡ r.size
+  size_there base r e = size_word words base r (stands s base r e) (shape s base r e)
+      (room s base (Inner r) e)
+
+  -- the table is settled just where its words are
+  pub settled_words : AreSettled words ↔ IsSettled t
+  settled_words = (there, back)
+    where
+      row_of : AreSettled words → (node : ℕ) (row : InnerRow) → Linked t node
+          → t.pieces node ≡ Some (Inner row) → IsSettledRow words node
+      row_of all node row l e = ⊎_elim (λ a. absurd (no_row t.pieces node row (free s) a e))
+          (λ up. all up.0 up.1 node up.2) (linked_reached node l)
+
+      there : AreSettled words → IsSettled t
+      there all =
+          record {
+            all_open = λ node row l e. sym (status_there node row e)
+                ∙ (row_of all node row l e).is_open;
+            none_due = λ node row l e.
+                subst (λ n. n < limit row.size) (count_there node row e)
+                (subst (λ z. word_at words (node + 1) < limit z) (size_there node row e)
+                (row_of all node row l e).not_due);
+          }
+
+      back : IsSettled t → AreSettled words
+      back s base e node r =
+          let at = first_linked base e in
+          let it = reached_linked base node r at.0 at.1 in
+          let row = it.1.0 in
+          let there = it.1.1 in
+          record {
+            is_open = status_there node row there ∙ s.all_open node row it.0 there;
+            not_due = subst (λ n. n < limit (row_size words node))
+                (sym (count_there node row there))
+                (subst (λ z. row.count < limit z) (sym (size_there node row there))
+                (s.none_due node row it.0 there));
+          }

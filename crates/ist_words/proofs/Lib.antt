@@ -1,0 +1,14 @@
+pub mod RowLemmas
+pub mod ReadingLemmas
+pub mod WalkLemmas
+pub mod BetweenLemmas
+pub mod GiveLemmas
+pub mod WholeLemmas
+pub mod WorkLemmas
+pub mod ListingLemmas
+pub mod MarkLemmas
+pub mod TaskLemmas
+pub mod ClaimLemmas
+pub mod ExamineLemmas
+pub mod AuditLemmas
+pub mod AlikeLemmas

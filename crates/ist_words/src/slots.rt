@@ -1,0 +1,8 @@
+//! The slots that a listing has still to visit.
+
+/// A slot that is to be visited: its word, and the base of its node.
+#[derive(Clone, Copy, Debug, PartialEq, Eq, Drop)]
+pub struct SlotLeft {
+    pub word: u64,
+    pub node: u64,
+}

@@ -1,0 +1,12 @@
+//! The slots that an audit has still to visit.
+
+/// A slot that is to be visited: its place and its word, the base of its node, and the keys that
+/// lead there, from `low` on and below `high`.
+#[derive(Clone, Copy, Debug, PartialEq, Eq, Drop)]
+pub struct AuditTask {
+    pub place: u64,
+    pub word: u64,
+    pub node: u64,
+    pub low: u64,
+    pub high: Option<u64>,
+}
