@@ -83,4 +83,24 @@ mod tests {
         assert_eq!(rt; map.pairs().len(), 100);
         Ok(())
     }
+
+    #[test]
+    fn pairs_come_back_as_they_went_in(rt: HostRuntime) -> Result<(), Fail> {
+        let pairs = [Pair { key: 2, value: 7 }, Pair { key: 9, value: 0 }];
+        let mut map = Plain::of(Vec::from_slice(rt.alloc(), &pairs)?);
+        // the command, the reply
+        let cases = [
+            (Command::Put { key: 5, value: 1 }, None),
+            (Command::Put { key: 2, value: 8 }, Some(7)),
+            (Command::Remove { key: 9 }, Some(0)),
+        ];
+        for (command, reply) in cases {
+            assert_eq!(rt; map.apply(command)?, reply, "at {command:?}");
+        }
+        let left = [Pair { key: 2, value: 8 }, Pair { key: 5, value: 1 }];
+        assert_eq!(rt; map.into_pairs().as_slice(), left.as_slice());
+        let none = Plain::of(Vec::new(rt.alloc())).into_pairs();
+        assert_eq!(rt; none.len(), 0);
+        Ok(())
+    }
 }

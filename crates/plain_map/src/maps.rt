@@ -40,6 +40,15 @@ impl Plain {
         }
     }
 
+    /// The map of these pairs, which keeps their memory and grows in it. Takes none, and is never
+    /// refused.
+    pub fn of(pairs: Vec<Pair>) -> Plain
+        requires rising { IsRising pairs.items }
+        ensures value { result ≡ pairs.items }
+    {
+        Plain { pairs }
+    }
+
     /// Does one command, and replies with the value that its key had before.
     ///
     /// Only a put can want memory. The map then stays as it was.
@@ -75,6 +84,16 @@ impl Plain {
         ensures rising { IsRising self.now }
     {
         self.pairs.as_slice()
+    }
+
+    /// All pairs, rising by key, in the memory that the map kept them in. Takes none, and is never
+    /// refused.
+    pub fn into_pairs(self) -> Vec<Pair>
+        ensures all { result.items ≡ self }
+        ensures of_map { result.items ≡ pairs_of (map_of self) }
+        ensures rising { IsRising result.items }
+    {
+        self.pairs
     }
 
     // What the key has.

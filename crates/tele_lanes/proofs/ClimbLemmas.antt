@@ -1,19 +1,22 @@
 -- Lists whose lines rise from each element to all later ones. Serves the laws of lanes.
 use Rattle.std.proofs.Common.{◌≡◌, ◌≢◌, ◌⊎◌, inl, inr, ◌+◌, ◌<◌, ℕ, zero, suc, true, List, [], ◌∷◌}
 use Rattle.std.proofs.Common.{length, map, get_or, sym, ap, subst, ◌∙◌, refl, arith, AllPairs}
-use Rattle.std.proofs.Common.{Contains}
+use Rattle.std.proofs.Common.{Contains, eqb}
+use Rattle.std.specs.List.{range_with_len, IsDistinct}
 use Rattle.std.specs.List.Sorted.{IsStrictlyIncreasing}
 use Rattle.std.proofs.lemmas.Bool.{cases_lt, eqb-true}
 use Rattle.std.proofs.lemmas.List.{get_or-map, get_or_default, length-map}
 use Rattle.std.proofs.lemmas.List.Elements.{All-contains, All-filter, All-contains_itself}
 use Rattle.std.proofs.lemmas.List.Elements.{filter_passes, Contains-get_or}
+use Rattle.std.proofs.lemmas.List.FromFn.{get_or-range_with_len, length-range_with_len}
 use Rattle.std.proofs.lemmas.List.Kept.{AllPairs-from_increasing, AllPairs-filter}
 use Rattle.ist_core.specs.declared.commands.Command.TheVariants.{Get}
 use Rattle.tele_lanes.specs.declared.task_lists.Task.{Task}
 use Rattle.tele_lanes.specs.Lines.{task_lines, ShareNoLine}
-use Rattle.tele_lanes.specs.Lanes.{lane_of, lane_tasks}
+use Rattle.tele_lanes.specs.Lanes.{lane_of, lane_tasks, all_lane_tasks, HaveOwnLines}
 use Rattle.tele_lanes.proofs.SplitLemmas.{is_in}
-use Rattle.tele_lanes.proofs.LineLemmas.{Contains-later}
+use Rattle.tele_lanes.proofs.DistinctLemmas.{Contains-later, IsDistinct-flat_map}
+use Rattle.tele_lanes.proofs.LineLemmas.{flat_map-map, map-flat_map}
 
 -- the head or one of the rest
 pub Contains-cons_cases : {X : Type 0} (y : X) (ys : List X) (x : X) → Contains (y ∷ ys) x
@@ -162,3 +165,19 @@ lane_tasks-rising workers lane tasks up =
     IsStrictlyIncreasing-from_Climb line_of (record { line = 0; command = Get 0 })
     (lane_tasks workers lane tasks)
     (AllPairs-filter (λ a b. line_of a < line_of b) (is_in workers lane) tasks (Climb-from_increasing line_of tasks up))
+
+-- and no two tasks of all lanes have the same line
+pub HaveOwnLines-all_lane_tasks : (workers : ℕ) (tasks : List Task)
+    → IsStrictlyIncreasing (task_lines tasks) → HaveOwnLines (all_lane_tasks workers tasks)
+HaveOwnLines-all_lane_tasks workers tasks up =
+    let range = range_with_len 0 workers in
+    let mine : ℕ → List ℕ = λ lane. task_lines (lane_tasks workers lane tasks) in
+    subst (IsDistinct eqb)
+    (sym (ap (map (λ t. t.line)) (flat_map-map (λ lane. lane_tasks workers lane tasks) range)
+    ∙ map-flat_map (λ t. t.line) (λ lane. lane_tasks workers lane tasks) range))
+    (IsDistinct-flat_map mine range
+    (λ k d h. lane_tasks-rising workers (get_or range k d) tasks up)
+    (λ i j d lt h.
+    let within : j < workers = omega (arith, length-range_with_len 0 workers) in
+    lane_tasks-apart workers (get_or range i d) (get_or range j d) tasks up
+    (λ same. omega (arith, same, get_or-range_with_len 0 workers i d, get_or-range_with_len 0 workers j d))))

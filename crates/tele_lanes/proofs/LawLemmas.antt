@@ -15,8 +15,7 @@ use Rattle.tele_lanes.specs.declared.answer_lists.Answer.{Answer}
 use Rattle.tele_lanes.specs.Lines.{task_lines}
 use Rattle.tele_lanes.specs.Lanes.{lane_of, lane_commands, lane_tasks, ArePlainAnswers, AnswerAlone}
 use Rattle.tele_lanes.specs.Lanes.{InLineOrder}
-use Rattle.tele_lanes.proofs.LineLemmas.{flat_map-map}
-use Rattle.tele_lanes.proofs.MergeLemmas.{line_of}
+use Rattle.tele_lanes.proofs.LineLemmas.{flat_map-map, line_of}
 use Rattle.tele_lanes.proofs.AloneLemmas.{answered, ArePlainAnswers-answered}
 use Rattle.tele_lanes.proofs.AloneLemmas.{answered-from_ArePlainAnswers, picked, picked_is}
 use Rattle.tele_lanes.proofs.AloneLemmas.{IsPermutation-picked, get-map_after_same}

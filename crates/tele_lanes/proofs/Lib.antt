@@ -1,6 +1,6 @@
 pub mod OrderLemmas
-pub mod MergeLemmas
 pub mod SplitLemmas
+pub mod DistinctLemmas
 pub mod LineLemmas
 pub mod AloneLemmas
 pub mod ClimbLemmas

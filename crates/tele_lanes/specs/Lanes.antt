@@ -1,8 +1,10 @@
 -- Which lane a command goes to, what the lanes answer, and what it means to gather the answers.
-use Rattle.std.specs.Prelude.{◌≡◌, ℕ, ◌%◌, ◌<◌, ◌==◌, List, filter, map, length, slice_index_or}
-use Rattle.std.specs.List.{flat_map, range_with_len}
+use Rattle.std.specs.Prelude.{◌≡◌, ℕ, ◌%◌, ◌<◌, ◌==◌, List, [], ◌∷◌, filter, map, drop, length}
+use Rattle.std.specs.Prelude.{slice_index_or, Option, Some, None}
+use Rattle.std.specs.List.{flat_map, range_with_len, IsDistinct}
 use Rattle.std.specs.List.Sorted.{IsStrictlyIncreasing, IsPermutation}
 use Rattle.ist_core.specs.declared.commands.Command.{Command}
+use Rattle.ist_core.specs.declared.ports.Full.{Full}
 use Rattle.ist_core.specs.Map.{Map, key_of, replies}
 use Rattle.tele_lanes.specs.declared.task_lists.Task.{Task}
 use Rattle.tele_lanes.specs.declared.answer_lists.Answer.{Answer}
@@ -25,6 +27,20 @@ abbrev pub all_lane_tasks : ℕ → List Task → List (List Task)
 all_lane_tasks workers tasks =
     map (λ lane. lane_tasks workers lane tasks) (range_with_len 0 workers)
 
+-- no two tasks of these lists have the same line
+abbrev pub HaveOwnLines : List (List Task) → Type 0
+HaveOwnLines lists = IsDistinct (λ x y. x == y) (task_lines (flat_map (λ tasks. tasks) lists))
+
+-- the tasks that are left behind those that were answered
+abbrev pub unanswered : List Task → List Answer → List Task
+unanswered tasks answers = drop (length answers) tasks
+
+-- the first refusal among what ended some lanes, if one of them was refused
+abbrev pub first_refusal : List (Option Full) → Option Full
+first_refusal [] = None
+first_refusal (None ∷ more) = first_refusal more
+first_refusal (Some full ∷ more) = Some full
+
 -- one thread answers the tasks so, from this map: each line in order, with its reply
 pub record ArePlainAnswers (m : Map) (tasks : List Task) (answers : List Answer) : Type 0 where
   pub lines : answer_lines answers ≡ task_lines tasks
@@ -41,3 +57,8 @@ pub record AnswerAlone (m : Map) (workers : ℕ) (tasks : List Task)
 pub record InLineOrder (lanes : List (List Answer)) (all : List Answer) : Type 0 where
   pub same : IsPermutation (flat_map (λ answers. answers) lanes) all
   pub rising : IsStrictlyIncreasing (answer_lines all)
+
+-- the tasks of some lists put back in line order: none is added or left out, and the lines rise
+pub record TasksInLineOrder (lists : List (List Task)) (all : List Task) : Type 0 where
+  pub same : IsPermutation (flat_map (λ tasks. tasks) lists) all
+  pub rising : IsStrictlyIncreasing (task_lines all)

@@ -1,70 +1,87 @@
-//! The answers of all lanes, put back in line order.
-ghost use Rattle.std.specs.Prelude.{◌≡◌, ◌++◌, All, AllPairs, IfOk, map};
+//! What the lanes of a round came to: their answers and the tasks that they left, put back in line
+//! order, and the refusal that ended one.
+ghost use Rattle.std.specs.Prelude.{◌≡◌, All, IfOk, map};
 ghost use Rattle.std.specs.List.{flat_map};
-ghost use Rattle.std.specs.List.Sorted.{IsPermutation, IsNonDecreasingBy, IsStrictlyIncreasing};
-ghost use Rattle.tele_lanes.specs.Lines.{task_lines, AnswerInOrder, ShareNoLine};
-ghost use Rattle.tele_lanes.specs.Lanes.{InLineOrder};
+ghost use Rattle.std.specs.List.Sorted.{IsPermutation, IsNonDecreasingBy};
+ghost use Rattle.tele_lanes.specs.Lines.{AnswerInOrder};
+ghost use Rattle.tele_lanes.specs.Lanes.{HaveOwnLines, unanswered, InLineOrder, TasksInLineOrder};
+ghost use Rattle.tele_lanes.specs.Lanes.{first_refusal};
 
 use crate::answer_lists::Answer;
 use crate::lanes::Lane;
-use ist_core::Port;
+use crate::task_lists::{Task, Tasks};
+use ist_core::{Full, Port};
 use std::alloc::{AllocError, Global};
 
 /// All answers of the lanes, rising by line.
 ///
-/// The lanes were run, so that the answers are for the first of their tasks; each lane's tasks rise
-/// by line, and no two lanes have a task with the same line. `laws::lanes_can_be_gathered` says so
-/// of lanes that were split. It merges the lanes in pairs, in time that grows as the answers times the
-/// logarithm of the number of lanes.
+/// Where no two tasks of the lanes have the same line, and each lane's answers are for the first of
+/// its tasks, as `run_lanes` leaves them, no line comes twice. `laws::lanes_can_be_gathered` says so
+/// of lanes that were split. The sort goes by the runs that it finds, so that lanes whose tasks rise
+/// are merged.
 pub fn gather<P: Port>(alloc: Global, lanes: &[Lane<P>]) -> Result<Vec<Answer>, AllocError>
-    requires answers { All (λ l. AnswerInOrder l.tasks l.answers.list) lanes.now }
-    requires rising { All (λ ts. IsStrictlyIncreasing (task_lines ts))
-        (map (λ l. l.tasks) lanes.now) }
-    requires apart { AllPairs ShareNoLine (map (λ l. l.tasks) lanes.now) }
-    ensures gathered { IfOk result (λ v.
-        InLineOrder (map (λ l. l.answers.list) lanes.now) v.items) }
-{
-    merge_lanes(alloc, lanes)
-}
-
-// The answers of the lanes, merged by line: those of each half first.
-fn merge_lanes<P: Port>(alloc: Global, lanes: &[Lane<P>]) -> Result<Vec<Answer>, AllocError>
-    requires { All (λ l. IsNonDecreasingBy (λ a. a.line) l.answers.list) lanes.now }
     ensures same { IfOk result (λ v.
         IsPermutation (flat_map (λ l. l.answers.list) lanes.now) v.items) }
     ensures rising { IfOk result (λ v. IsNonDecreasingBy (λ a. a.line) v.items) }
-{
-    if lanes.len() < 2 {
-        return match lanes.first() {
-            Some(lane) => Vec::from_slice(alloc, lane.answers.as_slice()),
-            None => Ok(Vec::new(alloc)),
-        };
-    }
-    let (front, back) = lanes.split_at(lanes.len() / 2);
-    let low = merge_lanes(alloc, front)?;
-    let high = merge_lanes(alloc, back)?;
-    merge(alloc, &low, &high)
-}
-
-// Two lists of answers that rise by line, merged into one.
-fn merge(alloc: Global, low: &[Answer], high: &[Answer]) -> Result<Vec<Answer>, AllocError>
-    requires low_rising { IsNonDecreasingBy (λ a. a.line) low.now }
-    requires high_rising { IsNonDecreasingBy (λ a. a.line) high.now }
-    ensures same { IfOk result (λ v. IsPermutation (low.now ++ high.now) v.items) }
-    ensures rising { IfOk result (λ v. IsNonDecreasingBy (λ a. a.line) v.items) }
+    ensures gathered { IfOk result (λ v.
+        All (λ l. AnswerInOrder l.tasks l.answers.list) lanes.now
+        → HaveOwnLines (map (λ l. l.tasks) lanes.now)
+        → InLineOrder (map (λ l. l.answers.list) lanes.now) v.items) }
 {
     let mut all = Vec::new(alloc);
-    let (mut i, mut j) = (0, 0);
-    while i < low.len() && j < high.len() {
-        if low[i].line <= high[j].line {
-            all.push(low[i])?;
-            i += 1;
-        } else {
-            all.push(high[j])?;
-            j += 1;
+    for lane in lanes {
+        all.extend_from_slice(lane.answers.as_slice())?;
+    }
+    sort_answers(all)
+}
+
+/// The tasks of the lanes that have no answer, rising by line: of each lane those behind as many as
+/// it has answers.
+///
+/// Where no two tasks of the lanes have the same line, no line comes twice.
+pub fn open_tasks<P: Port>(alloc: Global, lanes: &[Lane<P>]) -> Result<Tasks, AllocError>
+    ensures same { IfOk result (λ ts.
+        IsPermutation (flat_map (λ l. unanswered l.tasks l.answers.list) lanes.now) ts) }
+    ensures rising { IfOk result (λ ts. IsNonDecreasingBy (λ t. t.line) ts) }
+    ensures gathered { IfOk result (λ ts.
+        HaveOwnLines (map (λ l. l.tasks) lanes.now)
+        → TasksInLineOrder (map (λ l. unanswered l.tasks l.answers.list) lanes.now) ts) }
+{
+    let mut all = Vec::new(alloc);
+    for lane in lanes {
+        all.extend_from_slice(lane.unanswered())?;
+    }
+    sort_tasks(all)
+}
+
+/// The refusal of the lowest lane that stopped, if one did.
+pub fn first_refusal<P: Port>(lanes: &[Lane<P>]) -> Option<Full>
+    ensures { result ≡ first_refusal (map (λ l. l.stopped) lanes.now) }
+{
+    for lane in lanes {
+        if let Some(full) = lane.stopped {
+            return Some(full);
         }
     }
-    all.extend_from_slice(&low[i..])?;
-    all.extend_from_slice(&high[j..])?;
-    Ok(all)
+    None
+}
+
+// The answers, sorted by line.
+fn sort_answers(answers: Vec<Answer>) -> Result<Vec<Answer>, AllocError>
+    ensures same { IfOk result (λ v. IsPermutation answers.items v.items) }
+    ensures rising { IfOk result (λ v. IsNonDecreasingBy (λ a. a.line) v.items) }
+{
+    let mut answers = answers;
+    answers.sort_by_key(|answer| answer.line)?;
+    Ok(answers)
+}
+
+// The tasks, sorted by line.
+fn sort_tasks(tasks: Vec<Task>) -> Result<Tasks, AllocError>
+    ensures same { IfOk result (λ ts. IsPermutation tasks.items ts) }
+    ensures rising { IfOk result (λ ts. IsNonDecreasingBy (λ t. t.line) ts) }
+{
+    let mut tasks = tasks;
+    tasks.sort_by_key(|task| task.line)?;
+    Ok(Tasks::from_vec(tasks))
 }

@@ -1,6 +1,7 @@
 //! Lanes: the tasks of one worker with the port that they go through, and what they came to.
 ghost use Rattle.std.specs.Prelude.{◌≡◌, ◌+◌, ◌<◌, ◌≤◌, ℕ, [], List, length, map, All, Some, None, IfSome, IfNone, slice_get, option_map};
 ghost use Rattle.tele_lanes.specs.Lines.{commands_of, AnswerInOrder, CallInOrder, TellReplies};
+ghost use Rattle.tele_lanes.specs.Lanes.{unanswered};
 
 use crate::answer_lists::{Answer, Answers};
 use crate::gates::Gate;
@@ -40,6 +41,18 @@ impl<P: Port> Lane<P> {
             port,
             stopped: None,
         }
+    }
+
+    // The tasks behind as many as there are answers.
+    pub(crate) fn unanswered(&self) -> &[Task]
+        ensures { result.now ≡ unanswered self.now.tasks self.now.answers.list }
+    {
+        let tasks = self.tasks.as_slice();
+        let done = self.answers.as_slice().len();
+        if done < tasks.len() {
+            return &tasks[done..];
+        }
+        &[]
     }
 
     // Makes the calls of this lane's tasks, until one is refused.

@@ -7,7 +7,8 @@ ghost use Rattle.ist_core.specs.Map.{Map, replay};
 ghost use Rattle.tele_lanes.specs.declared.task_lists.Task.{Task};
 ghost use Rattle.tele_lanes.specs.declared.answer_lists.Answer.{Answer};
 ghost use Rattle.tele_lanes.specs.Lines.{task_lines, ShareNoLine};
-ghost use Rattle.tele_lanes.specs.Lanes.{lane_commands, all_lane_tasks, ArePlainAnswers, AnswerAlone, InLineOrder};
+ghost use Rattle.tele_lanes.specs.Lanes.{lane_commands, all_lane_tasks, HaveOwnLines};
+ghost use Rattle.tele_lanes.specs.Lanes.{ArePlainAnswers, AnswerAlone, InLineOrder};
 
 /// Lanes that answer alone, each from the same map, answer together as one thread does: their
 /// answers put back in line order are those of all tasks in order, and no others. Each key has at
@@ -22,9 +23,11 @@ pub fn lanes_answer_as_one()
         ≡ fin.get (replay m (lane_commands workers (key % workers) commands)) key }
 {}
 
-/// Lanes that were split from tasks whose lines rise can be gathered: the lines of each rise, and
-/// no two have a task with the same line.
+/// Lanes that were split from tasks whose lines rise can be gathered: no two of their tasks have
+/// the same line. Nor have two lanes, and the lines of each rise.
 pub fn lanes_can_be_gathered()
+    ensures own_lines { (workers : ℕ) (tasks : List Task) → IsStrictlyIncreasing (task_lines tasks)
+        → HaveOwnLines (all_lane_tasks workers tasks) }
     ensures rising { (workers : ℕ) (tasks : List Task) → IsStrictlyIncreasing (task_lines tasks)
         → All (λ lane. IsStrictlyIncreasing (task_lines lane)) (all_lane_tasks workers tasks) }
     ensures apart { (workers : ℕ) (tasks : List Task) → IsStrictlyIncreasing (task_lines tasks)

@@ -14,7 +14,7 @@ mod task_lists;
 
 pub use answer_lists::{Answer, Answers};
 pub use gates::{Gate, NoGate};
-pub use gathering::gather;
+pub use gathering::{first_refusal, gather, open_tasks};
 pub use lanes::{Lane, run_lanes};
 pub use splitting::{lane_of, split};
 pub use task_lists::{Task, Tasks};

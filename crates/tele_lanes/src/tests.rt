@@ -1,13 +1,13 @@
 //! What no clause says: that lanes run beside each other, and small rounds whole.
 ghost use Rattle.std.specs.Prelude.{◌≡◌, [], All, List, ◌∷◌, ◌++◌, Option, None, ◌≤◌, length, map, vec_len, vec_capacity, IfOk};
-ghost use Rattle.std.specs.List.Sorted.{IsStrictlyIncreasing};
-ghost use Rattle.tele_lanes.specs.Lines.{task_lines};
 ghost use Rattle.tele_lanes.specs.Lanes.{all_lane_tasks};
 ghost use Rattle.std.specs.Option.{option_to_list, option_map};
 ghost use Rattle.ist_core.specs.Replies.{Answered, Refused};
 
-use crate::laws::lanes_can_be_gathered;
-use crate::{Answer, Answers, Gate, Lane, NoGate, Task, Tasks, gather, lane_of, run_lanes, split};
+use crate::{
+    Answer, Answers, Gate, Lane, NoGate, Task, Tasks, first_refusal, gather, lane_of, open_tasks,
+    run_lanes, split,
+};
 use ist_core::{Command, Full, Port, Reply};
 use std::alloc::{AllocError, Global};
 use std::sync::Wait;
@@ -168,34 +168,30 @@ fn round<R: Threads + Wait + Sync>(
 ) -> Result<Vec<Answer>, AllocError>
     requires some { 1 ≤ workers }
     requires at_most { workers ≤ 64 }
-    requires rising { IsStrictlyIncreasing (task_lines tasks.now) }
 {
     let mut lanes = idle_lanes(alloc, tasks, workers, tasks.len())?;
     let lanes = lanes.as_mut_slice();
     run_lanes(rt, &NoGate, lanes);
-    lanes_can_be_gathered();
     gather(alloc, lanes)
+}
+
+// the task of this line
+fn task(line: u64, command: Command) -> Task {
+    Task { line, command }
+}
+
+// the answer to this line
+fn answer(line: u64, reply: Reply) -> Answer {
+    Answer { line, reply }
 }
 
 #[test]
 fn equal_timestamps_go_to_one_lane(rt: HostRuntime) -> Result<(), AllocError> {
     let tasks = [
-        Task {
-            line: 1,
-            command: Command::Put { key: 2, value: 1 },
-        },
-        Task {
-            line: 2,
-            command: Command::Put { key: 3, value: 1 },
-        },
-        Task {
-            line: 3,
-            command: Command::Put { key: 2, value: 5 },
-        },
-        Task {
-            line: 4,
-            command: Command::Get { key: 2 },
-        },
+        task(1, Command::Put { key: 2, value: 1 }),
+        task(2, Command::Put { key: 3, value: 1 }),
+        task(3, Command::Put { key: 2, value: 5 }),
+        task(4, Command::Get { key: 2 }),
     ];
     let lanes = split(rt.alloc(), &tasks, 2)?;
     assert_eq!(rt; lanes.len(), 2);
@@ -266,22 +262,10 @@ fn lanes_run_beside_each_other(rt: HostRuntime) -> Result<(), AllocError> {
 #[test]
 fn a_lane_stops_at_the_refused_task(rt: HostRuntime) -> Result<(), AllocError> {
     let tasks = [
-        Task {
-            line: 1,
-            command: Command::Get { key: 5 },
-        },
-        Task {
-            line: 2,
-            command: Command::Put { key: 5, value: 9 },
-        },
-        Task {
-            line: 3,
-            command: Command::Get { key: 5 },
-        },
-        Task {
-            line: 4,
-            command: Command::Get { key: 5 },
-        },
+        task(1, Command::Get { key: 5 }),
+        task(2, Command::Put { key: 5, value: 9 }),
+        task(3, Command::Get { key: 5 }),
+        task(4, Command::Get { key: 5 }),
     ];
     let mut lanes = idle_lanes(rt.alloc(), &tasks, 1, 2)?;
     let gate = Counter {
@@ -291,20 +275,44 @@ fn a_lane_stops_at_the_refused_task(rt: HostRuntime) -> Result<(), AllocError> {
     // two answered calls and the refused one: 1 + 2 + 3
     assert_eq!(rt; gate.told.load(Ordering::SeqCst), 6006);
     for lane in &lanes {
-        let answers = [
-            Answer {
-                line: 1,
-                reply: Some(5),
-            },
-            Answer {
-                line: 2,
-                reply: None,
-            },
-        ];
+        let answers = [answer(1, Some(5)), answer(2, None)];
         assert_eq!(rt; lane.answers.as_slice(), answers.as_slice());
         assert_eq!(rt; lane.stopped, Some(FULL));
         assert_eq!(rt; lane.port.refused, Some(Command::Get { key: 5 }));
     }
+    let open = open_tasks(rt.alloc(), &lanes)?;
+    assert_eq!(rt; open.as_slice(), [tasks[2], tasks[3]].as_slice());
+    assert_eq!(rt; first_refusal(&lanes), Some(FULL));
+    Ok(())
+}
+
+#[test]
+fn lines_rise_whatever_the_order_of_the_tasks(rt: HostRuntime) -> Result<(), AllocError> {
+    // the lines of the tasks of the keys 0, 1, 2, 0, 1, 2 and so on
+    let lines = [9, 2, 7, 3, 8, 1, 6, 5, 4];
+    let mut tasks = Vec::new(rt.alloc());
+    for (i, line) in lines.iter().enumerate() {
+        let key = (i % 3) as u64;
+        tasks.push(Task {
+            line: *line,
+            command: Command::Get { key },
+        })?;
+    }
+    // three lanes, each of which answers two of its three tasks
+    let mut lanes = idle_lanes(rt.alloc(), &tasks, 3, 2)?;
+    let lanes = lanes.as_mut_slice();
+    run_lanes(&rt, &NoGate, lanes);
+    let all = gather(rt.alloc(), lanes)?;
+    let mut answered = Vec::new(rt.alloc());
+    for answer in &all {
+        answered.push(answer.line)?;
+    }
+    assert_eq!(rt; answered.as_slice(), [1, 2, 3, 7, 8, 9].as_slice());
+    let mut open = Vec::new(rt.alloc());
+    for task in open_tasks(rt.alloc(), lanes)?.as_slice() {
+        open.push(task.line)?;
+    }
+    assert_eq!(rt; open.as_slice(), [4, 5, 6].as_slice());
     Ok(())
 }
 
@@ -317,6 +325,8 @@ fn no_tasks_give_no_answers(rt: HostRuntime) -> Result<(), AllocError> {
         assert_eq!(rt; lane.answers.as_slice().len(), 0, "lane {}", lane.number);
         assert_eq!(rt; lane.stopped, None, "lane {}", lane.number);
     }
+    assert_eq!(rt; open_tasks(rt.alloc(), &lanes)?.as_slice().len(), 0);
+    assert_eq!(rt; first_refusal(&lanes), None);
     assert_eq!(rt; gather::<Recorder>(rt.alloc(), &[])?.len(), 0);
     let mut none: [Lane<Recorder>; 0] = [];
     run_lanes(&rt, &NoGate, &mut none);
@@ -326,64 +336,22 @@ fn no_tasks_give_no_answers(rt: HostRuntime) -> Result<(), AllocError> {
 #[test]
 fn answers_come_back_in_line_order(rt: HostRuntime) -> Result<(), AllocError> {
     let tasks = [
-        Task {
-            line: 1,
-            command: Command::Get { key: 200 },
-        },
-        Task {
-            line: 2,
-            command: Command::Get { key: 7 },
-        },
-        Task {
-            line: 4,
-            command: Command::Remove { key: 64 },
-        },
-        Task {
-            line: 5,
-            command: Command::Get { key: u64::MAX },
-        },
-        Task {
-            line: 9,
-            command: Command::Get { key: 0 },
-        },
-        Task {
-            line: 10,
-            command: Command::Put { key: 7, value: 1 },
-        },
-        Task {
-            line: 12,
-            command: Command::Get { key: 1 },
-        },
+        task(1, Command::Get { key: 200 }),
+        task(2, Command::Get { key: 7 }),
+        task(4, Command::Remove { key: 64 }),
+        task(5, Command::Get { key: u64::MAX }),
+        task(9, Command::Get { key: 0 }),
+        task(10, Command::Put { key: 7, value: 1 }),
+        task(12, Command::Get { key: 1 }),
     ];
     let answers = [
-        Answer {
-            line: 1,
-            reply: Some(200),
-        },
-        Answer {
-            line: 2,
-            reply: Some(7),
-        },
-        Answer {
-            line: 4,
-            reply: None,
-        },
-        Answer {
-            line: 5,
-            reply: Some(u64::MAX),
-        },
-        Answer {
-            line: 9,
-            reply: Some(0),
-        },
-        Answer {
-            line: 10,
-            reply: None,
-        },
-        Answer {
-            line: 12,
-            reply: Some(1),
-        },
+        answer(1, Some(200)),
+        answer(2, Some(7)),
+        answer(4, None),
+        answer(5, Some(u64::MAX)),
+        answer(9, Some(0)),
+        answer(10, None),
+        answer(12, Some(1)),
     ];
     for workers in [1u32, 2, 3, 7, 64] {
         assert!(rt; workers >= 1 && workers <= 64);
@@ -395,16 +363,10 @@ fn answers_come_back_in_line_order(rt: HostRuntime) -> Result<(), AllocError> {
 
 #[test]
 fn lists_come_back_as_they_went_in(rt: HostRuntime) -> Result<(), AllocError> {
-    let task = Task {
-        line: 3,
-        command: Command::Remove { key: 8 },
-    };
+    let task = task(3, Command::Remove { key: 8 });
     let tasks = Tasks::from_vec(vec![in rt.alloc(); task]?).into_vec();
     assert_eq!(rt; tasks.as_slice(), [task].as_slice());
-    let answer = Answer {
-        line: 3,
-        reply: Some(6),
-    };
+    let answer = answer(3, Some(6));
     let answers = Answers::from_vec(vec![in rt.alloc(); answer]?).into_vec();
     assert_eq!(rt; answers.as_slice(), [answer].as_slice());
     Ok(())

@@ -4,7 +4,11 @@ use Rattle.tele_lanes.specs.Lines.{task_lines, ShareNoLine}
 use Rattle.tele_lanes.specs.Lanes.{lane_tasks, all_lane_tasks}
 use Rattle.tele_lanes.proofs.SplitLemmas.{get_or-all_lane_tasks, length-all_lane_tasks}
 use Rattle.tele_lanes.proofs.ClimbLemmas.{lane_tasks-rising, lane_tasks-apart}
+use Rattle.tele_lanes.proofs.ClimbLemmas.{HaveOwnLines-all_lane_tasks}
 use Rattle.tele_lanes.proofs.laws.lanes_can_be_gathered.Goals as goal
+
+pub returns-clause-own_lines : goal.returns-clause-own_lines
+returns-clause-own_lines c = λ workers tasks up. HaveOwnLines-all_lane_tasks workers tasks up
 
 pub returns-clause-rising : goal.returns-clause-rising
 returns-clause-rising c = λ workers tasks up k d h.

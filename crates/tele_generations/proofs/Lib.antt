@@ -1,0 +1,6 @@
+pub mod RestLemmas
+pub mod DoneLemmas
+pub mod LeadLemmas
+pub mod TableLemmas
+pub mod WayLemmas
+pub mod RoundLemmas

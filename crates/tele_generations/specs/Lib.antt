@@ -1,0 +1,8 @@
+-- what the public contracts rest on, in the order to read them
+pub mod Sizes
+pub mod Generations
+pub mod Tables
+pub mod Shelves
+pub mod Rounds
+-- what the functions inside this crate promise each other
+pub mod Ways

@@ -1,0 +1,82 @@
+-- What the loop over generations keeps, and what one turn at rest does.
+use Rattle.std.specs.Prelude.{◌≡◌, ℕ, ◌+◌, ◌<◌, ◌≤◌, List, [], ◌∷◌, ◌++◌, map, length, Option, All}
+use Rattle.std.specs.List.Sorted.{IsStrictlyIncreasing}
+use Rattle.ist_core.specs.declared.pairs.Pair.{Pair}
+use Rattle.ist_core.specs.declared.ports.Full.{Full}
+use Rattle.ist_core.specs.Map.{map_of, map_after}
+use Rattle.ist_core.specs.RowLayout.{place_limit}
+use Rattle.ist_core.specs.Lawful.{CanOpen}
+use Rattle.tele_lanes.specs.declared.task_lists.Task.{Task}
+use Rattle.tele_lanes.specs.declared.answer_lists.Answer.{Answer}
+use Rattle.tele_lanes.specs.Lines.{task_lines}
+use Rattle.tele_rounds.specs.Turns.{IsUnderWay, plain_answer}
+use Rattle.tele_rounds.specs.Suffixes.{LeavesSuffixes}
+use Rattle.plain_map.specs.Rising.{IsRising}
+use Rattle.tele_generations.specs.declared.rests.Turn.{Turn}
+use Rattle.tele_generations.specs.declared.ways.Way.{Way}
+use Rattle.tele_generations.specs.Sizes.{least_words, next_words}
+use Rattle.tele_generations.specs.Generations.{MayAsk, IsLarger, IsGenerations}
+use Rattle.tele_generations.specs.Shelves.{IsShelved}
+
+-- a turn at rest: where there is an answer everything stays, and else one thread answers the first
+-- task
+pub data Rests (answers : List Answer) (left : List Task) (pairs : List Pair) : List Answer
+    → List Task → List Pair → Type 0 where
+  stays : 0 < length answers → Rests answers left pairs answers left pairs
+  rests_one : (task : Task) (rest : List Task) (after : List Pair) → length answers ≡ 0
+      → left ≡ task ∷ rest → IsRising after
+      → map_of after ≡ map_after (map_of pairs) task.command
+      → Rests answers left pairs (plain_answer (map_of pairs) task ∷ []) rest after
+
+-- the table may follow the tables so far
+abbrev pub MayFollow : List (List ℕ) → List ℕ → Type 0
+MayFollow [] next = Unit {0}
+MayFollow (table ∷ []) next = IsLarger table next
+MayFollow (table ∷ other ∷ tables) next = MayFollow (other ∷ tables) next
+
+-- the tables so far, with those of generations for what they leave, are those of all
+abbrev pub LeadOn : ℕ → List Pair → List Task → List (List ℕ) → List Full → List Pair
+    → List Task → Type 0
+LeadOn workers pairs tasks tables fulls now left =
+    (next : List ℕ) (more : List (List ℕ)) (later : List Full) → MayFollow tables next
+    → IsGenerations workers now left (next ∷ more) later
+    → IsGenerations workers pairs tasks (tables ++ next ∷ more) (fulls ++ later)
+
+-- the first of the tables so far has as many words as a first one has, or the next one will have
+abbrev pub BeginsWith : ℕ → List (List ℕ) → ℕ → Type 0
+BeginsWith first [] words = words ≡ first
+BeginsWith first (table ∷ tables) words = length table ≡ first
+
+-- the tables so far: they are on the shelf, lead on to what is left, and the next one may follow
+pub record HasTables {C : Type 0} (words_of : C → List ℕ) (workers first : ℕ) (pairs : List Pair)
+    (tasks : List Task) (before after : Option (List C)) (fulls : List Full) (now : List Pair)
+    (left : List Task) (words : ℕ) : Type 0 where
+  pub given : List C
+  pub shelved : IsShelved before given after
+  pub lead : LeadOn workers pairs tasks (map words_of given) fulls now left
+  pub may_follow : (next : List ℕ) → length next ≡ words → MayFollow (map words_of given) next
+  pub begins : BeginsWith first (map words_of given) words
+
+-- the round is under way: what was answered, what is left and from which pairs, and how many words
+-- the next table has
+pub record IsOnItsWay (workers : ℕ) (pairs : List Pair) (tasks : List Task) (fulls : List Full)
+    (answers : List Answer) (now : List Pair) (left : List Task) (words : ℕ) : Type 0 where
+  pub way : IsUnderWay (map_of pairs) tasks answers left (map_of now)
+  pub rising : IsStrictlyIncreasing (task_lines left)
+  pub opens : CanOpen now words
+  pub suffixes : LeavesSuffixes workers tasks left
+  pub at_once : fulls ≡ [] → (now ≡ pairs) × (left ≡ tasks)
+  pub few : length now + length left ≤ length pairs + length tasks
+  pub count : length fulls + length left ≤ length tasks
+  pub asked : All (λ full. MayAsk (length pairs + length tasks) full.asked) fulls
+
+-- the way goes on behind a table that ran full: with a turn at rest, and a next table
+pub record GoesOnTo (way : Way) (turn : Turn) (full : Full) (next : Way) : Type 0 where
+  pub more : List Answer
+  pub rested : Rests turn.answers.items turn.left.items turn.pairs.items more next.left.items
+      next.pairs.items
+  pub answers : next.answers.items ≡ way.answers.items ++ more
+  pub fulls : next.fulls.items ≡ way.fulls.items ++ full ∷ []
+  pub words : next.words ≡ next_words way.words (length next.pairs.items)
+  pub fits : next.words ≤ place_limit
+  pub holds : least_words (length next.pairs.items) ≤ next.words

@@ -1,0 +1,7 @@
+use Rattle.std.proofs.Common.{◌≡◌, take}
+use Rattle.std.specs.List.{flat_map}
+use Rattle.tele_lanes.proofs.gathering.gather.Given as goal
+
+abbrev pub invariant-loop-lane : goal.invariant-loop-lane
+invariant-loop-lane g l =
+    l.all.items ≡ flat_map (λ lane. lane.answers.list) (take l.lane-index l.lanes)

@@ -1,0 +1,13 @@
+pub mod StandLemmas
+pub mod AloneLemmas
+pub mod RestLemmas
+pub mod PlainLemmas
+pub mod CountLemmas
+pub mod PartLemmas
+pub mod LaneLemmas
+pub mod RunLemmas
+pub mod TurnLemmas
+pub mod WholeLemmas
+pub mod SuffixLemmas
+pub mod LaneListLemmas
+pub mod ExampleLemmas
