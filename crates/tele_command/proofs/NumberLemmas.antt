@@ -1,4 +1,5 @@
--- The four options of the command, and the numbers that were found for them. Serves the reading of the options.
+-- The four options of the command, and the numbers that were found for them. Serves the reading of
+-- the options.
 use Rattle.std.proofs.Common.{suc, zero, ◌≡◌, ℕ, ◌<◌, ◌^◌, ◌-◌, ◌&&◌, Bool, true, false, List, [], ◌∷◌, length, refl, sym, ◌∙◌, ap, subst, inl, inr, arith, map, codes}
 use Rattle.std.specs.Prelude.{IfSome, not}
 use Rattle.std.specs.List.{All, slice_index_or}
@@ -29,7 +30,8 @@ below_four P zero_too one two three (suc (suc (suc zero))) lt = three
 below_four P zero_too one two three (suc (suc (suc (suc j)))) lt = absurd (omega arith)
 
 -- two texts that differ are no equal ids
-differ : (x y one two : List ℕ) → x ≡ one → y ≡ two → bytes_eq one two ≡ false → bytes_eq x y ≡ true → ⊥
+differ : (x y one two : List ℕ) → x ≡ one → y ≡ two → bytes_eq one two ≡ false → bytes_eq x y ≡ true
+    → ⊥
 differ x y one two is is_too unlike same =
     let there : bytes_eq one two ≡ true =
     subst (λ b. bytes_eq one b ≡ true) is_too (subst (λ a. bytes_eq a y ≡ true) is same) in
@@ -46,14 +48,16 @@ both false y h = absurd (cc h)
 
 none_of : {X : Type 0} (xs : List X) → is_empty xs ≡ true → xs ≡ []
 none_of [] h = refl
-none_of (x ∷ xs) h = let bad : length (x ∷ xs) ≡ 0 = eqb-true (length (x ∷ xs)) 0 h in absurd (omega (arith, bad))
+none_of (x ∷ xs) h = let bad : length (x ∷ xs) ≡ 0 = eqb-true (length (x ∷ xs)) 0 h in absurd
+    (omega (arith, bad))
 
 not_true : (b : Bool) → not b ≡ true → b ≡ false
 not_true true h = absurd (cc h)
 not_true false h = refl
 
 -- an option with one number excludes nothing and belongs to no group
-plain_option : (a : Arg) (name : List ℕ) (low high : ℕ) → rule_of a ≡ number_option name low high → IsPlainArg a
+plain_option : (a : Arg) (name : List ℕ) (low high : ℕ) → rule_of a ≡ number_option name low high →
+    IsPlainArg a
 plain_option a name low high is =
     let free : is_free_arg a ≡ true = ap (λ (r : Rule). r.is_free) is in
     let simple : is_simple_arg a ≡ true = ap (λ (r : Rule). r.is_simple) is in
@@ -77,13 +81,25 @@ record HasOptions (old : Command) : Type 0 where
   generate : rule_of c ≡ number_option (codes "generate") 0 1048576
   seed : rule_of d ≡ number_option (codes "seed") 0 (2 ^ 64 - 1)
 
-has_options : (old : Command) (args : List Arg) → args_of old ≡ args → map rule_of args ≡ tele.top.rules → HasOptions old
+has_options : (old : Command) (args : List Arg) → args_of old ≡ args → map rule_of args ≡
+    tele.top.rules → HasOptions old
 has_options old [] are is = absurd (cc is)
 has_options old (a ∷ []) are is = absurd (cc is)
 has_options old (a ∷ b ∷ []) are is = absurd (cc is)
 has_options old (a ∷ b ∷ c ∷ []) are is = absurd (cc is)
 has_options old (a ∷ b ∷ c ∷ d ∷ []) are is =
-    record { a = a; b = b; c = c; d = d; args = are; workers = cc is; words = cc is; generate = cc is; seed = cc is }
+    record {
+      a = a;
+      b = b;
+      c = c;
+      d = d;
+      args = are;
+      workers = cc is;
+      words = cc is;
+      generate = cc
+          is;
+      seed = cc is;
+    }
 has_options old (a ∷ b ∷ c ∷ d ∷ e ∷ more) are is = absurd (cc is)
 
 module _ (old : Command) (is : app_of old ≡ tele) (m : ArgMatches) (p : IsParsedFrom old m) where
@@ -101,14 +117,17 @@ module _ (old : Command) (is : app_of old ≡ tele) (m : ArgMatches) (p : IsPars
   plain : IsPlain old
   plain = (
     subst (All IsPlainArg) (sym options.args)
-        (λ j e lt. below_four (λ j. IsPlainArg (slice_index_or (options.a ∷ options.b ∷ options.c ∷ options.d ∷ []) j e))
+        (λ j e lt. below_four (λ j. IsPlainArg
+        (slice_index_or (options.a ∷ options.b ∷ options.c ∷ options.d ∷ []) j e))
         (plain_option options.a _ _ _ options.workers) (plain_option options.b _ _ _ options.words)
-        (plain_option options.c _ _ _ options.generate) (plain_option options.d _ _ _ options.seed) j (omega (arith, lt))),
+        (plain_option options.c _ _ _ options.generate) (plain_option options.d _ _ _ options.seed)
+        j (omega (arith, lt))),
     plain_fields.0,
   )
 
   -- what was found for one option
-  option_number : (k : ℕ) (d : Arg) (name : List ℕ) (low high : ℕ) → k < length (args_of old) → IsAlone (args_of old) k d
+  option_number : (k : ℕ) (d : Arg) (name : List ℕ) (low high : ℕ) → k < length (args_of old) →
+      IsAlone (args_of old) k d
       → rule_of (slice_index_or (args_of old) k d) ≡ number_option name low high → (name ≡ [] → ⊥)
       → (name ≡ codes "help" → ⊥) → (name ≡ codes "version" → ⊥)
       → IfSome (first_value (found_of m) name) (IsUnsignedIn low high)
@@ -118,9 +137,11 @@ module _ (old : Command) (is : app_of old ≡ tele) (m : ArgMatches) (p : IsPars
       λ auto. elim auto [ inl h ↦ no_help (sym id ∙ h) | inr h ↦ no_version (sym id ∙ h) ] in
       let values = (p.parsed (p.from.globals ∙ plain_fields.1)).values in
       subst (λ n. IfSome (first_value (found_of m) n) (IsUnsignedIn low high)) id
-      (first_passes p.built (slice_index_or (args_of old) k d).id.now (p.from.plain plain).1 (λ e. named (sym id ∙ e)) (found_of m)
+      (first_passes p.built (slice_index_or (args_of old) k d).id.now (p.from.plain plain).1
+      (λ e. named (sym id ∙ e)) (found_of m)
       (IsUnsignedIn low high) values
-      (λ v pass. passes_range old m p k d low high v.now lt alone own (ap (λ (r : Rule). r.parser) rule) pass))
+      (λ v pass. passes_range old m p k d low high v.now lt alone own
+      (ap (λ (r : Rule). r.parser) rule) pass))
 
   -- the arguments of the command, one by one
   abbrev all : List Arg
@@ -145,29 +166,36 @@ module _ (old : Command) (is : app_of old ≡ tele) (m : ArgMatches) (p : IsPars
   -- no other has the name of this one
   workers_alone : IsAlone all 0 options.a
   workers_alone j e lt =
-      below_four (λ j. bytes_eq (slice_index_or all j e).id.now (slice_index_or all 0 options.a).id.now ≡ true → j ≡ 0)
+      below_four (λ j. bytes_eq (slice_index_or all j e).id.now
+      (slice_index_or all 0 options.a).id.now ≡ true → j ≡ 0)
       (λ _. refl)
       (λ same. absurd (differ _ _ (codes "words") (codes "workers") words_id workers_id refl same))
-      (λ same. absurd (differ _ _ (codes "generate") (codes "workers") generate_id workers_id refl same))
+      (λ same. absurd (differ _ _ (codes "generate") (codes "workers") generate_id workers_id refl
+      same))
       (λ same. absurd (differ _ _ (codes "seed") (codes "workers") seed_id workers_id refl same))
       j (omega (arith, lt))
 
   -- no other has the name of this one
   words_alone : IsAlone all 1 options.b
   words_alone j e lt =
-      below_four (λ j. bytes_eq (slice_index_or all j e).id.now (slice_index_or all 1 options.b).id.now ≡ true → j ≡ 1)
+      below_four (λ j. bytes_eq (slice_index_or all j e).id.now
+      (slice_index_or all 1 options.b).id.now ≡ true → j ≡ 1)
       (λ same. absurd (differ _ _ (codes "workers") (codes "words") workers_id words_id refl same))
       (λ _. refl)
-      (λ same. absurd (differ _ _ (codes "generate") (codes "words") generate_id words_id refl same))
+      (λ same. absurd (differ _ _ (codes "generate") (codes "words") generate_id words_id refl
+      same))
       (λ same. absurd (differ _ _ (codes "seed") (codes "words") seed_id words_id refl same))
       j (omega (arith, lt))
 
   -- no other has the name of this one
   generate_alone : IsAlone all 2 options.c
   generate_alone j e lt =
-      below_four (λ j. bytes_eq (slice_index_or all j e).id.now (slice_index_or all 2 options.c).id.now ≡ true → j ≡ 2)
-      (λ same. absurd (differ _ _ (codes "workers") (codes "generate") workers_id generate_id refl same))
-      (λ same. absurd (differ _ _ (codes "words") (codes "generate") words_id generate_id refl same))
+      below_four (λ j. bytes_eq (slice_index_or all j e).id.now
+      (slice_index_or all 2 options.c).id.now ≡ true → j ≡ 2)
+      (λ same. absurd (differ _ _ (codes "workers") (codes "generate") workers_id generate_id refl
+      same))
+      (λ same. absurd (differ _ _ (codes "words") (codes "generate") words_id generate_id refl
+      same))
       (λ _. refl)
       (λ same. absurd (differ _ _ (codes "seed") (codes "generate") seed_id generate_id refl same))
       j (omega (arith, lt))
@@ -175,7 +203,8 @@ module _ (old : Command) (is : app_of old ≡ tele) (m : ArgMatches) (p : IsPars
   -- no other has the name of this one
   seed_alone : IsAlone all 3 options.d
   seed_alone j e lt =
-      below_four (λ j. bytes_eq (slice_index_or all j e).id.now (slice_index_or all 3 options.d).id.now ≡ true → j ≡ 3)
+      below_four (λ j. bytes_eq (slice_index_or all j e).id.now
+      (slice_index_or all 3 options.d).id.now ≡ true → j ≡ 3)
       (λ same. absurd (differ _ _ (codes "workers") (codes "seed") workers_id seed_id refl same))
       (λ same. absurd (differ _ _ (codes "words") (codes "seed") words_id seed_id refl same))
       (λ same. absurd (differ _ _ (codes "generate") (codes "seed") generate_id seed_id refl same))

@@ -20,14 +20,16 @@ use Rattle.clap.specs.declared.parser.matches.MatchedArg.{MatchedArg}
 use Rattle.clap.proofs.CallerLemmas.{entry_by_id, same_rules_by_id}
 
 -- what holds of each value holds of the first
-first_holds : (Q : List ℕ → Type 0) (P : Bor (List ℕ) → Type 0) (vs : List (Bor (List ℕ))) → ((v : Bor (List ℕ)) → P v → Q v.now)
+first_holds : (Q : List ℕ → Type 0) (P : Bor (List ℕ) → Type 0) (vs : List (Bor (List ℕ))) →
+    ((v : Bor (List ℕ)) → P v → Q v.now)
     → All P vs → IfSome (option_map (λ s. s.now) (slice_get vs 0)) Q
 first_holds Q P [] so all = tt
 first_holds Q P (v ∷ vs) so all = so v (All-get_or P (v ∷ vs) 0 v (omega arith) all)
 
 module _ (c : Command) (id : List ℕ) (no_groups : groups_of c ≡ []) (named : id ≡ [] → ⊥) where
   -- the values of an argument's entry passed
-  entry_values : (e : Entry) (x : MatchedArg) → e.1 ≡ x → e.0.now ≡ id → EntryPasses c e → All (λ v. PassesArg c id v.now) x.vals.items
+  entry_values : (e : Entry) (x : MatchedArg) → e.1 ≡ x → e.0.now ≡ id → EntryPasses c e → All
+      (λ v. PassesArg c id v.now) x.vals.items
   entry_values e x is key pass =
       let no_group : e.1.is_group ≡ true → ⊥ = λ g. elim (pass.3 g) [
         | inl empty ↦ named (sym key ∙ empty)
@@ -37,15 +39,18 @@ module _ (c : Command) (id : List ℕ) (no_groups : groups_of c ≡ []) (named :
       ] in
       elim pass.0 [
         | inl g ↦ absurd (no_group g)
-        | inr vals ↦ subst (λ (k : List ℕ). All (λ v. PassesArg c k v.now) x.vals.items) key (rw is at vals)
+        | inr vals ↦ subst (λ (k : List ℕ). All (λ v. PassesArg c k v.now) x.vals.items) key
+            (rw is at vals)
       ]
 
   -- so did the first value that was found for it
-  pub first_passes : (f : Found) (Q : List ℕ → Type 0) → ValuesPass c f → ((v : Bor (List ℕ)) → PassesArg c id v.now → Q v.now)
+  pub first_passes : (f : Found) (Q : List ℕ → Type 0) → ValuesPass c f →
+      ((v : Bor (List ℕ)) → PassesArg c id v.now → Q v.now)
       → IfSome (first_value f id) Q
   first_passes f Q values so = go (matched_of f id) refl
     where
-      found : (x : MatchedArg) → ((e : Entry) × (e.1 ≡ x) × (bytes_eq e.0.now id ≡ true) × EntryPasses c e)
+      found : (x : MatchedArg) → ((e : Entry) × (e.1 ≡ x) × (bytes_eq e.0.now id ≡ true) ×
+          EntryPasses c e)
           → IfSome (option_map (λ s. s.now) (slice_get x.vals.items 0)) Q
       found x got =
           first_holds Q (λ v. PassesArg c id v.now) x.vals.items so
@@ -58,14 +63,18 @@ module _ (c : Command) (id : List ℕ) (no_groups : groups_of c ≡ []) (named :
 
 -- no other argument of a list has the id of this one
 abbrev pub IsAlone : List Arg → ℕ → Arg → Type 0
-IsAlone xs k d = (j : ℕ) (e : Arg) → j < length xs → bytes_eq (slice_index_or xs j e).id.now (slice_index_or xs k d).id.now ≡ true → j ≡ k
+IsAlone xs k d = (j : ℕ) (e : Arg) → j < length xs → bytes_eq (slice_index_or xs j e).id.now
+    (slice_index_or xs k d).id.now ≡ true → j ≡ k
 
 -- a text that passed an argument of the built command passed the parser that the caller gave it
-pub passes_range : (old : Command) (m : ArgMatches) (p : IsParsedFrom old m) (k : ℕ) (d : Arg) (low high : ℕ) (t : List ℕ)
-    → k < length (args_of old) → IsAlone (args_of old) k d → (IsAuto (slice_index_or (args_of old) k d) → ⊥)
+pub passes_range : (old : Command) (m : ArgMatches) (p : IsParsedFrom old m) (k : ℕ) (d : Arg)
+    (low high : ℕ) (t : List ℕ)
+    → k < length (args_of old) → IsAlone (args_of old) k d →
+    (IsAuto (slice_index_or (args_of old) k d) → ⊥)
     → (slice_index_or (args_of old) k d).value_parser ≡ Some (Unsigned low high)
     → PassesArg p.built (slice_index_or (args_of old) k d).id.now t → IsUnsignedIn low high t
 passes_range old m p k d low high t lt alone own parser pass =
     let s = same_rules_by_id old m p k d lt alone own pass.0 pass.1 pass.2 pass.3 pass.4.0 in
-    let is : parser_of pass.1 ≡ Unsigned low high = ap parser_of_value (s.parser (Unsigned low high) parser) in
+    let is : parser_of pass.1 ≡ Unsigned low high = ap parser_of_value
+    (s.parser (Unsigned low high) parser) in
     subst (λ (q : ValueParser). Accepts pass.1.ignore_case q t) is pass.4.1

@@ -1,1 +1,2 @@
 pub mod AppendsLemmas
+pub mod KeepsLemmas

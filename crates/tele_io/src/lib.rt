@@ -24,7 +24,7 @@ pub use whole::write_whole;
 mod tests {
     use super::*;
     use std::fs::File;
-    use std::io::Cursor;
+    use std::io::{Cursor, Error, ErrorKind, Read, Result as IoResult, Write};
     use std::test::Fail;
 
     #[test]
@@ -122,5 +122,60 @@ mod tests {
         let mut sink = WriteSink::new(File::open(&rt, ".")?);
         assert_eq!(rt; sink.write(b"abc"), Err(SinkFault::Failed));
         Ok(())
+    }
+
+    /// What signals interrupt so many times; then a read gives the byte `x`, and a write takes one.
+    #[derive(Drop)]
+    struct Interrupted {
+        times: u8,
+    }
+
+    impl Interrupted {
+        fn is_next(&mut self) -> bool {
+            let is_next = 0 < self.times;
+            self.times = self.times.saturating_sub(1);
+            is_next
+        }
+    }
+
+    impl Read for Interrupted {
+        fn read(&mut self, buf: &mut [u8]) -> IoResult<usize> {
+            if self.is_next() {
+                return Err(Error::from(ErrorKind::Interrupted));
+            }
+            match buf.first_mut() {
+                Some(byte) => *byte = b'x',
+                None => return Ok(0),
+            }
+            Ok(1)
+        }
+    }
+
+    impl Write for Interrupted {
+        fn write(&mut self, buf: &[u8]) -> IoResult<usize> {
+            if self.is_next() {
+                return Err(Error::from(ErrorKind::Interrupted));
+            }
+            Ok(buf.len().min(1))
+        }
+
+        fn flush(&mut self) -> IoResult<()> {
+            Ok(())
+        }
+    }
+
+    #[test]
+    fn an_interrupted_read_is_made_again(rt: HostRuntime) {
+        let mut source = ReadSource::new(Interrupted { times: 3 });
+        let mut buf = [b'-'; 2];
+        assert_eq!(rt; source.read(&mut buf), Ok(1));
+        assert_eq!(rt; &buf, b"x-");
+    }
+
+    #[test]
+    fn an_interrupted_write_is_made_again(rt: HostRuntime) {
+        let mut sink = WriteSink::new(Interrupted { times: 3 });
+        assert_eq!(rt; sink.write(b"ab"), Ok(1));
+        assert_eq!(rt; write_whole(&mut sink, b"abc"), Ok(()));
     }
 }

@@ -5,10 +5,10 @@ ghost use Rattle.tele_io.specs.Streams.{reader_of, read_faults, writer_of, write
 
 use super::sinks::{Sink, SinkFault};
 use super::sources::{Failed, Source};
-use std::io::{Read, Write};
+use std::io::{ErrorKind, Read, Write};
 
-/// Gives what a reader gives. Each `Err` of the reader is a fault, that of an interrupted read too,
-/// and none is tried again.
+/// Gives what a reader gives. A read that a signal interrupts is made again, as std's own loops do;
+/// each other `Err` of the reader is a fault, and none of these is tried again.
 ///
 /// It tells the bytes that the reader tells: those over memory, and none over a file or a pipe.
 #[derive(Drop)]
@@ -47,18 +47,41 @@ impl<R: Read> Source for ReadSource<R> {
         ensures faults { read_faults self.new
             ≡ (if is_err result then raised (read_faults self.old) else read_faults self.old) }
     {
-        match self.reader.read(buf) {
-            Ok(n) => Ok(n),
-            Err(_) => {
-                self.faults = self.faults.saturating_add(1);
-                Err(Failed)
-            }
+        let given = read_on(&mut self.reader, buf);
+        if given.is_err() {
+            self.faults = self.faults.saturating_add(1);
         }
+        given
     }
 }
 
-/// Hands bytes on to a writer. Each `Err` of the writer is a fault, and so is a write that takes
-/// no byte. None is tried again.
+// One read, made again where a signal interrupts it.
+#[tactic(auto, using(crate::proofs::KeepsLemmas::keeps_keeps, crate::proofs::KeepsLemmas::keeps_gives))]
+fn read_on<R: Read>(reader: &mut R, buf: &mut [u8]) -> Result<usize, Failed>
+    requires { 0 < length buf.old }
+
+    ensures within { IfOk result (λ n. n ≤ length buf.new) }
+    ensures given { IfOk result
+        (λ n. Gives (R.remaining reader.old) (R.remaining reader.new) n buf.new) }
+
+    ensures kept { OnErr result (Keeps (R.remaining reader.old) (R.remaining reader.new)) }
+{
+    for _ in 0..u64::MAX {
+        match reader.read(buf) {
+            Ok(n) => return Ok(n),
+            Err(e) => {
+                if e.kind() != ErrorKind::Interrupted {
+                    return Err(Failed);
+                }
+            }
+        }
+    }
+    Err(Failed)
+}
+
+/// Hands bytes on to a writer. A write that a signal interrupts is made again, as std's own loops
+/// do; each other `Err` of the writer is a fault, and so is a write that takes no byte. None of
+/// these is tried again.
 ///
 /// It tells the bytes that the writer tells: those over memory, and none over a file or a pipe.
 /// It keeps no byte back and flushes nothing: std's standard output has no buffer, and who hands
@@ -100,12 +123,36 @@ impl<W: Write> Sink for WriteSink<W> {
             ≡ (if is_err result then raised (write_faults self.old) else write_faults self.old) }
         ensures only_failed { IfErr result (λ fault. fault ≡ SinkFault.Failed) }
     {
-        match self.writer.write(bytes) {
-            Ok(n) if 0 < n => Ok(n),
-            _ => {
-                self.faults = self.faults.saturating_add(1);
-                Err(SinkFault::Failed)
+        let taken = write_on(&mut self.writer, bytes);
+        if taken.is_err() {
+            self.faults = self.faults.saturating_add(1);
+        }
+        taken
+    }
+}
+
+// One write, made again where a signal interrupts it.
+#[tactic(auto, using(crate::proofs::KeepsLemmas::keeps_keeps, crate::proofs::KeepsLemmas::keeps_appends))]
+fn write_on<W: Write>(writer: &mut W, bytes: &[u8]) -> Result<usize, SinkFault>
+    requires { 0 < length bytes.now }
+
+    ensures some { IfOk result (λ n. (0 < n) × (n ≤ length bytes.now)) }
+    ensures taken { IfOk result
+        (λ n. Appends (W.contents writer.old) (W.contents writer.new) (take n bytes.now)) }
+
+    ensures kept { OnErr result (Keeps (W.contents writer.old) (W.contents writer.new)) }
+    ensures only_failed { IfErr result (λ fault. fault ≡ SinkFault.Failed) }
+{
+    for _ in 0..u64::MAX {
+        match writer.write(bytes) {
+            Ok(n) if 0 < n => return Ok(n),
+            Ok(_) => return Err(SinkFault::Failed),
+            Err(e) => {
+                if e.kind() != ErrorKind::Interrupted {
+                    return Err(SinkFault::Failed);
+                }
             }
         }
     }
+    Err(SinkFault::Failed)
 }

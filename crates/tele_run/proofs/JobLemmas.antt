@@ -12,20 +12,26 @@ abbrev job_by : Bool → Options → Job
 job_by refused options = if refused then Refuse else job_for options.generate options.seed
 
 -- the job of words that are taken
-taken : (words : List (List ℕ)) (options : Options) → are_refused words ≡ false → options ≡ options_in words
+taken : (words : List (List ℕ)) (options : Options) → are_refused words ≡ false → options ≡
+    options_in words
     → job_for options.generate options.seed ≡ job_of words
 unfolding job_of
-taken words options is same = ap (job_by false) same ∙ ap (λ b. job_by b (options_in words)) (sym is)
+taken words options is same = ap (job_by false) same ∙ ap (λ b. job_by b (options_in words))
+    (sym is)
 
 -- to make lines
-pub makes : (words : List (List ℕ)) (options : Options) (count : ℕ) → are_refused words ≡ false → options ≡ options_in words
+pub makes : (words : List (List ℕ)) (options : Options) (count : ℕ) → are_refused words ≡ false →
+    options ≡ options_in words
     → options.generate ≡ Some count → Make count options.seed ≡ job_of words
-makes words options count is same some = sym (ap (λ g. job_for g options.seed) some) ∙ taken words options is same
+makes words options count is same some = sym (ap (λ g. job_for g options.seed) some) ∙ taken words
+    options is same
 
 -- to read lines
-pub reads : (words : List (List ℕ)) (options : Options) → are_refused words ≡ false → options ≡ options_in words
+pub reads : (words : List (List ℕ)) (options : Options) → are_refused words ≡ false → options ≡
+    options_in words
     → options.generate ≡ None → Read ≡ job_of words
-reads words options is same none = sym (ap (λ g. job_for g options.seed) none) ∙ taken words options is same
+reads words options is same none = sym (ap (λ g. job_for g options.seed) none) ∙ taken words options
+    is same
 
 -- to name words that are refused
 pub refuses : (words : List (List ℕ)) → are_refused words ≡ true → Refuse ≡ job_of words

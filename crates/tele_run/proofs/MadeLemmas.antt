@@ -23,34 +23,44 @@ replay-append m [] ys = refl
 replay-append m (x ∷ xs) ys = replay-append (map_after m x) xs ys
 
 -- the replies to them
-replies-append : (m : Map) (xs ys : List Command) → replies m (xs ++ ys) ≡ replies m xs ++ replies (replay m xs) ys
+replies-append : (m : Map) (xs ys : List Command) → replies m (xs ++ ys) ≡ replies m xs ++ replies
+    (replay m xs) ys
 replies-append m [] ys = refl
 replies-append m (x ∷ xs) ys = ap (λ rs. reply_to m x ∷ rs) (replies-append (map_after m x) xs ys)
 
-values-append : (m : Map) (xs ys : List Command) → values_in m (xs ++ ys) ≡ values_in m xs + values_in (replay m xs) ys
+values-append : (m : Map) (xs ys : List Command) → values_in m (xs ++ ys) ≡ values_in m xs +
+    values_in (replay m xs) ys
 values-append m xs ys =
     ap (count_by is_some) (replies-append m xs ys)
     ∙ sum_by-append (λ r. if is_some r then 1 else 0) (replies m xs) (replies (replay m xs) ys)
 
--- with the lines that are open, and those that are left to be made, the values found and the map are those of all lines
-pub record HasMade (all : List Command) (m : Map) (tasks : List Task) (rest : List Command) (found : ℕ) : Type 0 where
+-- with the lines that are open, and those that are left to be made, the values found and the map
+-- are those of all lines
+pub record HasMade (all : List Command) (m : Map) (tasks : List Task) (rest : List Command)
+    (found : ℕ) : Type 0 where
   pub values : found + values_in m (commands_of tasks ++ rest) ≡ values_in no_pairs all
   pub behind : replay m (commands_of tasks ++ rest) ≡ replay no_pairs all
 
 -- before the first line
-pub none_made : (all : List Command) (m : Map) (tasks : List Task) → m ≡ no_pairs → tasks ≡ [] → HasMade all m tasks all 0
+pub none_made : (all : List Command) (m : Map) (tasks : List Task) → m ≡ no_pairs → tasks ≡ [] →
+    HasMade all m tasks all 0
 none_made all m tasks is none = record {
   values = zero-add (values_in m (commands_of tasks ++ all))
-      ∙ ap (λ n. values_in n (commands_of tasks ++ all)) is ∙ ap (λ ts. values_in no_pairs (commands_of ts ++ all)) none;
-  behind = ap (λ n. replay n (commands_of tasks ++ all)) is ∙ ap (λ ts. replay no_pairs (commands_of ts ++ all)) none;
+      ∙ ap (λ n. values_in n (commands_of tasks ++ all)) is ∙ ap
+      (λ ts. values_in no_pairs (commands_of ts ++ all)) none;
+  behind = ap (λ n. replay n (commands_of tasks ++ all)) is ∙ ap
+      (λ ts. replay no_pairs (commands_of ts ++ all)) none;
 }
 
 -- one more line is open
-pub one_made : (all : List Command) (m : Map) (tasks now : List Task) (task : Task) (rest others : List Command) (found : ℕ)
-    → rest ≡ task.command ∷ others → now ≡ tasks ++ task ∷ [] → HasMade all m tasks rest found → HasMade all m now others found
+pub one_made : (all : List Command) (m : Map) (tasks now : List Task) (task : Task)
+    (rest others : List Command) (found : ℕ)
+    → rest ≡ task.command ∷ others → now ≡ tasks ++ task ∷ [] → HasMade all m tasks rest found →
+    HasMade all m now others found
 one_made all m tasks now task rest others found is more h =
     let same : commands_of now ++ others ≡ commands_of tasks ++ rest =
-    ap (λ ts. commands_of ts ++ others) more ∙ ap (λ cs. cs ++ others) (map-append (λ t. t.command) tasks (task ∷ []))
+    ap (λ ts. commands_of ts ++ others) more ∙ ap (λ cs. cs ++ others)
+    (map-append (λ t. t.command) tasks (task ∷ []))
     ∙ append_assoc {A = Command} (commands_of tasks) (task.command ∷ []) others
     ∙ ap (λ cs. commands_of tasks ++ cs) (sym is) in
     record {
@@ -59,8 +69,10 @@ one_made all m tasks now task rest others found is more h =
     }
 
 -- the open lines were answered
-pub round_made : (all : List Command) (m n : Map) (tasks left : List Task) (rest : List Command) (found more later : ℕ)
-    → more ≡ values_in m (commands_of tasks) → n ≡ replay m (commands_of tasks) → left ≡ [] → later ≡ found + more
+pub round_made : (all : List Command) (m n : Map) (tasks left : List Task) (rest : List Command)
+    (found more later : ℕ)
+    → more ≡ values_in m (commands_of tasks) → n ≡ replay m (commands_of tasks) → left ≡ [] → later
+    ≡ found + more
     → HasMade all m tasks rest found → HasMade all n left rest later
 round_made all m n tasks left rest found more later counts is none sum h =
     let after = values_in (replay m (commands_of tasks)) rest in
@@ -74,14 +86,16 @@ round_made all m n tasks left rest found more later counts is none sum h =
     }
 
 -- all lines were made and answered
-pub all_found : (all : List Command) (m : Map) (tasks : List Task) (rest : List Command) (found : ℕ) → tasks ≡ [] → rest ≡ []
+pub all_found : (all : List Command) (m : Map) (tasks : List Task) (rest : List Command) (found : ℕ)
+    → tasks ≡ [] → rest ≡ []
     → HasMade all m tasks rest found → found ≡ values_in no_pairs all
 all_found all m tasks rest found none last h =
     let nothing : values_in m (commands_of tasks ++ rest) ≡ 0 =
     ap (λ ts. values_in m (commands_of ts ++ rest)) none ∙ ap (values_in m) last in
     omega (arith, nothing, h.values)
 
-pub all_behind : (all : List Command) (m : Map) (tasks : List Task) (rest : List Command) (found : ℕ) → tasks ≡ [] → rest ≡ []
+pub all_behind : (all : List Command) (m : Map) (tasks : List Task) (rest : List Command)
+    (found : ℕ) → tasks ≡ [] → rest ≡ []
     → HasMade all m tasks rest found → m ≡ replay no_pairs all
 all_behind all m tasks rest found none last h =
     sym (ap (λ ts. replay m (commands_of ts ++ rest)) none ∙ ap (replay m) last) ∙ h.behind
@@ -94,13 +108,16 @@ next_made count line number lt =
     let e : count - line ≡ suc (count - (line + 1)) = omega arith in
     ap (λ n. made_commands n number) e
 
--- at a moment between two made lines: what was found and what is left are what all lines find, and no more was found than made
+-- at a moment between two made lines: what was found and what is left are what all lines find, and
+-- no more was found than made
 pub record Sums (count seed line number found : ℕ) (now : Open) : Type 0 where
-  pub made : HasMade (made_commands count seed) (map_in now) now.tasks (made_commands (count - line) number) found
+  pub made : HasMade (made_commands count seed) (map_in now) now.tasks
+      (made_commands (count - line) number) found
   pub few : found + length now.tasks ≤ line
 
 -- before the first line
-pub sums_first : (count seed number : ℕ) (now : Open) → number ≡ seed → now ≡ record { pairs = []; tasks = []; answers = [] }
+pub sums_first : (count seed number : ℕ) (now : Open) → number ≡ seed → now ≡ record
+    { pairs = []; tasks = []; answers = [] }
     → Sums count seed 0 number 0 now
 sums_first count seed number now is empty =
     subst (λ n. Sums count seed 0 n 0 now) (sym is)
@@ -113,7 +130,8 @@ sums_first count seed number now is empty =
     }))
 
 -- one more line is open
-pub sums_asked : (count seed line number next found : ℕ) (before now : Open) (task : Task) → line < count
+pub sums_asked : (count seed line number next found : ℕ) (before now : Open) (task : Task) → line <
+    count
     → task.command ≡ made_command (next_number number) → next ≡ next_number number
     → now.tasks ≡ before.tasks ++ task ∷ [] → now.pairs ≡ before.pairs
     → Sums count seed line number found before → Sums count seed (line + 1) next found now
@@ -123,9 +141,11 @@ sums_asked count seed line number next found before now task lt command is more 
     next_made count line number lt ∙ ap (λ c. c ∷ rest) (sym command) in
     let m : map_in before ≡ map_in now = ap map_of (sym same) in
     record {
-      made = subst (λ n. HasMade (made_commands count seed) (map_in now) now.tasks (made_commands (count - (line + 1)) n) found) (sym is)
+      made = subst (λ n. HasMade (made_commands count seed) (map_in now) now.tasks
+          (made_commands (count - (line + 1)) n) found) (sym is)
           (subst (λ m. HasMade (made_commands count seed) m now.tasks rest found) m
-          (one_made (made_commands count seed) (map_in before) before.tasks now.tasks task (made_commands (count - line) number) rest
+          (one_made (made_commands count seed) (map_in before) before.tasks now.tasks task
+          (made_commands (count - line) number) rest
           found left more h.made));
       few = omega (arith, h.few, ap length more, length-append before.tasks (task ∷ []));
     }
@@ -133,7 +153,8 @@ sums_asked count seed line number next found before now task lt command is more 
 -- the open lines were answered
 pub sums_closed : (count seed line number found more later : ℕ) (before now : Open)
     → more ≡ values_in (map_in before) (commands_of before.tasks) → more ≤ length before.tasks
-    → map_in now ≡ replay (map_in before) (commands_of before.tasks) → now.tasks ≡ [] → later ≡ found + more
+    → map_in now ≡ replay (map_in before) (commands_of before.tasks) → now.tasks ≡ [] → later ≡
+    found + more
     → Sums count seed line number found before → Sums count seed line number later now
 sums_closed count seed line number found more later before now counts few is none sum h = record {
   made = round_made (made_commands count seed) (map_in before) (map_in now) before.tasks now.tasks
@@ -142,21 +163,36 @@ sums_closed count seed line number found more later before now counts few is non
 }
 
 -- all lines were made and answered
-pub sums_last : (count seed line number found : ℕ) (now : Open) → count ≤ line → now.tasks ≡ [] → Sums count seed line number found now
-    → (found ≡ values_in no_pairs (made_commands count seed)) × (map_in now ≡ replay no_pairs (made_commands count seed))
+pub sums_last : (count seed line number found : ℕ) (now : Open) → count ≤ line → now.tasks ≡ [] →
+    Sums count seed line number found now
+    → (found ≡ values_in no_pairs (made_commands count seed)) ×
+    (map_in now ≡ replay no_pairs (made_commands count seed))
 sums_last count seed line number found now le none h =
-    let nothing : made_commands (count - line) number ≡ [] = let e : count - line ≡ 0 = omega arith in ap (λ n. made_commands n number) e in (
-      all_found (made_commands count seed) (map_in now) now.tasks (made_commands (count - line) number) found none nothing h.made,
-      all_behind (made_commands count seed) (map_in now) now.tasks (made_commands (count - line) number) found none nothing h.made,
+    let nothing : made_commands (count - line) number ≡ [] = let e : count - line ≡ 0 = omega arith
+    in ap (λ n. made_commands n number) e in (
+      all_found (made_commands count seed) (map_in now) now.tasks
+          (made_commands (count - line) number) found none nothing h.made,
+      all_behind (made_commands count seed) (map_in now) now.tasks
+          (made_commands (count - line) number) found none nothing h.made,
     )
 
 -- the summary by the map behind all lines, and by how many values were found
-pub summary_is : (count seed keys found sum : ℕ) (m : Map) → m ≡ replay no_pairs (made_commands count seed)
-    → keys ≡ length (pairs_of m) → found ≡ values_in no_pairs (made_commands count seed) → sum ≡ value_sum (pairs_of m)
-    → ◌≡◌ {A = Summary} (record { made = count; keys = keys; found = found; sum = sum }) (summary_of count seed)
+pub summary_is : (count seed keys found sum : ℕ) (m : Map) → m ≡ replay no_pairs
+    (made_commands count seed)
+    → keys ≡ length (pairs_of m) → found ≡ values_in no_pairs (made_commands count seed) → sum ≡
+    value_sum (pairs_of m)
+    → ◌≡◌ {A = Summary} (record { made = count; keys = keys; found = found; sum = sum })
+    (summary_of count seed)
 summary_is count seed keys found sum m is keys_is found_is sum_is =
-    ap (λ n. record { made = count; keys = n; found = found; sum = sum }) (keys_is ∙ ap (λ n. length (pairs_of n)) is)
-    ∙ ap (λ n. record { made = count; keys = length (pairs_of (replay no_pairs (made_commands count seed))); found = n; sum = sum })
+    ap (λ n. record { made = count; keys = n; found = found; sum = sum })
+    (keys_is ∙ ap (λ n. length (pairs_of n)) is)
+    ∙ ap (λ n. record {
+      made = count;
+      keys = length
+          (pairs_of (replay no_pairs (made_commands count seed)));
+      found = n;
+      sum = sum;
+    })
     found_is
     ∙ ap (λ n. record {
       made = count;

@@ -19,18 +19,22 @@ line_of version task = Good task.line version (Point task.command)
 
 -- what stands behind a line, by whether a cut is made there
 abbrev behind_line : Read → ℕ → List Read → Bool → List (List Read)
-behind_line line n others cut = if cut then (line ∷ []) ∷ rounds_from 0 others else onto_first line (rounds_from (n + 1) others)
+behind_line line n others cut = if cut then (line ∷ []) ∷ rounds_from 0 others else onto_first line
+    (rounds_from (n + 1) others)
 
 -- as many point lines as a round has at most are one round
 cut_full : (version : Version) (n : ℕ) (task : Task) (tasks : List Task) (more : List Read)
     → n + length (task ∷ tasks) ≡ round_limit
-    → rounds_from n (asked version (task ∷ tasks) ++ more) ≡ asked version (task ∷ tasks) ∷ rounds more
+    → rounds_from n (asked version (task ∷ tasks) ++ more) ≡ asked version (task ∷ tasks) ∷ rounds
+    more
 cut_full version n task [] more full =
-    ap (behind_line (line_of version task) n more) (eq-eqb (n + 1) round_limit (omega (arith, full)))
+    ap (behind_line (line_of version task) n more)
+    (eq-eqb (n + 1) round_limit (omega (arith, full)))
 cut_full version n task (next ∷ tasks) more full =
     ap (behind_line (line_of version task) n (asked version (next ∷ tasks) ++ more))
     (ne_eqb (n + 1) round_limit (λ e. omega (arith, full, e)))
-    ∙ ap (onto_first (line_of version task)) (cut_full version (n + 1) next tasks more (omega (arith, full)))
+    ∙ ap (onto_first (line_of version task))
+    (cut_full version (n + 1) next tasks more (omega (arith, full)))
 
 -- fewer point lines, and an interval line behind them, are one round
 cut_interval : (version : Version) (n number first last : ℕ) (tasks : List Task) (more : List Read)
@@ -39,34 +43,45 @@ cut_interval : (version : Version) (n number first last : ℕ) (tasks : List Tas
     ≡ (asked version tasks ++ Good number version (Interval first last) ∷ []) ∷ rounds more
 cut_interval version n number first last [] more few = refl
 cut_interval version n number first last (task ∷ tasks) more few =
-    ap (behind_line (line_of version task) n (asked version tasks ++ Good number version (Interval first last) ∷ more))
+    ap (behind_line (line_of version task) n
+    (asked version tasks ++ Good number version (Interval first last) ∷ more))
     (ne_eqb (n + 1) round_limit (λ e. omega (arith, few, e)))
-    ∙ ap (onto_first (line_of version task)) (cut_interval version (n + 1) number first last tasks more (omega (arith, few)))
+    ∙ ap (onto_first (line_of version task))
+    (cut_interval version (n + 1) number first last tasks more (omega (arith, few)))
 
 -- fewer point lines are one round, if they are any
-cut_open : (version : Version) (n : ℕ) (task : Task) (tasks : List Task) → n + length (task ∷ tasks) < round_limit
+cut_open : (version : Version) (n : ℕ) (task : Task) (tasks : List Task) → n + length (task ∷ tasks)
+    < round_limit
     → rounds_from n (asked version (task ∷ tasks)) ≡ asked version (task ∷ tasks) ∷ []
 cut_open version n task [] few =
-    ap (behind_line (line_of version task) n []) (ne_eqb (n + 1) round_limit (λ e. omega (arith, few, e)))
+    ap (behind_line (line_of version task) n [])
+    (ne_eqb (n + 1) round_limit (λ e. omega (arith, few, e)))
 cut_open version n task (next ∷ tasks) few =
-    ap (behind_line (line_of version task) n (asked version (next ∷ tasks))) (ne_eqb (n + 1) round_limit (λ e. omega (arith, few, e)))
-    ∙ ap (onto_first (line_of version task)) (cut_open version (n + 1) next tasks (omega (arith, few)))
+    ap (behind_line (line_of version task) n (asked version (next ∷ tasks)))
+    (ne_eqb (n + 1) round_limit (λ e. omega (arith, few, e)))
+    ∙ ap (onto_first (line_of version task))
+    (cut_open version (n + 1) next tasks (omega (arith, few)))
 
 -- tasks are point lines
-all_points : (version : Version) (tasks : List Task) → count_by is_point (asked version tasks) ≡ length tasks
+all_points : (version : Version) (tasks : List Task) → count_by is_point (asked version tasks) ≡
+    length tasks
 all_points version [] = refl
 all_points version (task ∷ tasks) =
-    sum_by-cons (λ line. if is_point line then 1 else 0) (line_of version task) (asked version tasks) ∙ omega (arith, all_points version tasks)
+    sum_by-cons (λ line. if is_point line then 1 else 0) (line_of version task)
+    (asked version tasks) ∙ omega (arith, all_points version tasks)
 
 -- and no interval lines
-no_interval : (version : Version) (tasks : List Task) → list_any is_interval (asked version tasks) ≡ false
+no_interval : (version : Version) (tasks : List Task) → list_any is_interval (asked version tasks) ≡
+    false
 no_interval version [] = refl
 no_interval version (task ∷ tasks) = no_interval version tasks
 
 -- whether a round of point lines is whole is told by how many they are
-whole_by_count : (version : Version) (tasks : List Task) → is_whole (asked version tasks) ≡ eqb (length tasks) round_limit
+whole_by_count : (version : Version) (tasks : List Task) → is_whole (asked version tasks) ≡ eqb
+    (length tasks) round_limit
 whole_by_count version tasks =
-    ap (λ b. b || eqb (count_by is_point (asked version tasks)) round_limit) (no_interval version tasks)
+    ap (λ b. b || eqb (count_by is_point (asked version tasks)) round_limit)
+    (no_interval version tasks)
     ∙ ap (λ n. eqb n round_limit) (all_points version tasks)
 
 -- a round with an interval line is whole
@@ -75,18 +90,22 @@ whole_by_interval : (version : Version) (number first last : ℕ) (tasks : List 
 whole_by_interval version number first last tasks =
     let round = asked version tasks ++ Good number version (Interval first last) ∷ [] in
     ap (λ b. b || eqb (count_by is_point round) round_limit)
-    (list_any-append is_interval (asked version tasks) (Good number version (Interval first last) ∷ [])
+    (list_any-append is_interval (asked version tasks)
+    (Good number version (Interval first last) ∷ [])
     ∙ or-true (list_any is_interval (asked version tasks)))
 
 -- the lines of a first whole round, and of the rounds behind it
-whole_first : (lines round more : List Read) → rounds lines ≡ round ∷ rounds more → is_whole round ≡ true
+whole_first : (lines round more : List Read) → rounds lines ≡ round ∷ rounds more → is_whole round ≡
+    true
     → in_whole_rounds lines ≡ round ++ in_whole_rounds more
 whole_first lines round more cut whole =
     ap (λ rs. flat_map (λ r. r) (filter is_whole rs)) cut
-    ∙ ap (λ b. flat_map (λ r. r) (if b then round ∷ filter is_whole (rounds more) else filter is_whole (rounds more))) whole
+    ∙ ap (λ b. flat_map (λ r. r) (if b then round ∷ filter is_whole (rounds more) else filter
+    is_whole (rounds more))) whole
 
 -- a full round stands before the rounds of the lines behind it
-pub in_whole-full : (version : Version) (tasks : List Task) (more : List Read) → length tasks ≡ round_limit
+pub in_whole-full : (version : Version) (tasks : List Task) (more : List Read) → length tasks ≡
+    round_limit
     → in_whole_rounds (asked version tasks ++ more) ≡ asked version tasks ++ in_whole_rounds more
 in_whole-full version [] more full = absurd (omega (arith, full))
 in_whole-full version (task ∷ tasks) more full =
@@ -95,10 +114,12 @@ in_whole-full version (task ∷ tasks) more full =
     (whole_by_count version (task ∷ tasks) ∙ eq-eqb _ round_limit full)
 
 -- so does a round that an interval line ends
-pub in_whole-interval : (version : Version) (number first last : ℕ) (tasks : List Task) (more : List Read)
+pub in_whole-interval : (version : Version) (number first last : ℕ) (tasks : List Task)
+    (more : List Read)
     → length tasks < round_limit
     → in_whole_rounds (asked version tasks ++ Good number version (Interval first last) ∷ more)
-    ≡ (asked version tasks ++ Good number version (Interval first last) ∷ []) ++ in_whole_rounds more
+    ≡ (asked version tasks ++ Good number version (Interval first last) ∷ []) ++ in_whole_rounds
+    more
 in_whole-interval version number first last tasks more few =
     whole_first (asked version tasks ++ Good number version (Interval first last) ∷ more)
     (asked version tasks ++ Good number version (Interval first last) ∷ []) more
@@ -111,6 +132,7 @@ pub in_whole-open : (version : Version) (tasks : List Task) → length tasks < r
 in_whole-open version [] few = refl
 in_whole-open version (task ∷ tasks) few =
     let round = asked version (task ∷ tasks) in
-    ap (λ rs. flat_map (λ r. r) (filter is_whole rs)) (cut_open version 0 task tasks (omega (arith, few)))
+    ap (λ rs. flat_map (λ r. r) (filter is_whole rs))
+    (cut_open version 0 task tasks (omega (arith, few)))
     ∙ ap (λ b. flat_map (λ r. r) (if b then round ∷ [] else []))
     (whole_by_count version (task ∷ tasks) ∙ ne_eqb _ round_limit (λ e. omega (arith, few, e)))

@@ -17,7 +17,8 @@ use Rattle.tele_run.proofs.RoundLemmas.{in_whole-full, in_whole-interval}
 use Rattle.tele_run.proofs.AnswerLemmas.{text-asked, status-asked}
 
 -- lines that stay open
-pub stay_open : (m : Map) (lines : List Read) (before : Option (List ℕ)) → Takes m lines before before m lines
+pub stay_open : (m : Map) (lines : List Read) (before : Option (List ℕ)) → Takes m lines before
+    before m lines
 stay_open m lines before = record {
   printed = [];
   writes = Appends-nothing before;
@@ -27,7 +28,8 @@ stay_open m lines before = record {
 }
 
 -- a full round was answered
-pub answered_full : (version : Version) (m : Map) (tasks : List Task) (before written : Option (List ℕ))
+pub answered_full : (version : Version) (m : Map) (tasks : List Task)
+    (before written : Option (List ℕ))
     → length tasks ≡ round_limit → Appends before written (text_of m (asked version tasks))
     → Takes m (asked version tasks) before written (replay m (commands_of tasks)) []
 answered_full version m tasks before written full writes = record {
@@ -35,13 +37,16 @@ answered_full version m tasks before written full writes = record {
   writes = writes;
   text = text-asked version m tasks;
   status = status-asked version tasks;
-  whole = λ more. ap (text_of m) (in_whole-full version tasks more full) ∙ text-asked version m tasks (in_whole_rounds more);
+  whole = λ more. ap (text_of m) (in_whole-full version tasks more full) ∙ text-asked version m
+      tasks (in_whole_rounds more);
 }
 
 -- a round was answered, and the interval line that ends it
-pub answered_interval : (version : Version) (number first last : ℕ) (m : Map) (tasks : List Task) (before mid written : Option (List ℕ))
+pub answered_interval : (version : Version) (number first last : ℕ) (m : Map) (tasks : List Task)
+    (before mid written : Option (List ℕ))
     → length tasks < round_limit → Appends before mid (text_of m (asked version tasks))
-    → Appends mid written (interval_text version number (listed first last (replay m (commands_of tasks))))
+    → Appends mid written (interval_text version number
+    (listed first last (replay m (commands_of tasks))))
     → Takes m (asked version tasks ++ Good number version (Interval first last) ∷ []) before written
     (replay m (commands_of tasks)) []
 answered_interval version number first last m tasks before mid written few writes more_writes =
@@ -49,7 +54,8 @@ answered_interval version number first last m tasks before mid written few write
     let next = replay m (commands_of tasks) in
     let points = text_of m (asked version tasks) in
     let list = interval_text version number (listed first last next) in
-    let text : (more : List Read) → text_of m ((asked version tasks ++ line ∷ []) ++ more) ≡ (points ++ list) ++ text_of next more =
+    let text : (more : List Read) → text_of m ((asked version tasks ++ line ∷ []) ++ more) ≡
+    (points ++ list) ++ text_of next more =
     λ more. ap (text_of m) (append_assoc {A = Read} (asked version tasks) (line ∷ []) more)
     ∙ text-asked version m tasks (line ∷ more)
     ∙ sym (append_assoc {A = ℕ} points list (text_of next more)) in
@@ -59,7 +65,8 @@ answered_interval version number first last m tasks before mid written few write
       text = text;
       status = λ more. ap status_of (append_assoc {A = Read} (asked version tasks) (line ∷ []) more)
           ∙ status-asked version tasks (line ∷ more);
-      whole = λ more. ap (whole_text m) (append_assoc {A = Read} (asked version tasks) (line ∷ []) more)
+      whole = λ more. ap (whole_text m)
+          (append_assoc {A = Read} (asked version tasks) (line ∷ []) more)
           ∙ ap (text_of m) (in_whole-interval version number first last tasks more few)
           ∙ text (in_whole_rounds more);
     }
@@ -71,8 +78,10 @@ asked-more version old new task is =
     ap (asked version) is ∙ map-append (λ t. Good t.line version (Point t.command)) old (task ∷ [])
 
 -- what was taken in, as other lines that are the same
-pub takes_same : (m n : Map) (lines same : List Read) (before written : Option (List ℕ)) (next others : List Read)
+pub takes_same : (m n : Map) (lines same : List Read) (before written : Option (List ℕ))
+    (next others : List Read)
     → lines ≡ same → next ≡ others
     → Takes m lines before written n next → Takes m same before written n others
 takes_same m n lines same before written next others is is_too h =
-    subst (λ ls. Takes m ls before written n others) is (subst (λ ls. Takes m lines before written n ls) is_too h)
+    subst (λ ls. Takes m ls before written n others) is
+    (subst (λ ls. Takes m lines before written n ls) is_too h)

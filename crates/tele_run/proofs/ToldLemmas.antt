@@ -1,4 +1,5 @@
--- The steps of a run where the source may tell nothing of its bytes. Serves the steps and the loop over them.
+-- The steps of a run where the source may tell nothing of its bytes. Serves the steps and the loop
+-- over them.
 use Rattle.std.proofs.Common.{◌≡◌, ℕ, ◌<◌, List, [], ◌++◌, Bool, true, false, refl, sym, ◌∙◌, ap, subst, append_assoc, append-nil, length}
 use Rattle.std.specs.Prelude.{Option, Some, None, IfSome, option_map, if◌then◌else◌}
 use Rattle.ist_core.specs.Map.{no_pairs}
@@ -30,13 +31,15 @@ abbrev pub no_round : Open
 no_round = record { pairs = []; tasks = []; answers = [] }
 
 -- a fresh reader and such a round are there
-pub at_first : (lines : Lines) (round : Open) → place_of lines ≡ first_moment.place → round ≡ no_round
+pub at_first : (lines : Lines) (round : Open) → place_of lines ≡ first_moment.place → round ≡
+    no_round
     → moment_of lines round ≡ first_moment
 at_first lines round place empty =
     ap (moment_of lines) empty ∙ ap first_at place
 
 -- lines were read and taken into the round
-pub went_on_if : (was now : Moment) (lines given : List Read) (unread : Option (List ℕ)) (ended : Bool)
+pub went_on_if : (was now : Moment) (lines given : List Read) (unread : Option (List ℕ))
+    (ended : Bool)
     (before written left : Option (List ℕ)) → was.lines ≡ lines
     → IfSome unread (λ bytes. GoesTo was.place now.place ended given bytes left)
     → Takes was.m (lines ++ given) before written now.m now.lines
@@ -46,17 +49,20 @@ went_on_if was now lines given (Some bytes) ended before written left is goes ta
     went_on was now lines given bytes ended before written left is goes takes
 
 -- a part of what good lines are answered
-pub part_if : (was : Moment) (next : Place) (lines given : List Read) (unread : Option (List ℕ)) (ended : Bool)
+pub part_if : (was : Moment) (next : Place) (lines given : List Read) (unread : Option (List ℕ))
+    (ended : Bool)
     (before written left : Option (List ℕ)) → was.lines ≡ lines → status_of (lines ++ given) ≡ 0
     → IfSome unread (λ bytes. GoesTo was.place next ended given bytes left)
     → AppendsPart before written (text_of was.m (lines ++ given))
     → IfSome unread (λ bytes. AppendsPart before written (due was bytes).text)
 part_if was next lines given None ended before written left is good goes part = tt
 part_if was next lines given (Some bytes) ended before written left is good goes part =
-    part_of_due was lines given bytes (read_at next (lines_of goes.rest)) before written is goes.reads good part
+    part_of_due was lines given bytes (read_at next (lines_of goes.rest)) before written is
+    goes.reads good part
 
 -- the last lines were answered
-pub ended_if : (was : Moment) (lines last : List Read) (unread : Option (List ℕ)) (ending : ℕ) (before written : Option (List ℕ))
+pub ended_if : (was : Moment) (lines last : List Read) (unread : Option (List ℕ)) (ending : ℕ)
+    (before written : Option (List ℕ))
     → was.lines ≡ lines → ending ≡ status_of (lines ++ last)
     → IfSome unread (λ bytes. read_at was.place (lines_of bytes) ≡ last)
     → Appends before written (text_of was.m (lines ++ last))
@@ -66,7 +72,8 @@ ended_if was lines last (Some bytes) ending before written is status reads write
     ended_so was lines last bytes ending before written is reads status writes
 
 -- or a part of what they are answered
-pub ended_part_if : (was : Moment) (lines last : List Read) (unread before written : Option (List ℕ))
+pub ended_part_if : (was : Moment) (lines last : List Read)
+    (unread before written : Option (List ℕ))
     → was.lines ≡ lines → IfSome unread (λ bytes. read_at was.place (lines_of bytes) ≡ last)
     → AppendsPart before written (text_of was.m (lines ++ last))
     → IfSome unread (λ bytes. AppendsPart before written (due was bytes).text)
@@ -75,7 +82,8 @@ ended_part_if was lines last (Some bytes) before written is reads part =
     ended_part was lines last bytes before written is reads part
 
 all_is_due : (left before : Option (List ℕ))
-    → IfSome left (λ bytes. GoesOn first_moment bytes before before false (unread_of [] false left) first_moment)
+    → IfSome left (λ bytes. GoesOn first_moment bytes before before false (unread_of [] false left)
+    first_moment)
 all_is_due None before = tt
 all_is_due (Some bytes) before = record {
   bytes = bytes;
@@ -93,26 +101,31 @@ all_is_due (Some bytes) before = record {
 -- before the first line all is due
 pub all_due : (left before : Option (List ℕ)) (kept : List ℕ) (ended : Bool) (now : Moment)
     → kept ≡ [] → ended ≡ false → now ≡ first_moment
-    → IfSome left (λ bytes. GoesOn first_moment bytes before before ended (unread_of kept ended left) now)
+    → IfSome left (λ bytes. GoesOn first_moment bytes before before ended
+    (unread_of kept ended left) now)
 all_due left before kept ended now no_bytes going first =
     let P = λ (kept : List ℕ) (ended : Bool) (now : Moment).
-    IfSome left (λ bytes. GoesOn first_moment bytes before before ended (unread_of kept ended left) now) in
+    IfSome left (λ bytes. GoesOn first_moment bytes before before ended (unread_of kept ended left)
+    now) in
     subst (λ n. P kept ended n) (sym first)
     (subst (λ e. P kept e first_moment) (sym going)
     (subst (λ k. P k false first_moment) (sym no_bytes) (all_is_due left before)))
 
 -- one step after another
-pub on_and_on_if : (left : Option (List ℕ)) (mid last : Moment) (before written later : Option (List ℕ))
+pub on_and_on_if : (left : Option (List ℕ)) (mid last : Moment)
+    (before written later : Option (List ℕ))
     (ended now_ended : Bool) (unread now : Option (List ℕ)) → (ended ≡ true → now_ended ≡ true)
     → IfSome left (λ bytes. GoesOn first_moment bytes before written ended unread mid)
     → IfSome unread (λ bytes. GoesOn mid bytes written later now_ended now last)
     → IfSome left (λ bytes. GoesOn first_moment bytes before later now_ended now last)
 on_and_on_if None mid last before written later ended now_ended unread now lasts one two = tt
 on_and_on_if (Some bytes) mid last before written later ended now_ended unread now lasts one two =
-    on_and_on first_moment mid last bytes before written later ended now_ended unread now lasts one two
+    on_and_on first_moment mid last bytes before written later ended now_ended unread now lasts one
+    two
 
 -- and the end
-pub on_and_end_if : (left : Option (List ℕ)) (mid : Moment) (ending : ℕ) (before written later : Option (List ℕ))
+pub on_and_end_if : (left : Option (List ℕ)) (mid : Moment) (ending : ℕ)
+    (before written later : Option (List ℕ))
     (ended : Bool) (unread : Option (List ℕ))
     → IfSome left (λ bytes. GoesOn first_moment bytes before written ended unread mid)
     → IfSome unread (λ bytes. Ends (due mid bytes) written later ending)
@@ -122,7 +135,8 @@ on_and_end_if (Some bytes) mid ending before written later ended unread one two 
     on_and_end first_moment mid ending bytes before written later ended unread one two
 
 -- or a part
-pub on_and_part_if : (left : Option (List ℕ)) (mid : Moment) (before written later : Option (List ℕ))
+pub on_and_part_if : (left : Option (List ℕ)) (mid : Moment)
+    (before written later : Option (List ℕ))
     (ended : Bool) (unread : Option (List ℕ))
     → IfSome left (λ bytes. GoesOn first_moment bytes before written ended unread mid)
     → IfSome unread (λ bytes. AppendsPart written later (due mid bytes).text)
@@ -145,8 +159,10 @@ splits kept bytes false (Some rest) going is = record { rest = rest; leaves = re
 splits kept bytes false None going is = absurd (cc is)
 
 -- a failed read, where the reader has kept bytes without a whole line, and the round is open
-stops_at : (bytes : List ℕ) (before written : Option (List ℕ)) (round : Open) (lines : Lines) (left : Option (List ℕ))
-    → GoesOn first_moment bytes before written lines.ended (unread lines left) (moment_of lines round)
+stops_at : (bytes : List ℕ) (before written : Option (List ℕ)) (round : Open) (lines : Lines)
+    (left : Option (List ℕ))
+    → GoesOn first_moment bytes before written lines.ended (unread lines left)
+    (moment_of lines round)
     → Waits lines → length round.tasks < round_limit → Stops bytes left before written
 stops_at bytes before written round lines left one waits few =
     let split = splits lines.buffer one.bytes lines.ended left waits.open_end one.leaves in
@@ -154,23 +170,30 @@ stops_at bytes before written round lines left one waits few =
     let kept = whole_due first_moment (one.taken ++ lines.buffer) in
     let no_more : open_lines ++ read_at (place_of lines) (whole_lines lines.buffer) ≡ open_lines =
     ap (λ ls. open_lines ++ read_at (place_of lines) ls) waits.no_line ∙ append-nil open_lines in
-    let none : whole_text (map_in round) open_lines ≡ [] = ap (text_of (map_in round)) (in_whole-open (version_of lines) round.tasks few) in
+    let none : whole_text (map_in round) open_lines ≡ [] = ap (text_of (map_in round))
+    (in_whole-open (version_of lines) round.tasks few) in
     let text : kept.text ≡ one.printed =
-    one.whole_text waits.open_end lines.buffer ∙ ap (λ ls. one.printed ++ whole_text (map_in round) ls) no_more
+    one.whole_text waits.open_end lines.buffer ∙ ap
+    (λ ls. one.printed ++ whole_text (map_in round) ls) no_more
     ∙ ap (λ text. one.printed ++ text) none ∙ append-nil one.printed in
     let good : status_of open_lines ≡ 0 =
     ap status_of (sym (append-nil open_lines)) ∙ status-asked (version_of lines) round.tasks [] in
     record {
       taken = one.taken ++ lines.buffer;
       rest = split.rest;
-      same = one.same ∙ ap (λ xs. one.taken ++ xs) split.same ∙ sym (append_assoc {A = ℕ} one.taken lines.buffer split.rest);
+      same = one.same ∙ ap (λ xs. one.taken ++ xs) split.same ∙ sym
+          (append_assoc {A = ℕ} one.taken lines.buffer split.rest);
       leaves = split.leaves;
       writes = subst (Appends before written) (sym text) one.writes;
       good = one.whole_status waits.open_end lines.buffer ∙ ap status_of no_more ∙ good;
     }
 
-pub stops_if : (all before written : Option (List ℕ)) (round : Open) (lines : Lines) (left : Option (List ℕ))
-    → IfSome all (λ bytes. GoesOn first_moment bytes before written lines.ended (unread lines left) (moment_of lines round))
-    → Waits lines → length round.tasks < round_limit → IfSome all (λ bytes. Stops bytes left before written)
+pub stops_if : (all before written : Option (List ℕ)) (round : Open) (lines : Lines)
+    (left : Option (List ℕ))
+    → IfSome all (λ bytes. GoesOn first_moment bytes before written lines.ended (unread lines left)
+    (moment_of lines round))
+    → Waits lines → length round.tasks < round_limit → IfSome all
+    (λ bytes. Stops bytes left before written)
 stops_if None before written round lines left one waits few = tt
-stops_if (Some bytes) before written round lines left one waits few = stops_at bytes before written round lines left one waits few
+stops_if (Some bytes) before written round lines left one waits few = stops_at bytes before written
+    round lines left one waits few

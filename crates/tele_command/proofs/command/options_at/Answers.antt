@@ -10,7 +10,8 @@ use Rattle.tele_command.proofs.command.options_at.Goals as goal
 
 -- options are the same if each of their fields is
 same_options : (a b e : ℕ) (d : Option ℕ) (g h k : ℕ) (i : Option ℕ) → a ≡ g → b ≡ h → d ≡ i → e ≡ k
-    → ◌≡◌ {A = Options} (record { workers = a; words = b; generate = d; seed = e }) (record { workers = g; words = h; generate = i; seed = k })
+    → ◌≡◌ {A = Options} (record { workers = a; words = b; generate = d; seed = e })
+    (record { workers = g; words = h; generate = i; seed = k })
 same_options a b e d g h k i one two three four =
     ap (λ x. record { workers = x; words = b; generate = d; seed = e }) one
     ∙ ap (λ x. record { workers = g; words = x; generate = d; seed = e }) two
@@ -18,14 +19,18 @@ same_options a b e d g h k i one two three four =
     ∙ ap (λ x. record { workers = g; words = h; generate = i; seed = x }) four
 
 -- what was found is what stands in the rows
-in_rows : (f : Found) (name : List ℕ) (o : Option ℕ) → o ≡ option_map number_of (first_value f name) → o ≡ given name (rows_of f)
+in_rows : (f : Found) (name : List ℕ) (o : Option ℕ) → o ≡ option_map number_of (first_value f name)
+    → o ≡ given name (rows_of f)
 in_rows f name o is = is ∙ ap (option_map number_of) (first_value-rows f name)
 
 pub returns-clause-value : goal.returns-clause-value
 returns-clause-value c =
     let f = found_of c.args.matches.now in
     same_options _ _ _ _ _ _ _ _
-    (c.unwrap_or.ensures ∙ ap (λ o. unwrap_or o 4) (in_rows f (codes "workers") _ c.number.ensures.value))
-    (c.unwrap_or-2.ensures ∙ ap (λ o. unwrap_or o 33554432) (in_rows f (codes "words") _ c.number-2.ensures.value))
+    (c.unwrap_or.ensures ∙ ap (λ o. unwrap_or o 4)
+    (in_rows f (codes "workers") _ c.number.ensures.value))
+    (c.unwrap_or-2.ensures ∙ ap (λ o. unwrap_or o 33554432)
+    (in_rows f (codes "words") _ c.number-2.ensures.value))
     (in_rows f (codes "generate") _ c.number-3.ensures.value)
-    (c.unwrap_or-3.ensures ∙ ap (λ o. unwrap_or o 1) (in_rows f (codes "seed") _ c.number-4.ensures.value))
+    (c.unwrap_or-3.ensures ∙ ap (λ o. unwrap_or o 1)
+    (in_rows f (codes "seed") _ c.number-4.ensures.value))

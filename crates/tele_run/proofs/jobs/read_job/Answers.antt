@@ -7,7 +7,10 @@ use Rattle.tele_run.proofs.jobs.read_job.Goals as goal
 pub returns-in-Some : goal.returns-in-Some
 returns-in-Some c =
     let met = c.in-Ok.ensures in
-    record { value = makes _ c.in-Ok.options c.in-Some.count (met.taken refl) met.values c.in-Some.is }
+    record {
+      value = makes _ c.in-Ok.options c.in-Some.count (met.taken refl) met.values
+          c.in-Some.is;
+    }
 
 pub returns-in-None : goal.returns-in-None
 returns-in-None c =

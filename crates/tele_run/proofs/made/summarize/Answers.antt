@@ -19,8 +19,10 @@ loop-line-preserved c =
       | then-is_full+in_ok-found w ↦
           let met = w.in_ok-found.ensures in
           subst (P c.if-is_full.found) (sym w.round-is)
-          (sums_closed _ _ _ _ _ w.in_ok-found.field-0 _ c.ask.new.self w.answer_made.new.round met.found met.few met.behind met.none w.found-is asks)
-      | else-is_full w ↦ subst (P c.if-is_full.found) (sym w.round-is) (subst (λ f. P f c.ask.new.self) (sym w.found-is) asks)
+          (sums_closed _ _ _ _ _ w.in_ok-found.field-0 _ c.ask.new.self w.answer_made.new.round
+          met.found met.few met.behind met.none w.found-is asks)
+      | else-is_full w ↦ subst (P c.if-is_full.found) (sym w.round-is)
+          (subst (λ f. P f c.ask.new.self) (sym w.found-is) asks)
     ]
 
 -- all lines

@@ -5,4 +5,5 @@ use Rattle.tele_run.proofs.rounds.answer_each.Given as goal
 
 -- the tasks so far were answered, and the others are left
 abbrev pub invariant-loop-task : goal.invariant-loop-task
-invariant-loop-task l = HasAnswered (map_of l.fn.plain) (map_of l.plain) l.tasks (drop l.task-index l.tasks) l.answers.items
+invariant-loop-task l = HasAnswered (map_of l.fn.plain) (map_of l.plain) l.tasks
+    (drop l.task-index l.tasks) l.answers.items

@@ -8,19 +8,22 @@ use Rattle.tele_run.proofs.steps.name.Goals as goal
 pub returns-in_err-answer-clause-part : goal.returns-in_err-answer-clause-part
 returns-in_err-answer-clause-part g c =
     at_refusal c.from_residual.result
-    (part_before c.args.version (map_in c.args.round.now) c.args.round.now.tasks (Bad c.args.line c.args.cause ∷ []) _ _
+    (part_before c.args.version (map_in c.args.round.now) c.args.round.now.tasks
+    (Bad c.args.line c.args.cause ∷ []) _ _
     c.in_err-answer.ensures.part)
 
 -- the round was answered, and the bad line named
 pub returns-clause-printed : goal.returns-clause-printed
 returns-clause-printed g c =
     on_ok c.print_bad.result c.print_bad.ensures.printed
-    (text_then c.args.version (map_in c.args.round.now) c.args.round.now.tasks (Bad c.args.line c.args.cause ∷ []) _ _ _
+    (text_then c.args.version (map_in c.args.round.now) c.args.round.now.tasks
+    (Bad c.args.line c.args.cause ∷ []) _ _ _
     c.in_ok-answer.ensures.printed)
 
 -- or a part of what names it was written
 pub returns-clause-part : goal.returns-clause-part
 returns-clause-part g c =
     on_err c.print_bad.result c.print_bad.ensures.part
-    (part_then c.args.version (map_in c.args.round.now) c.args.round.now.tasks (Bad c.args.line c.args.cause ∷ []) _ _ _
+    (part_then c.args.version (map_in c.args.round.now) c.args.round.now.tasks
+    (Bad c.args.line c.args.cause ∷ []) _ _ _
     c.in_ok-answer.ensures.printed)
