@@ -1,0 +1,92 @@
+#!/usr/bin/env python3
+"""Large lawful logs for `log_check`, in three shapes.
+
+    python3 bench/logs.py chain N       N puts of rising keys, so that pair rows hang one below the other
+    python3 bench/logs.py root N        the same, and a rebuild at the anchor: all rows are marked, passed and finished, and its Root
+    python3 bench/logs.py callers N     N callers that each hold a row
+"""
+import math
+import sys
+
+
+class Log:
+    """A log under way: its lines, and the first free word."""
+
+    def __init__(self):
+        self.lines, self.next = ["start 268435456"], 4
+
+    def say(self, line):
+        self.lines.append(line)
+
+    def reserve(self, caller, size):
+        base, self.next = self.next, self.next + size
+        self.say(f"Reserve {caller} {base} {size}")
+        return base
+
+    def decide(self, change):
+        for line in (f"Okay 0 {change}", f"Decide 0 {change} yes", f"Resolve 0 {change}"):
+            self.say(line)
+
+    def put(self, node, index, stood, key, pair):
+        """A put of a key above all others, which makes a pair row where a leaf stands; answers the words in its slots, and its base."""
+        leaf = self.reserve(0, 2)
+        row = self.reserve(0, 7) if pair else None
+        change = self.reserve(0, 9)
+        word = leaf * 8 + 1
+        to = row * 8 + 2 if pair else word
+        made = f";{row}=0,0,2,2,{key},{stood},{word}" if pair else ""
+        self.say(f"Install 0 {change} {change}=0,1,{node},{index},{stood},{to},0,{key},{key}{made};{leaf}={key},{key}")
+        self.decide(change)
+        return row, to, word
+
+
+def chain(log, puts):
+    """Answers the pair rows from the top on, each with its base and the words in its slots."""
+    log.say("Enter 0")
+    _, _, leaf = log.put(2, 0, 0, 1, False)
+    node, index, rows = 2, 0, []
+    for key in range(2, puts + 1):
+        row, to, word = log.put(node, index, leaf, key, True)
+        if rows:
+            rows[-1][2] = to
+        rows.append([row, leaf, word])
+        node, index, leaf = row, 1, word
+    return rows
+
+
+def rebuild(log, rows):
+    top, keys = rows[0][0], len(rows) + 1
+    row, change = log.reserve(0, 5), log.reserve(0, 9)
+    log.say(f"Install 0 {change} {change}=0,3,2,0,{top * 8 + 2},{row * 8 + 4},0,0,0;{row}={top},2,0,7,0")
+    log.decide(change)
+    for base, left, right in rows:
+        for line in (f"Mark 0 {base}", f"Pass 0 {base} 0 {left}", f"Pass 0 {base} 1 {right}"):
+            log.say(line)
+    for above, (base, _, _) in enumerate(reversed(rows)):
+        log.say(f"Finish 0 {base} {above + 2}")
+    degree = max(2, math.isqrt(keys))
+    if keys >= 256:
+        root = log.reserve(0, 2 * degree + 3)
+        first = [1 + part * (keys // degree) + min(part, keys % degree) for part in range(1, degree)]
+        words = [0, 0, degree, keys, *first, *[7] * degree]
+        log.say(f"Root 0 {row} {root * 8 + 2} {root}={','.join(map(str, words))}")
+
+
+def callers(log, number):
+    for caller in range(number):
+        log.say(f"Enter {caller}")
+        log.reserve(caller, 2)
+
+
+def main():
+    shape, number, log = sys.argv[1], int(sys.argv[2]), Log()
+    if shape == "callers":
+        callers(log, number)
+    else:
+        rows = chain(log, number)
+        if shape == "root":
+            rebuild(log, rows)
+    print("\n".join(log.lines))
+
+
+main()

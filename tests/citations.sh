@@ -1,0 +1,56 @@
+#!/bin/bash
+# Tests of tools/citations.py: what it takes, and what it must refuse. The last line is 'N passed, M failed'.
+set -u
+here=$(cd -P -- "$(dirname -- "$0")/.." && pwd)
+all=$(mktemp -d "${TMPDIR:-/tmp}/citations.XXXXXX")
+trap 'rm -rf "$all"' EXIT
+passed=0 failed=0
+
+mkdir -p "$all"/{docs,crates/{low,high}/{src,specs,proofs}}
+printf 'low:\nhigh: low clap\n' >"$all/crates.txt"
+printf '/// What it does.\npub fn go(x: u64)\n    requires small { x < 9 }\n    ensures value { result ≡ x }\n{\n}\n\npub fn stay()\n    ensures still { Stays }\n{}\n' \
+    >"$all/crates/low/src/lib.rt"
+printf 'pub struct Thing;\n' >"$all/crates/high/src/lib.rt"
+printf -- '-- it stays\nabbrev pub Stays : Type 0\n' >"$all/crates/low/specs/Staying.antt"
+printf 'pub stays_on : Stays\n' >"$all/crates/low/proofs/StayLemmas.antt"
+
+# Writes the documents with one line more in each of README and the map.
+write() {
+    printf '| claim | clause |\n|---|---|\n%s\n' "$1" >"$all/README.md"
+    printf 'Nothing.\n' >"$all/CONTRIBUTING.md"
+    printf '%s\n' "$2" >"$all/docs/PROOFS.md"
+    printf '| crate | job | stands on |\n|---|---|---|\n| `low` | low | nothing |\n%s\n' "$3" >"$all/docs/ARCHITECTURE.md"
+}
+
+# Whether it says so of the line of README, the line of docs/PROOFS.md and the row of the map.
+says() {
+    write "$3" "$4" "${5:-| \`high\` | high | \`low\`, \`clap\` |}"
+    found=$(python3 "$here/tools/citations.py" "$all")
+    status=$?
+    case $2$status$found in
+    "0"*"$2 faults" | [1-9]1*"$2 faults") passed=$((passed + 1)) ;;
+    *)
+        failed=$((failed + 1))
+        printf 'FAILED: %s\n%s\n' "$1" "$found"
+        ;;
+    esac
+}
+
+good='| it gives | `low::go`, `value` |'
+says 'a clause that is there' 0 "$good" ''
+says 'two clauses, and one of another function' 0 '| it gives | `low::go`, `value`, `small`; `stay`, `still` |' ''
+says 'a clause that is gone' 1 '| it gives | `low::go`, `values` |' ''
+says 'a clause of another function' 1 '| it gives | `low::go`, `value`; `stay`, `vale` |' ''
+says 'a function that is gone' 1 '| it gives | `low::goes` |' ''
+says 'a clause without its crate' 2 '| it gives | `go`, `value` |' ''
+says 'in prose, an item and its clause' 0 "$good" 'See `low::go`, `value`, and `high::Thing`.'
+says 'in prose, an item that is gone' 1 "$good" 'See `high::Things`.'
+says 'a lemma and a definition in their files' 0 "$good" 'By `stays_on` in `StayLemmas`, of `Stays` in `Staying.antt`.'
+says 'a lemma that is gone' 1 "$good" 'By `stays_off` in `StayLemmas`.'
+says 'a file of lemmas that is gone' 1 "$good" 'By `stays_on` in `LeaveLemmas`.'
+says 'a path that is gone' 1 "$good" 'In `crates/low/src/main.rt`.'
+says 'a crate without a row in the map' 1 "$good" '' ' '
+says 'a row of the map with another crate below' 1 "$good" '' '| `high` | high | nothing |'
+
+echo "$passed passed, $failed failed"
+[ "$failed" = 0 ]

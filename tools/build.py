@@ -1,0 +1,514 @@
+#!/usr/bin/env python3
+"""Proves and builds a program of this repository, and says on standard error how far it is.
+
+    python3 tools/build.py NAME
+
+makes out/NAME at the top of the repository, and out/NAME.from beside it, which says what it was made from. Nothing is done
+where out/NAME was made from these very files and this kit. The status is 0 where out/NAME stands, 125 where it couldn't be
+made, and that of the signal where one came.
+
+A program is made from its line of crates.txt and those of the crates below it, the files in their src/, specs/ and proofs/,
+and HANDLES. They are copied first, and the copy is built, so that an edit meanwhile is seen by the next call. Each crate has
+a folder of its own to be proved in, with what it stands on beside it: `rt` lets one command work in a folder at a time, and
+so crates that don't stand on one another are proved side by side. What was proved is kept there, so that a call that was
+interrupted or failed is gone on with.
+
+    TELE_BUILD   the folder to build in; else one in ~/.cache/luskadorv, by the path of the repository
+    TELE_JOBS    how many checks run side by side at most; else as many as there are processors, and memory for
+    TELE_RT      the command `rt`
+"""
+import fcntl
+import hashlib
+import os
+import queue
+import re
+import shutil
+import signal
+import subprocess
+import sys
+import tempfile
+import threading
+import time
+from pathlib import Path
+
+PARTS = ("src", "specs", "proofs")
+NOT_BUILT = 125
+# How much memory a check may take, in bytes.
+MEMORY_OF_A_JOB = 2_000_000_000
+# Lines of a log that tell why a crate isn't proved.
+CAUSE = re.compile(r"error(\[[\w-]+])?:|no proof|not proved|killed|No space|^rt: (?!note|chose|rt (check|lemma)|running|.*begins with)", re.I)
+
+
+class NotBuilt(Exception):
+    """Why the program couldn't be made, in lines."""
+
+
+def say(text):
+    print(f"tele: {text}", file=sys.stderr, flush=True)
+
+
+# What a program is made from
+
+
+def lines_of(top):
+    """Returns the lines of crates.txt by crate, without comments."""
+    lines = {}
+    for line in (top / "crates.txt").read_text().split("\n"):
+        line = line.partition("#")[0].strip()
+        if line:
+            lines[re.match(r"\w+", line)[0]] = line
+    return lines
+
+
+def below(name, lines):
+    """Returns the crates of the repository that the crate stands on, each behind those that it stands on itself."""
+    found = []
+    for dep in lines[name].partition(":")[2].split():
+        if dep in lines:
+            found += [it for it in [*below(dep, lines), dep] if it not in found]
+    return found
+
+
+def files_of(folder):
+    """Returns the files of a crate, by their paths in its folder."""
+    paths = (it for part in PARTS for it in sorted((folder / part).rglob("*")) if it.is_file())
+    return {str(it.relative_to(folder)): it.read_bytes() for it in paths}
+
+
+def sum_of(*parts):
+    return hashlib.sha256(repr(parts).encode()).hexdigest()
+
+
+class Source:
+    """The files of a program and of the crates below it, as they stood at one moment."""
+
+    def __init__(self, top, program):
+        self.top, self.program, self.since = top, program, time.time()
+        lines = lines_of(top)
+        if program not in lines:
+            raise NotBuilt(f"crates.txt has no crate {program}")
+        self.names = [*below(program, lines), program]
+        self.lines = {it: lines[it] for it in self.names}
+        self.below = {it: below(it, lines) for it in self.names}
+        handles = top / "HANDLES"
+        self.handles = handles.read_bytes() if handles.is_file() else b""
+        self.files = {it: files_of(top / "crates" / it) for it in self.names}
+        self.own = {it: sum_of(self.lines[it], self.handles, self.files[it]) for it in self.names}
+        self.sum = sum_of([(it, self.own[it]) for it in sorted(self.names)])
+
+    def sum_up_to(self, name, kit):
+        """Returns a sum of all that this crate is proved from."""
+        return sum_of(kit, [(it, self.own[it]) for it in sorted([*self.below[name], name])])
+
+    def paths(self):
+        parts = [f"crates/{it}/{part}" for it in self.names for part in PARTS]
+        return [it for it in ["crates.txt", "HANDLES", *parts] if (self.top / it).exists()]
+
+    def weight(self, name):
+        return 1 + sum(it.count(b"\n") for it in self.files[name].values())
+
+
+class Kit:
+    """The command `rt`, and what tells its kit from another."""
+
+    def __init__(self):
+        self.rt = shutil.which(os.environ.get("TELE_RT", "rt"))
+        self.real = os.path.realpath(self.rt) if self.rt else ""
+        folder = Path(self.real).parent.parent
+        self.paths = [str(it) for it in (folder / "KIT-ID", folder / "WHAT", folder / "bin") if self.rt and it.exists()]
+        texts = [Path(it).read_bytes() for it in self.paths if os.path.isfile(it)]
+        tools = [(it.name, it.stat().st_size) for it in sorted((folder / "bin").glob("*"))] if self.rt else []
+        self.sum = sum_of(texts, tools) if self.rt else ""
+
+
+class Made:
+    """out/NAME, and out/NAME.from, whose time is the moment at which its files were read."""
+
+    def __init__(self, top, program):
+        self.program, self.note = top / "out" / program, top / "out" / f"{program}.from"
+
+    def fits(self, source, kit):
+        """Returns whether the program was made from these files, by this kit, where there is one."""
+        if not os.access(self.program, os.X_OK) or not self.note.is_file():
+            return False
+        made_from, by = (self.note.read_text().split("\n") + [""])[:2]
+        return made_from == source.sum and kit.sum in ("", by)
+
+    def write_note(self, source, kit, by):
+        text = "\n".join([source.sum, by, kit.real, *source.paths(), *kit.paths]) + "\n"
+        part = self.note.with_suffix(f".{os.getpid()}")
+        part.write_text(text)
+        # A file that changed in the same tick of the clock counts as changed.
+        os.utime(part, times=(source.since - 0.1, source.since - 0.1))
+        os.replace(part, self.note)
+
+    def refresh(self, source, kit):
+        """Says that the files were looked at, and are the same."""
+        self.write_note(source, kit, self.note.read_text().split("\n")[1])
+
+    def take(self, built, source, kit):
+        self.program.parent.mkdir(exist_ok=True)
+        part = self.program.with_suffix(f".{os.getpid()}")
+        shutil.copyfile(built, part)
+        os.chmod(part, 0o755)
+        self.note.unlink(missing_ok=True)
+        os.replace(part, self.program)
+        self.write_note(source, kit, kit.sum)
+
+
+# The folders in which crates are proved
+
+
+def room_for(top):
+    """Returns the folder to build in."""
+    name = f"luskadorv/{hashlib.sha256(str(top).encode()).hexdigest()[:12]}"
+    home = os.environ.get("XDG_CACHE_HOME") or (os.environ.get("HOME") and f"{os.environ['HOME']}/.cache")
+    places = [f"{home}/{name}"] if home else []
+    places.append(f"{tempfile.gettempdir()}/{name.replace('/', f'-{os.getuid()}-')}")
+    if os.environ.get("TELE_BUILD"):
+        places = [os.path.abspath(os.environ["TELE_BUILD"])]
+    why = None
+    for it in map(Path, places):
+        try:
+            it.mkdir(mode=0o700, parents=True, exist_ok=True)
+            if it.stat().st_uid == os.geteuid() and os.access(it, os.W_OK):
+                return it
+        except OSError as error:
+            why = error
+    raise NotBuilt(f"there is no folder to build in: {why or places[-1]}")
+
+
+class Room:
+    """A folder for each crate, with what it stands on, and what was proved there."""
+
+    def __init__(self, at, source, kit):
+        self.at, self.source, self.kit = at, source, kit
+        self.logs = at / "logs"
+        self.logs.mkdir(exist_ok=True)
+
+    def crate(self, name, of=None):
+        return self.at / "proved" / (of or name) / "crates" / name
+
+    def note(self, name):
+        return self.at / "proved" / f"{name}.sum"
+
+    def is_proved(self, name):
+        note = self.note(name)
+        return name != self.source.program and note.is_file() and note.read_text() == self.source.sum_up_to(name, self.kit.sum)
+
+    def has_proved(self, name):
+        self.note(name).write_text(self.source.sum_up_to(name, self.kit.sum))
+
+    def lay_out(self, name):
+        """Writes the crate's folder: its files and those below it, and the libraries below it as they were built."""
+        self.note(name).unlink(missing_ok=True)
+        root, names = self.crate(name).parent.parent, [*self.source.below[name], name]
+        root.mkdir(parents=True, exist_ok=True)
+        (root / "crates.txt").write_text("".join(f"{self.source.lines[it]}\n" for it in names))
+        if self.source.handles:
+            (root / "HANDLES").write_bytes(self.source.handles)
+        (root / "crates").mkdir(exist_ok=True)
+        for it in (root / "crates").iterdir():
+            if it.name not in names:
+                shutil.rmtree(it)
+        for it in names:
+            lay_files(self.crate(it, of=name), self.source.files[it])
+        for it in names[:-1]:
+            lay_library(self.crate(it), self.crate(it, of=name))
+
+    def tidy(self):
+        """Removes what checks keep to go on from, which is the most of it; libraries stay."""
+        for it in self.source.names:
+            shutil.rmtree(self.crate(it) / "out" / "incremental", ignore_errors=True)
+
+
+def lay_files(folder, files):
+    """Makes the folder's files these, and writes none that is so already."""
+    for path, text in files.items():
+        to = folder / path
+        if not to.is_file() or to.read_bytes() != text:
+            to.parent.mkdir(parents=True, exist_ok=True)
+            to.write_bytes(text)
+    for part in PARTS:
+        for it in sorted((folder / part).rglob("*"), reverse=True):
+            if it.is_dir() and not any(it.iterdir()):
+                it.rmdir()
+            elif it.is_file() and str(it.relative_to(folder)) not in files:
+                it.unlink()
+
+
+def lay_library(built, folder):
+    """Puts a library in place by further names of its files, which `rt` never writes into."""
+    stamp, to = built / "out" / "rlib" / "stamp", folder / "out" / "rlib"
+    if not stamp.is_file():
+        return
+    if (to / "stamp").is_file() and os.path.samefile(stamp, to / "stamp"):
+        return
+    shutil.rmtree(to, ignore_errors=True)
+    try:
+        shutil.copytree(built / "out" / "rlib", to, copy_function=os.link)
+    except OSError:
+        shutil.rmtree(to, ignore_errors=True)
+        shutil.copytree(built / "out" / "rlib", to)
+
+
+# Proving side by side
+
+
+def number_in(path, pattern):
+    try:
+        found = re.search(pattern, Path(path).read_text())
+    except OSError:
+        return None
+    return found and int(found[1])
+
+
+def processors():
+    if os.environ.get("TELE_JOBS", "").isdigit():
+        return max(1, int(os.environ["TELE_JOBS"]))
+    found = len(os.sched_getaffinity(0))
+    quota = number_in("/sys/fs/cgroup/cpu.max", r"^(\d+)")
+    period = number_in("/sys/fs/cgroup/cpu.max", r"^\d+ (\d+)")
+    return max(1, min(found, quota // period)) if quota and period else found
+
+
+def memory():
+    """Returns how many bytes are free."""
+    free = 1024 * (number_in("/proc/meminfo", r"MemAvailable:\s+(\d+)") or 8_000_000)
+    most = number_in("/sys/fs/cgroup/memory.max", r"^(\d+)")
+    used = number_in("/sys/fs/cgroup/memory.current", r"^(\d+)")
+    return min(free, most - used) if most and used else free
+
+
+class Proof(threading.Thread):
+    """One crate, as it is proved."""
+
+    def __init__(self, room, name, jobs, ended):
+        super().__init__(daemon=True)
+        self.room, self.name_of, self.jobs, self.ended = room, name, jobs, ended
+        self.done, self.all, self.status, self.process, self.is_stopped = 0, 0, None, None, False
+        self.log = room.logs / f"{name}.log"
+
+    def commands(self):
+        jobs = ["--jobs", str(self.jobs)] if self.jobs else []
+        if self.name_of == self.room.source.program:
+            return [["run", *jobs]]
+        # A check says how far it is, and a library is built over what it keeps.
+        return [["check", *jobs], ["lib", *jobs]]
+
+    def run(self):
+        try:
+            self.room.lay_out(self.name_of)
+            with open(self.log, "w", errors="replace") as log:
+                for words in self.commands():
+                    self.status = self.call(words, log)
+                    if self.status:
+                        break
+            if self.status == 0:
+                self.room.has_proved(self.name_of)
+        except (OSError, shutil.Error) as error:
+            self.status = str(error)
+        self.ended.put(self)
+
+    def call(self, words, log):
+        how = {"cwd": self.room.crate(self.name_of), "stdin": subprocess.DEVNULL, "stderr": subprocess.STDOUT}
+        log.write(f"$ cd {how['cwd']} && rt {' '.join(words)}\n")
+        log.flush()
+        with subprocess.Popen([self.room.kit.rt, *words], stdout=subprocess.PIPE, text=True, errors="replace", **how) as self.process:
+            if self.is_stopped:
+                self.process.terminate()
+            for line in self.process.stdout:
+                log.write(line)
+                log.flush()
+                found = re.match(r"checked .*, (\d+) of (\d+)$", line)
+                if found:
+                    self.done, self.all = int(found[1]), int(found[2])
+        return self.process.returncode
+
+    def stop(self):
+        self.is_stopped = True
+        if self.process and self.process.poll() is None:
+            self.process.terminate()
+
+    def was_killed(self):
+        return self.status in (-9, 137, 247)
+
+    def cause(self):
+        """Returns the lines of the log that tell why, at most six."""
+        if isinstance(self.status, str):
+            return [self.status]
+        lines = [it.rstrip() for it in self.log.read_text(errors="replace").split("\n") if it.strip()]
+        told = [it for it in lines if CAUSE.search(it) and not it.lstrip().startswith(("help:", "fn ", "note: to see"))]
+        told = told or [it for it in lines if CAUSE.search(it)] or lines[-5:]
+        return [it if len(it) <= 160 else f"{it[:157]}..." for it in told[:6]]
+
+
+class Build:
+    """Proves what isn't proved yet: first what most waits for, and side by side what doesn't stand on one another."""
+
+    def __init__(self, room):
+        self.room, self.source, self.ended = room, room.source, queue.Queue()
+        self.proved = {it for it in self.source.names if room.is_proved(it)}
+        self.waiting = [it for it in self.source.names if it not in self.proved]
+        self.number, self.begun, self.running, self.alone = len(self.waiting), time.time(), [], set()
+        self.processors = processors()
+        # One more than there are processors, so that none is idle while one loads what is below.
+        self.most = self.processors if "TELE_JOBS" in os.environ else max(1, min(self.processors + 1, memory() // MEMORY_OF_A_JOB))
+        self.weight = {it: self.source.weight(it) for it in self.source.names}
+        above = lambda name: [it for it in self.waiting if name in self.source.below[it]]
+        self.chain = {}
+        for it in reversed(self.waiting):
+            self.chain[it] = self.weight[it] + max([self.chain[of] for of in above(it)], default=0)
+
+    def ready(self):
+        if any(it.name_of in self.alone for it in self.running):
+            return []
+        able = [it for it in self.waiting if self.proved.issuperset(self.source.below[it])]
+        able = [it for it in able if it not in self.alone or not self.running]
+        return sorted(able, key=lambda it: -self.chain[it])
+
+    def begin(self):
+        """Starts as many crates as there is room for; a large one is shared by several processors."""
+        while True:
+            able, used = self.ready(), sum(it.jobs or self.processors for it in self.running)
+            free = self.most - used
+            if not able or free < 1:
+                return
+            name, rest = able[0], [*able[1:], *[it.name_of for it in self.running]]
+            share = self.weight[name] / sum(self.weight[it] for it in [name, *rest])
+            jobs = max(1, min(free - (len(able) > 1), self.processors, round(self.processors * share)))
+            if name in self.alone:
+                jobs = 1
+            # `rt` chooses best for a crate that nothing runs beside.
+            is_lone = not rest and jobs == self.processors
+            proof = Proof(self.room, name, None if is_lone else jobs, self.ended)
+            self.waiting.remove(name)
+            self.running.append(proof)
+            proof.start()
+
+    def all(self):
+        show = Shown(self)
+        try:
+            while self.waiting or self.running:
+                self.begin()
+                try:
+                    self.end_of(self.ended.get(timeout=1 if show.is_terminal else 5), show)
+                except queue.Empty:
+                    pass
+                show.now()
+        finally:
+            show.clear()
+            for it in self.running:
+                it.stop()
+
+    def end_of(self, proof, show):
+        self.running.remove(proof)
+        name = proof.name_of
+        if proof.status == 0:
+            self.proved.add(name)
+            show.ended(name)
+        elif proof.was_killed() and name not in self.alone:
+            self.alone.add(name)
+            self.waiting.append(name)
+        else:
+            show.clear()
+            where = [] if isinstance(proof.status, str) else [f"all that was said: {proof.log}"]
+            raise NotBuilt("\n".join([f"{name} failed", *[f"  {it}" for it in proof.cause()], *where]))
+
+
+class Shown:
+    """What is said while crates are proved: a line that changes on a terminal, and else a line now and then."""
+
+    def __init__(self, build):
+        self.build, self.is_terminal = build, sys.stderr.isatty()
+        self.next, self.width = time.time() + 15, 0
+        number, most = build.number, min(build.most, build.processors)
+        beside = f", up to {most} side by side" if most > 1 and number > 1 else ""
+        say(f"the program is proved before it is built, once: {number} crate{'s' * (number > 1)}{beside}, some minutes")
+        say(f"log: {build.room.logs}")
+
+    def text(self):
+        build, gone = self.build, int(time.time() - self.build.begun)
+        done = build.number - len(build.waiting) - len(build.running)
+        name = lambda it: "the program itself" if it == build.source.program else it
+        parts = [name(it.name_of) + (f" ({it.done} of {it.all})" if it.all else "") for it in build.running]
+        return f"{gone // 60}:{gone % 60:02}  {done} of {build.number} crates" + f"; proving {', '.join(parts)}" * bool(parts)
+
+    def now(self, is_due=False):
+        if self.is_terminal:
+            wide = shutil.get_terminal_size((100, 24)).columns - 1
+            print(f"\r\033[K{('tele: ' + self.text())[:wide]}", end="", file=sys.stderr, flush=True)
+        elif self.build.running and (is_due or time.time() >= self.next):
+            say(self.text())
+            self.next = time.time() + 15
+
+    def ended(self, name):
+        self.now(is_due=True)
+
+    def clear(self):
+        if self.is_terminal:
+            print("\r\033[K", end="", file=sys.stderr, flush=True)
+
+
+def in_turn(room):
+    """Waits until no other call builds here, and returns what keeps others out."""
+    lock = open(room / "lock", "w")
+    try:
+        fcntl.flock(lock, fcntl.LOCK_EX | fcntl.LOCK_NB)
+    except BlockingIOError:
+        say("another call is building the program; waiting for it")
+        fcntl.flock(lock, fcntl.LOCK_EX)
+    return lock
+
+
+def build(top, program):
+    made, kit = Made(top, program), Kit()
+    source = Source(top, program)
+    if made.fits(source, kit):
+        return made.refresh(source, kit)
+    if not kit.rt:
+        raise NotBuilt("the Rattle kit is missing: there is no command `rt` on the path\nREADME.md says what is needed")
+    at = room_for(top)
+    with in_turn(at):
+        source = Source(top, program)
+        if made.fits(source, kit):
+            return made.refresh(source, kit)
+        room = Room(at, source, kit)
+        begun = time.time()
+        Build(room).all()
+        made.take(room.crate(program) / "out" / program, source, kit)
+        room.tidy()
+        took = int(time.time() - begun)
+        say(f"proved and built in {took // 60}:{took % 60:02}; from now on it starts at once")
+        if Source(top, program).sum != source.sum:
+            say("a file changed meanwhile: the next call builds again")
+
+
+class Stopped(BaseException):
+    """A signal that ends the call."""
+
+
+def stop(number, _):
+    raise Stopped(number)
+
+
+def main():
+    for it in (signal.SIGINT, signal.SIGTERM, signal.SIGHUP):
+        signal.signal(it, stop)
+    try:
+        build(Path(__file__).resolve().parent.parent, sys.argv[1])
+    except NotBuilt as why:
+        say(f"not built: {why}".replace("\n", "\ntele: "))
+        return NOT_BUILT
+    except Stopped as why:
+        say("stopped; the next call goes on from here")
+        return 128 + why.args[0]
+    except Exception as why:
+        # Python's own status, 1, may be the program's.
+        say(f"not built: {type(why).__name__}: {why}")
+        return NOT_BUILT
+    return 0
+
+
+if __name__ == "__main__":
+    sys.exit(main())

@@ -1,0 +1,223 @@
+#!/usr/bin/env python3
+"""Checks what the documents cite: clauses, lemmas, definitions, files, and the map of crates.
+
+    python3 tools/citations.py [TOP]
+
+- A column of README.md or docs/PROOFS.md that is headed `clause`, `law`, `decision`, `stays enabled`, `comes` or `made by` has
+  citations alone, as `crate::function`, `clause`, `clause`; `other_function`, `clause`
+  or `crate`, `laws.function`, `clause`. What follows a function is a clause of it, or a further function of the crate.
+- In prose there `crate::item` is an item of the crate, and a word behind it in the same way.
+- `SomethingLemmas` is a file, `lemma` in `SomethingLemmas` a lemma of it, and `Definition` in `Something.antt` a definition of that one.
+- A path that begins with crates/, docs/, bench/, tools/ or tests/ is there, and a function that stands before one in a way
+  through the code is in that file.
+- The index of docs/DECISIONS.md has its titles.
+- docs/ARCHITECTURE.md has a row for each crate of crates.txt, with the crates that it stands on, and draws it above these.
+
+Each fault is a line. The last line is 'N citations, M faults', and the status is 0 where there is none.
+"""
+import re
+import sys
+from pathlib import Path
+
+SPAN = re.compile(r"`([^`]+)`")
+WORD = re.compile(r"[a-z_]\w*\Z")
+ITEM = re.compile(r"^\s*(?:pub(?:\([^)]*\))? )?(?:ghost )?(?:const )?(?:unsafe )?(fn|struct|enum|trait|type|const|static|mod) (\w+)")
+CITING = ("clause", "law", "decision", "stays enabled", "comes", "made by")
+# some names in a file, which may be named without its folders and its ending
+LEMMA = re.compile(r"((?:`[^`\s]+`(?:, | and )?)+) in `(?:[^`]*/)?(\w+)(?:\.(antt|rt))?`")
+CLAUSE = re.compile(r"^\s*(?:ensures|requires) (\w+) \{")
+
+
+class Crate:
+    """What a crate's sources have: items, functions with their clauses, and definitions."""
+
+    def __init__(self, folder):
+        self.items, self.clauses, self.files = set(), {}, {}
+        for path in sorted((folder / "src").rglob("*.rt")):
+            self.read(path.read_text())
+        for part in ("specs", "proofs"):
+            for path in sorted((folder / part).rglob("*.antt")):
+                self.files.setdefault(path.stem, "")
+                self.files[path.stem] += path.read_text() + "\n"
+
+    def read(self, text):
+        function = None
+        for line in text.split("\n"):
+            item, clause = ITEM.match(line), CLAUSE.match(line)
+            if item:
+                self.items.add(item[2])
+                if item[1] == "fn":
+                    function = self.clauses.setdefault(item[2], set())
+            elif clause and function is not None:
+                function.add(clause[1])
+
+    def defines(self, name, stem=None):
+        texts = [self.files.get(stem, "")] if stem else self.files.values()
+        head = re.compile(rf"(?m)^\s*(?:pub |abbrev |unfoldable |record |data |syntax |module |ruleset )*{re.escape(name)}(?=[\s:(]|$)")
+        return any(head.search(it) for it in texts) or any(f"  {name} :" in it for it in texts)
+
+
+class Citations:
+    def __init__(self, top):
+        self.top, self.faults, self.number = top, [], 0
+        lines = (it.partition("#")[0].strip() for it in (top / "crates.txt").read_text().split("\n"))
+        self.listed = {re.match(r"\w+", it)[0]: it.partition(":")[2].split() for it in lines if it}
+        self.crates = {it: Crate(top / "crates" / it) for it in self.listed}
+
+    def fault(self, where, what):
+        self.faults.append(f"{where}: {what}")
+
+    def is_good(self, where, found, what):
+        self.number += 1
+        if not found:
+            self.fault(where, what)
+
+    def cited(self, where, text, is_strict):
+        """Follows the citations of a cell or a line of prose: a crate, its functions, and their clauses."""
+        crate = function = None
+        text, end = LEMMA.sub("", text), 0
+        for span in SPAN.finditer(text):
+            between, end = text[end : span.start()], span.end()
+            word = span[1]
+            if "." in between or (not is_strict and not re.fullmatch(r"[,;]? ?(and )?", between)):
+                crate, function = (crate, function) if is_strict else (None, None)
+            path = word.split("::")
+            if path[0] in self.crates:
+                crate, function = path[0], None
+                for it in path[1:]:
+                    self.is_good(where, it in self.crates[crate].items, f"{crate} has no item {it}")
+                function = path[-1] if path[-1] in self.crates[crate].clauses else None
+            elif crate:
+                function = self.further(where, crate, function, word)
+            elif is_strict:
+                self.fault(where, f"`{word}` is cited without its crate")
+
+    def further(self, where, crate, function, word):
+        """Checks a word behind a crate or a function, and returns the function that clauses behind it belong to."""
+        has = self.crates[crate]
+        word = re.sub(r"\A(?:laws|examples)\.", "", word)
+        if word.endswith("…"):
+            self.is_good(where, any(it.startswith(word[:-1]) for it in has.clauses), f"{crate} has no function {word}")
+        elif re.fullmatch(r"\w+::\w+", word):
+            function = word.split("::")[1]
+            self.is_good(where, function in has.clauses, f"{crate} has no function {word}")
+        elif WORD.match(word):
+            if function and word in has.clauses[function]:
+                self.number += 1
+            elif word in has.clauses:
+                function = word
+                self.number += 1
+            elif word in has.items:
+                self.number += 1
+            else:
+                self.fault(where, f"{crate}{'::' + function if function else ''} has no clause or function {word}")
+        return function
+
+    def lemmas(self, where, text):
+        for names, of, kind in LEMMA.findall(text):
+            known = any(of in it.files for it in self.crates.values())
+            for name in SPAN.findall(names):
+                if kind == "rt":
+                    texts = [it.read_text() for it in self.top.glob(f"crates/*/src/**/{of}.rt")]
+                    self.is_good(where, any(re.search(rf"\b{re.escape(name)}\b", it) for it in texts), f"{of}.rt has no {name}")
+                elif known:
+                    self.is_good(where, any(it.defines(name, of) for it in self.crates.values()), f"{of} has no {name}")
+                elif kind:
+                    self.is_good(where, False, f"there is no file {of}")
+
+    def paths(self, where, text):
+        for word in SPAN.findall(text):
+            if re.match(r"(crates|docs|bench|tools|tests)/[\w./-]+\Z", word):
+                self.is_good(where, (self.top / word).exists(), f"there is no {word}")
+            elif re.fullmatch(r"\w+Lemmas", word):
+                self.is_good(where, any(word in it.files for it in self.crates.values()), f"there is no file {word}")
+
+    def way(self, where, line):
+        """Checks a line of a way through the code: a function, and the file in which it stands."""
+        step = re.match(r"\s+([\w:]+)\s+(crates/[\w/]+\.rt)\b", line)
+        if step:
+            path, name = self.top / step[2], step[1].split("::")[-1]
+            text = path.read_text() if path.is_file() else ""
+            self.is_good(where, re.search(rf"\bfn {name}\b", text), f"{step[2]} has no function {name}")
+
+    def document(self, name, has_claims):
+        columns, is_code = [], False
+        for number, line in enumerate((self.top / name).read_text().split("\n"), 1):
+            where = f"{name}:{number}"
+            if line.startswith("```"):
+                is_code = not is_code
+            if is_code or line.startswith("    "):
+                self.way(where, line)
+                continue
+            self.lemmas(where, line)
+            self.paths(where, line)
+            if not has_claims:
+                continue
+            cells = [it.strip() for it in line.strip("|").split("|")] if line.startswith("|") else []
+            if not cells:
+                columns = []
+                self.cited(where, line, False)
+            elif not columns:
+                columns = cells
+            for head, cell in zip(columns, cells):
+                if head in CITING and cell not in CITING:
+                    self.cited(where, cell, True)
+
+    def drawing(self):
+        """The layers are drawn so that each crate stands once, above those that it stands on."""
+        name, place = "docs/ARCHITECTURE.md", {}
+        layers = (self.top / name).read_text().partition("## The layers\n")[2].partition("\n## ")[0]
+        for number, line in enumerate(layers.split("\n")):
+            for it in re.findall(r"(?<![(\w])[a-z]\w+", line.partition("  " * 20)[0]) if line.startswith("    ") else []:
+                if it in self.crates and it in place:
+                    self.fault(name, f"{it} is drawn twice")
+                if it in self.crates:
+                    place[it] = number
+        for it, uses in self.listed.items() if layers else []:
+            if it not in place:
+                self.fault(name, f"{it} isn't drawn among the layers")
+            for of in uses:
+                if it in place and of in place:
+                    self.is_good(name, place[it] < place[of], f"{it} is drawn no higher than {of}")
+
+    def index(self):
+        """Each decision stands in the index of its page, and each line of the index leads to one."""
+        name = "docs/DECISIONS.md"
+        if (self.top / name).is_file():
+            text = (self.top / name).read_text()
+            there = [re.sub(r"[^a-z0-9 _-]", "", it.lower()).replace(" ", "-") for it in re.findall(r"(?m)^###? (.*)$", text)]
+            named = re.findall(r"\]\(#([\w-]+)\)", text)
+            for it in {*there} ^ {*named} | {it for it in there if there.count(it) > 1}:
+                self.fault(name, f"the index and the titles differ at {it}")
+            self.number += len(named)
+
+    def map_of_crates(self):
+        name = "docs/ARCHITECTURE.md"
+        rows = {}
+        for line in (self.top / name).read_text().split("\n"):
+            cells = [it.strip() for it in line.strip("|").split("|")] if line.startswith("| `") else []
+            if len(cells) >= 3 and cells[0].strip("`") in self.crates:
+                rows[cells[0].strip("`")] = {it for it in SPAN.findall(cells[-1]) if it in self.crates}
+        for it, uses in self.listed.items():
+            if it not in rows:
+                self.fault(name, f"the crate {it} has no row in the map")
+                continue
+            wanted = {of for of in uses if of in self.crates}
+            self.is_good(name, rows[it] == wanted, f"{it} stands on {' '.join(sorted(wanted)) or 'nothing'}, by crates.txt")
+
+
+def main():
+    top = Path(sys.argv[1] if len(sys.argv) > 1 else Path(__file__).resolve().parent.parent)
+    found = Citations(top)
+    for name in ["README.md", "CONTRIBUTING.md", *sorted(str(it.relative_to(top)) for it in (top / "docs").glob("*.md"))]:
+        found.document(name, name in ("README.md", "docs/PROOFS.md"))
+    found.map_of_crates()
+    found.drawing()
+    found.index()
+    print(*found.faults, sep="\n", end="\n" if found.faults else "")
+    print(f"{found.number} citations, {len(found.faults)} faults")
+    return 1 if found.faults else 0
+
+
+if __name__ == "__main__":
+    sys.exit(main())
