@@ -98,9 +98,9 @@ pub record HasFound (v : View) (key node index : ℕ) (value : Option ℕ) : Typ
   pub searched : Searched v.start v.words v.log key v.loads.since node value
   pub index_is : searched.look.index ≡ index
 
--- a search that ended at the node made few loads: 12 at most, and what the rows on the chain of the
+-- a search that ended at the node made few loads: 10 at most, and what the rows on the chain of the
 -- node cost
 pub record HasFewLoads (v w : View) (key node : ℕ) : Type 0 where
   pub rows : List ℕ
   pub chain : IsChainOf w.start w.words w.log node rows
-  pub few : w.loaded ≤ v.loaded + 12 + cost_of w key rows
+  pub few : w.loaded ≤ v.loaded + 10 + cost_of w key rows

@@ -47,7 +47,7 @@ fn look_at(table: &TreeTable, seat: &mut TreeSeat, node: u32, key: u64) -> Look
 /// A change is read by its decision, and a rebuild by its target. An inner row is entered at the
 /// child for the key. The answer stands at some number of changes, no fewer than those that the
 /// seat had seen when the call began. Never waits: each row lies above the one before it, and the
-/// rows that it enters are the chain of the node in which it ends. It makes 12 loads at most, and
+/// rows that it enters are the chain of the node in which it ends. It makes 10 loads at most, and
 /// for each of these rows as many as the guess lies off the child for the key, and 12.
 pub fn find_from_anchor(table: &TreeTable, seat: &mut TreeSeat, key: u64) -> Found
     requires same_table { seat.old.table ≡ table.now.table }

@@ -1,0 +1,136 @@
+-- The words of a tree whose passes were all taken back. Serves `close`.
+use Rattle.std.proofs.Common.{◌≡◌, ℕ, ◌<◌, List, map, length, Some, refl, sym, ap, ◌∙◌, subst, arith}
+use Rattle.ist_core.specs.declared.states.ChangeRow.{ChangeRow}
+use Rattle.ist_core.specs.Elements.{Each}
+use Rattle.ist_core.specs.Images.{IsImage}
+use Rattle.ist_core.specs.Changes.{Entry, changes_of}
+use Rattle.ist_core.specs.Deciding.{AllResolved}
+use Rattle.ist_core.specs.Logs.{Log}
+use Rattle.ist_core.specs.Pieces.{Change}
+use Rattle.ist_core.specs.Lawful.{Lawful, state_of}
+use Rattle.ist_core.specs.Resting.{AllStandIn}
+use Rattle.ist_core.specs.Standing.{StandsIn}
+use Rattle.ist_core.proofs.ElementLemmas.{each-among}
+use Rattle.ist_core.proofs.RoomLemmas.{words_same}
+use Rattle.ist_links.proofs.OwnerLemmas.{owner_known}
+use Rattle.ist_histories.proofs.CallLemmas.{stand_on}
+use Rattle.ist_histories.proofs.EntryLemmas.{entry_update}
+use Rattle.ist_rule.specs.declared.view.View.{View}
+use Rattle.ist_rule.specs.declared.view.Taken.{Taken}
+use Rattle.ist_rule.specs.Faces.{SeatFace}
+use Rattle.ist_rule.specs.Rule.{IsTakenBack}
+use Rattle.ist_rule.specs.Seating.{IsLast}
+use Rattle.ist_rule.specs.Standings.{StandsInPrefix}
+use Rattle.ist_rule.proofs.LaterLemmas.{later-goes_on, goes_on_more}
+use Rattle.ist_tree.specs.Faces.{MakerFace}
+use Rattle.ist_tree.specs.Closing.{calls_numbered, calls_taken, ClosesWith}
+use Rattle.ist_tree.specs.Insides.{taken_pass, maker_face, IsMaker}
+use Rattle.ist_tree.proofs.TakenLemmas.{all_below, each_number, numbers_long, IsNumbered, numbered_is, lists_long, lists_stand, each_get}
+
+-- what is so of the last log, in a table of so many words
+record EndsIn (m : MakerFace) (image : List ℕ) (log : Log) (words : ℕ) : Type 0 where
+  pub lawful : Lawful m.tree.start words log
+  pub is_image : IsImage (state_of m.tree.start words log) image
+  pub resolved : AllResolved (state_of m.tree.start words log) log
+  pub callers : (state_of m.tree.start words log).callers ≡ length (calls_taken m)
+  pub stand : AllStandIn m.tree.start words log 0 (calls_taken m)
+  pub owners : Each (λ (e : Entry). e.owner < m.made) (changes_of m.tree.start words log)
+
+-- the last words of a table whose maker took all passes back
+module _ (seat : SeatFace) (image : List ℕ) (is : IsMaker seat.view)
+    (all_back : length (map taken_pass seat.view.taken) ≡ seat.view.made)
+    (last : IsLast seat.view image) where
+  abbrev v : View
+  v = seat.view
+
+  abbrev m : MakerFace
+  m = maker_face seat
+
+  -- it has as many callers as passes were made
+  made_is : v.made ≡ (state_of v.start v.words last.log).callers
+  made_is = (last.is_true.made is.maker).0
+
+  -- each of them was taken back
+  numbered : (number : ℕ) → number < v.made → IsNumbered number v.taken
+  numbered number lt =
+      let given = is.given in
+      let long = numbers_long v.taken in
+      numbered_is number v.taken
+      (all_below v.made (map (λ (t : Taken). t.number) v.taken) last.well_made.taken_once
+      (each_number (λ n. n < v.made) v.taken
+      (subst (λ n. Each (λ (t : Taken). t.number < n) v.taken) given last.well_made.taken_given))
+      (long ∙ all_back) number lt)
+
+  -- and its calls stand in the last log
+  stands : (number : ℕ) → number < v.made
+      → StandsIn v.start v.words last.log number (calls_numbered number (map taken_pass v.taken))
+  stands number lt =
+      let it = numbered number lt in
+      let t = it.taken in
+      let back = each-among (IsTakenBack v.start v.words last.log) t v.taken last.is_true.taken
+      it.among in
+      let old = each-among (λ (x : Taken). StandsInPrefix v.start v.words x.log x.number x.calls) t
+      v.taken last.well_made.taken_stand it.among in
+      subst (λ calls. StandsIn v.start v.words last.log number calls) (sym it.calls_are)
+      (subst (λ n. StandsIn v.start v.words last.log n t.calls) it.number_is
+      (stand_on v.start v.words old.prefix last.log t.number t.calls
+      (goes_on_more old.goes_on (later-goes_on back.later))
+      (back.between.made ∙ sym old.stands.exactly) old.stands))
+
+  -- each change is of one of them
+  known : (base : ℕ) (change : ChangeRow)
+      → (state_of v.start v.words last.log).pieces base ≡ Some (Change change)
+      → change.owner < v.made
+  known base change e =
+      let low = owner_known v.start v.words last.log last.lawful.enabled base change e in
+      let made = made_is in
+      omega arith
+
+  ends_here : EndsIn m image last.log v.words
+  ends_here =
+      record {
+        lawful = last.lawful;
+        is_image = last.is_image;
+        resolved = λ caller base change e own.
+            (let it = numbered change.owner (known base change e) in
+            let back = each-among (IsTakenBack v.start v.words last.log) it.taken v.taken
+            last.is_true.taken it.among in
+            back.between.resolved base change e (sym it.number_is));
+        callers = sym made_is ∙ sym (lists_long 0 v.made (map taken_pass v.taken));
+        stand = lists_stand v.start v.words last.log (map taken_pass v.taken) 0 v.made
+            (λ w lt. stands w (omega arith));
+        owners = each_get (λ (e : Entry). e.owner < v.made) (changes_of v.start v.words last.log)
+            (λ i e at.
+            (let u = entry_update v.start v.words last.lawful.opens last.log last.lawful.enabled i e
+            at in
+            let low = known u.0 u.1.change u.1.published in
+            let own = same_owner e _ (sym at ∙ u.1.entry) in
+            omega arith));
+      }
+    where
+      same_owner : (a b : Entry) → Some a ≡ Some b → a.owner ≡ b.owner
+      same_owner a b e = ap (λ (x : Entry). x.owner) (let s : a ≡ b = cc in s)
+
+  -- the words are as many as the table has
+  pub image_long : length image ≡ v.words
+  image_long = last.is_image.size ∙ words_same v.start v.words last.lawful.opens last.log
+
+  -- they stand for the calls of all passes
+  pub closes_with : ClosesWith m image
+  closes_with =
+      let e = subst (EndsIn m image last.log) (sym image_long) ends_here in
+      record {
+        stands = record {
+          log = last.log;
+          lawful = e.lawful;
+          image = e.is_image;
+          resolved = e.resolved;
+          calls = calls_taken m;
+          told_are = refl;
+          at_rest = e.callers;
+          stand = e.stand;
+        };
+        calls_are = refl;
+        goes_on = later-goes_on last.later;
+        owners = e.owners;
+      }

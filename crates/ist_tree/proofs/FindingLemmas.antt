@@ -1,0 +1,128 @@
+-- A find: its call may end at the position that the search has, and is then added to those of its
+-- pass. Serves `find`.
+use Rattle.std.proofs.Common.{◌≡◌, ℕ, ◌+◌, ◌≤◌, Option, Some, None, List, [], ◌∷◌, ◌++◌, length, take, refl, sym, ap, ◌∙◌, subst, arith, length-append}
+use Rattle.std.proofs.lemmas.List.{take-append-le}
+use Rattle.ist_core.specs.declared.calls.Call.{Call}
+use Rattle.ist_core.specs.declared.commands.Command.TheVariants.{Get}
+use Rattle.ist_core.specs.declared.pairs.Pair.{Pair}
+use Rattle.ist_core.specs.Map.{map_of}
+use Rattle.ist_core.specs.Logs.{Log, GoesOn, same_log}
+use Rattle.ist_core.specs.Changes.{changes_of, map_at, map_behind}
+use Rattle.ist_core.specs.Lawful.{Lawful}
+use Rattle.ist_core.specs.Standing.{IsRead, IsFresh}
+use Rattle.ist_core.specs.StartLayout.{start}
+use Rattle.ist_histories.specs.Calls.{HasCalls, IsAdded}
+use Rattle.ist_histories.specs.Searching.{HasPosition}
+use Rattle.ist_histories.proofs.CallLemmas.{add_reading}
+use Rattle.ist_histories.proofs.ChangeLemmas.{changes_on}
+use Rattle.ist_histories.proofs.LoadOnLemmas.{at_prefix}
+use Rattle.ist_rule.specs.declared.view.View.{View}
+use Rattle.ist_rule.specs.declared.view.Loads.{Loads}
+use Rattle.ist_rule.specs.declared.view.Who.TheVariants.{Caller as CallerOf}
+use Rattle.ist_rule.specs.Authors.{Later}
+use Rattle.ist_rule.specs.Rule.{IsSound}
+use Rattle.ist_rule.specs.Conditions.{CanEnd}
+use Rattle.ist_rule.proofs.LaterLemmas.{later-goes_on, later_more}
+use Rattle.ist_tree.proofs.BetweenLemmas.{between_behind, no_entry_behind, has_its_calls}
+use Rattle.ist_tree.proofs.PositionLemmas.{position_of, IsPlace, first_place, found_call}
+
+-- a longer log has no fewer changes
+pub changes_rise : (pairs : List Pair) (words : ℕ) (earlier log : Log) → GoesOn earlier log
+    → length (changes_of pairs words earlier) ≤ length (changes_of pairs words log)
+changes_rise pairs words earlier log g =
+    let on = changes_on (start pairs words) earlier log g in
+    let same = ap length on.1 in
+    omega (arith, length-append (changes_of pairs words earlier) on.0)
+
+-- the map behind so many changes is that of each longer log
+pub map_at_on : (pairs : List Pair) (words : ℕ) (log longer : Log) (position : ℕ)
+    → GoesOn log longer → position ≤ length (changes_of pairs words log)
+    → map_at (map_of pairs) (changes_of pairs words longer) position
+    ≡ map_at (map_of pairs) (changes_of pairs words log) position
+map_at_on pairs words log longer position g low =
+    let on = changes_on (start pairs words) log longer g in
+    ap (λ entries. map_behind (map_of pairs) entries)
+    (ap (take position) on.1
+    ∙ take-append-le position (changes_of pairs words log) on.0 low)
+
+-- a view that began to get the key when it had seen the earlier log, and then searched
+abbrev pub searched_view : View → ℕ → Log → Log → Loads → ℕ → View
+searched_view v key earlier log loads loaded =
+    record v {
+      log = log;
+      loads = loads;
+      loaded = loaded;
+      pending = Some record { command = Some (Get key); length = length earlier };
+    }
+
+-- the call that its caller then makes, where it has found this value
+abbrev pub get_call : View → ℕ → Log → Log → Option ℕ → Call
+get_call v key earlier log value =
+    record {
+      command = Get key;
+      reply = value;
+      position = position_of v.start v.words earlier log key value;
+      stamp = v.stamp + 1;
+    }
+
+-- a caller that began to get the key when it had seen the earlier log, and then searched
+module _ (v : View) (number key : ℕ) (s : IsSound v) (mine : v.who ≡ CallerOf number)
+    (none : v.pending ≡ None) (earlier log : Log) (before : Later (CallerOf number) v.log earlier)
+    (later : Later (CallerOf number) earlier log) (lawful : Lawful v.start v.words log)
+    (value : Option ℕ) (has : HasPosition v.start v.words earlier log key value) where
+  its_place : IsPlace v.start v.words earlier log key value
+      (position_of v.start v.words earlier log key value)
+  its_place = first_place v.start v.words earlier log key value has
+
+  all_later : Later (CallerOf number) v.log log
+  all_later = later_more before later
+
+  its_read : IsRead (map_of v.start) (changes_of v.start v.words log) (get_call v key earlier log value)
+  its_read = record { within = its_place.to; reply = its_place.value_is }
+
+  -- it is fresh for all that the caller had seen before
+  pub its_fresh : (seen : Log) → GoesOn seen earlier
+      → IsFresh v.start v.words seen v.stamp (get_call v key earlier log value)
+  its_fresh seen g =
+      let rise = changes_rise v.start v.words seen earlier g in
+      let from = its_place.from in
+      record { position = omega arith; later = omega arith }
+
+  -- and is added to its calls
+  pub its_calls : HasCalls v.start v.words log number (v.stamp + 1) (v.calls ++ (get_call v key earlier log value) ∷ [])
+  its_calls =
+      add_reading v.start v.words v.log log number v.stamp v.calls (get_call v key earlier log value)
+      (has_its_calls v number s mine none) (later-goes_on all_later)
+      (no_entry_behind v number s mine none log lawful all_later) refl
+      (its_fresh v.log (later-goes_on before)) its_read
+
+  pub its_added : IsAdded v.start v.words v.log log number v.stamp v.calls (get_call v key earlier log value)
+  its_added = record { has_calls = its_calls; fresh = its_fresh v.log (later-goes_on before) }
+
+  -- the call is the one that is picked
+  pub found_is : (loads : Loads) (loaded : ℕ)
+      → found_call (searched_view v key earlier log loads loaded) value
+      ≡ get_call v key earlier log value
+  found_is loads loaded =
+      ap (λ (l : Log). get_call v key l log value) (at_prefix earlier log (later-goes_on later))
+
+  -- and the view may end it
+  pub may_end : (loads : Loads) (loaded : ℕ)
+      → CanEnd (searched_view v key earlier log loads loaded)
+      (found_call (searched_view v key earlier log loads loaded) value)
+  may_end loads loaded =
+      subst (CanEnd (searched_view v key earlier log loads loaded)) (sym (found_is loads loaded))
+      record {
+        number = number;
+        mine = mine;
+        pending = record { command = Some (Get key); length = length earlier };
+        in_call = refl;
+        command_is = refl;
+        stamp_is = refl;
+        resolved = (between_behind v number s mine none log lawful all_later).resolved;
+        stand = its_calls.stand;
+        seen = earlier;
+        goes_on = later-goes_on later;
+        length_is = refl;
+        fresh = its_fresh earlier same_log;
+      }

@@ -1,0 +1,240 @@
+-- A find from its beginning to its end, in the words of its steps. Serves `find`.
+use Rattle.std.proofs.Common.{◌≡◌, ℕ, ◌+◌, ◌≤◌, Option, Some, None, List, [], ◌∷◌, ◌++◌, refl, sym, ap, ap₂, ◌∙◌, subst, arith}
+use Rattle.std.specs.List.{sum_by}
+use Rattle.std.specs.FinMap as fin
+use Rattle.ist_core.specs.declared.calls.Call.{Call}
+use Rattle.ist_core.specs.declared.commands.Command.TheVariants.{Get}
+use Rattle.ist_core.specs.declared.pairs.Pair.{Pair}
+use Rattle.ist_core.specs.Logs.{Log, GoesOn}
+use Rattle.ist_core.specs.Lawful.{Lawful, state_of}
+use Rattle.ist_core.specs.Standing.{IsFresh}
+use Rattle.ist_core.proofs.FateLemmas.{grow_between}
+use Rattle.ist_walks.specs.Walking.{IsChainOf}
+use Rattle.ist_histories.specs.Calls.{HasCalls}
+use Rattle.ist_histories.specs.Searching.{HasPosition}
+use Rattle.ist_histories.proofs.WovenLemmas.{learnt_first}
+use Rattle.ist_rule.specs.declared.view.View.{View}
+use Rattle.ist_rule.specs.declared.view.Loads.{Loads}
+use Rattle.ist_rule.specs.declared.view.Who.{Who}
+use Rattle.ist_rule.specs.declared.view.Who.TheVariants.{Caller as CallerOf}
+use Rattle.ist_rule.specs.Authors.{Later}
+use Rattle.ist_rule.specs.Faces.{SeatFace}
+use Rattle.ist_rule.specs.Rule.{IsSound}
+use Rattle.ist_rule.specs.Learning.{Turned, beginning, ending}
+use Rattle.ist_rule.specs.Conditions.{CanBegin, CanEnd}
+use Rattle.ist_rule.proofs.LaterLemmas.{later-goes_on, later_more}
+use Rattle.ist_rows.specs.declared.callers.Caller.{Caller}
+use Rattle.ist_find.specs.Searches.{HasSearched, HasFewLoads}
+use Rattle.ist_tree.specs.Faces.{PassFace}
+use Rattle.ist_tree.specs.Calls.{HasSeenMore, AddsCall, row_loads, HasLoadedFew}
+use Rattle.ist_tree.specs.Insides.{face_as, pass_face, IsPass}
+use Rattle.ist_tree.proofs.BetweenLemmas.{has_its_calls}
+use Rattle.ist_tree.proofs.GoingLemmas.{IsLaterView, lawful_behind, pass_later}
+use Rattle.ist_tree.proofs.LoadingLemmas.{chain_on, costs_rise}
+use Rattle.ist_tree.proofs.PositionLemmas.{found_call}
+use Rattle.ist_tree.proofs.FindingLemmas.{changes_rise, map_at_on, searched_view, get_call, its_fresh, may_end, found_is}
+
+-- a caller in no call may begin one
+pub may_begin : (who : Caller) → IsPass who → CanBegin who.seat.view
+may_begin who p = record { number = who.number; mine = p.caller.mine; in_none = p.in_none }
+
+-- a position in a log is one in a log that goes on, and for an earlier beginning
+position_later : (pairs : List Pair) (words : ℕ) (seen began log longer : Log) (key : ℕ)
+    (value : Option ℕ) → GoesOn seen began → GoesOn log longer
+    → HasPosition pairs words began log key value → HasPosition pairs words seen longer key value
+position_later pairs words seen began log longer key value g on h =
+    let less = changes_rise pairs words seen began g in
+    let more = changes_rise pairs words log longer on in
+    let from = h.from in
+    let to = h.to in
+    record {
+      position = h.position;
+      from = omega arith;
+      to = omega arith;
+      value_is = h.value_is ∙ ap (λ m. fin.get m key) (sym (map_at_on pairs words log longer
+          h.position on h.to));
+    }
+
+-- what a find comes to, for a pass that contracts saw so
+pub record FindEnds (old : PassFace) (who : Caller) (seat : SeatFace) (key : ℕ)
+    (value : Option ℕ) : Type 0 where
+  pub pass : IsPass (record who { seat = seat })
+  pub seen : HasSeenMore old (face_as seat who.number)
+  pub added : AddsCall old (face_as seat who.number) (Get key) value
+  pub position : HasPosition old.tree.start old.tree.words old.seen seat.view.log key value
+  pub loads : HasLoadedFew old (face_as seat who.number) key
+
+-- the view behind a find
+abbrev pub ended_view : View → Log → Log → Call → Loads → ℕ → View
+ended_view v log last call loads loaded =
+    record v {
+      log = last;
+      calls = v.calls ++ call ∷ [];
+      stamp = v.stamp + 1;
+      loads = loads;
+      loaded = loaded;
+      pending = None;
+    }
+
+-- the seat began a get and searched
+module _ (who : Caller) (key : ℕ) (value : Option ℕ) (b w : View) (s : IsSound who.seat.view)
+    (p : IsPass who) (begun : Turned who.seat.view (beginning who.seat.view (Some (Get key))) b)
+    (seen : HasSearched b w) (has : HasPosition w.start w.words b.log w.log key value) where
+  abbrev v : View
+  v = who.seat.view
+
+  -- what became of its view
+  w_is : w ≡ searched_view v key b.log w.log w.loads w.loaded
+  w_is =
+      seen.same ∙ ap (λ (y : View). record y { log = w.log; loads = w.loads; loaded = w.loaded })
+      begun.view
+
+  before : Later (CallerOf who.number) v.log b.log
+  before = subst (λ x. Later x v.log b.log) p.caller.mine begun.later
+
+  b_who : b.who ≡ CallerOf who.number
+  b_who = ap (λ (y : View). y.who) begun.view ∙ p.caller.mine
+
+  later : Later (CallerOf who.number) b.log w.log
+  later = subst (λ x. Later x b.log w.log) b_who seen.later
+
+  lawful : Lawful v.start v.words w.log
+  lawful = subst (λ (y : View). Lawful y.start y.words w.log) w_is seen.sound.lawful
+
+  its_position : HasPosition v.start v.words b.log w.log key value
+  its_position =
+      subst (λ (y : View). HasPosition y.start y.words b.log w.log key value) w_is has
+
+  abbrev call : Call
+  call = get_call v key b.log w.log value
+
+  call_is : found_call w value ≡ call
+  call_is =
+      ap (λ (y : View). found_call y value) w_is
+      ∙ found_is v who.number key s p.caller.mine p.in_none b.log w.log before later lawful value
+      its_position w.loads w.loaded
+
+  -- it may end its call
+  pub can_end : CanEnd w (found_call w value)
+  can_end =
+      subst (λ y. CanEnd y (found_call y value)) (sym w_is)
+      (may_end v who.number key s p.caller.mine p.in_none b.log w.log before later lawful value
+      its_position w.loads w.loaded)
+
+  fresh : IsFresh v.start v.words v.log v.stamp call
+  fresh =
+      its_fresh v who.number key s p.caller.mine p.in_none b.log w.log before later lawful value
+      its_position v.log (later-goes_on before)
+
+  -- and ended it
+  module _ (seat : SeatFace) (same_table : seat.table ≡ who.seat.table)
+      (ended : Turned w (ending w (found_call w value)) seat.view) where
+    abbrev x : View
+    x = seat.view
+
+    x_is : x ≡ ended_view v w.log x.log call w.loads (w.loaded + 1)
+    x_is =
+        ended.view
+        ∙ ap₂ (λ (y : View) (c : Call). ending y c x.log) w_is call_is
+
+    all_later : Later (CallerOf who.number) v.log x.log
+    all_later =
+        later_more (later_more before later)
+        (subst (λ (a : Who). Later a w.log x.log)
+        (ap (λ (y : View). y.who) w_is ∙ p.caller.mine) ended.later)
+
+    pub later_view : IsLaterView v x
+    later_view =
+        record {
+          who_is = ap (λ (y : View). y.who) x_is;
+          start_is = ap (λ (y : View). y.start) x_is;
+          words_is = ap (λ (y : View). y.words) x_is;
+          later = subst (λ a. Later a v.log x.log) (sym p.caller.mine) all_later;
+          sound = ended.sound;
+        }
+
+    -- it is a pass still
+    pub ended_pass : IsPass (record who { seat = seat })
+    ended_pass = pass_later who seat p later_view (ap (λ (y : View). y.pending) x_is)
+
+    -- which has seen more
+    pub has_seen_more : HasSeenMore (pass_face who) (face_as seat who.number)
+    has_seen_more =
+        record {
+          tree = tree_same;
+          number = refl;
+          seen = later-goes_on all_later;
+          stamp = let up = ap (λ (y : View). y.stamp) x_is in omega arith;
+        }
+      where
+        tree_same : (face_as seat who.number).tree ≡ (pass_face who).tree
+        tree_same = ap₂ (λ t (y : View). record { table = t; start = y.start; words = y.words })
+            same_table x_is
+
+    its_calls_now : HasCalls v.start v.words x.log who.number (v.stamp + 1) (v.calls ++ call ∷ [])
+    its_calls_now =
+        subst (λ (y : View). HasCalls y.start y.words x.log who.number y.stamp y.calls) x_is
+        (has_its_calls x who.number ended.sound (later_view.who_is ∙ p.caller.mine)
+        (ap (λ (y : View). y.pending) x_is))
+
+    -- and has one call more
+    pub adds_call : AddsCall (pass_face who) (face_as seat who.number) (Get key) value
+    adds_call =
+        record {
+          call = call;
+          command_is = refl;
+          reply_is = refl;
+          stamp_is = sym (ap (λ (y : View). y.stamp) x_is);
+          calls_are = ap (λ (y : View). y.calls) x_is;
+          added = record { has_calls = its_calls_now; fresh = fresh };
+          learnt = λ other l h. learnt_first v.start v.words other.seen v.log other.number other.stamp
+              v.stamp other.calls call
+              (subst (λ t. HasCalls t.start t.words other.seen other.number other.stamp other.calls)
+              l.tree h) l.seen l.stamp fresh;
+        }
+
+    -- the reply is that of the map at a position that is no lower than what the pass had seen
+    pub has_position : HasPosition v.start v.words v.log x.log key value
+    has_position =
+        position_later v.start v.words v.log b.log w.log x.log key value (later-goes_on before)
+        (later-goes_on (subst (λ (a : Who). Later a w.log x.log)
+        (ap (λ (y : View). y.who) w_is ∙ p.caller.mine) ended.later)) its_position
+
+    longer : GoesOn w.log x.log
+    longer =
+        later-goes_on (subst (λ (a : Who). Later a w.log x.log)
+        (ap (λ (y : View). y.who) w_is ∙ p.caller.mine) ended.later)
+
+    -- and few loads were made
+    pub has_loaded_few : (node : ℕ) → HasFewLoads b w key node
+        → HasLoadedFew (pass_face who) (face_as seat who.number) key
+    has_loaded_few node few =
+        let now_lawful = lawful_behind v x later_view in
+        let chain = subst (λ (y : View). IsChainOf y.start y.words w.log node few.rows) w_is few.chain
+        in
+        let cost = subst (λ (y : View). w.loaded ≤ b.loaded + 10
+        + sum_by (row_loads (state_of y.start y.words w.log) key) few.rows) w_is few.few in
+        let rise = costs_rise (state_of v.start v.words w.log) (state_of v.start v.words x.log)
+        (grow_between v.start v.words w.log x.log now_lawful.enabled longer) key few.rows in
+        let first = ap (λ (y : View). y.loaded) begun.view in
+        subst (λ (y : View). HasLoadedFew (pass_face who)
+        (face_as record { table = seat.table; view = y } who.number) key) (sym x_is)
+        record {
+          node = node;
+          rows = few.rows;
+          chain = chain_on v.start v.words w.log x.log now_lawful longer node few.rows chain;
+          few = omega arith;
+        }
+
+    -- all of this together, for a pass that contracts saw so
+    pub find_ends : (old : PassFace) → pass_face who ≡ old → (node : ℕ) → HasFewLoads b w key node
+        → FindEnds old who seat key value
+    find_ends old view node few =
+        subst (λ (o : PassFace). FindEnds o who seat key value) view
+        record {
+          pass = ended_pass;
+          seen = has_seen_more;
+          added = adds_call;
+          position = has_position;
+          loads = has_loaded_few node few;
+        }

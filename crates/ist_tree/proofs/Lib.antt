@@ -1,0 +1,10 @@
+pub mod BetweenLemmas
+pub mod GoingLemmas
+pub mod LoadingLemmas
+pub mod PositionLemmas
+pub mod FindingLemmas
+pub mod FoundLemmas
+pub mod TokenLemmas
+pub mod MeetingLemmas
+pub mod TakenLemmas
+pub mod ClosingLemmas

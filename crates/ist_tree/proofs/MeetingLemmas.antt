@@ -1,0 +1,129 @@
+-- A pass meets a note. Serves `meet`.
+use Rattle.std.proofs.Common.{◌≡◌, ℕ, max, [], ◌∷◌, None, refl, sym, ap, ap₂, ◌∙◌, subst, arith}
+use Rattle.ist_core.specs.Logs.{same_log}
+use Rattle.ist_core.specs.Lawful.{Lawful}
+use Rattle.ist_core.specs.Standing.{StandsIn}
+use Rattle.ist_core.specs.Histories.{StandInPrefixes}
+use Rattle.ist_histories.specs.Calls.{HasCalls}
+use Rattle.ist_histories.proofs.ContentLemmas.{told_at}
+use Rattle.ist_histories.proofs.WovenLemmas.{woven_legal}
+use Rattle.ist_histories.proofs.PlacedLemmas.{has_places}
+use Rattle.ist_rule.specs.declared.view.View.{View}
+use Rattle.ist_rule.specs.Authors.{Later}
+use Rattle.ist_rule.specs.Faces.{SeatFace}
+use Rattle.ist_rule.specs.Learning.{Looked, seeing}
+use Rattle.ist_rule.specs.Seating.{joined}
+use Rattle.ist_rule.proofs.LaterLemmas.{later-goes_on}
+use Rattle.ist_rows.specs.declared.callers.Caller.{Caller}
+use Rattle.ist_tree.specs.Faces.{TreeFace, PassFace, calls_in, HasItsCalls}
+use Rattle.ist_tree.specs.Calls.{HasSeenMore, HasLearnt, WeavesWith}
+use Rattle.ist_tree.specs.Insides.{tree_of, face_as, pass_face, note_face, noted_number, IsPass, IsNote}
+use Rattle.ist_tree.proofs.BetweenLemmas.{has_its_calls}
+use Rattle.ist_tree.proofs.GoingLemmas.{IsLaterView, pass_later}
+
+-- what a meeting comes to, for a pass and a note that contracts saw so
+pub record MeetEnds (old note : PassFace) (who : Caller) (seat : SeatFace) : Type 0 where
+  pub pass : IsPass (record who { seat = seat })
+  pub seen : HasSeenMore old (face_as seat who.number)
+  pub calls : seat.view.calls ≡ old.calls
+  pub learnt : HasLearnt (face_as seat who.number) note
+  pub woven : WeavesWith (face_as seat who.number) note
+
+-- two passes of one tree of which each has its calls are woven where one has seen what the other had
+weaves : (p other : PassFace) → Lawful p.tree.start p.tree.words p.seen → HasItsCalls p
+    → HasItsCalls other → HasLearnt p other → WeavesWith p other
+weaves p other lawful mine theirs learnt =
+    record {
+      mine = mine;
+      theirs = theirs;
+      legal = woven_legal p.tree.start p.tree.words p.seen (calls_in p ∷ calls_in other ∷ [])
+          (told_at p.tree.start p.tree.words lawful.opens p.seen lawful.enabled).legal prefixes;
+      places = has_places p.tree.start p.tree.words p.seen (calls_in p ∷ calls_in other ∷ []) prefixes;
+    }
+  where
+    prefixes : StandInPrefixes p.tree.start p.tree.words p.seen (calls_in p ∷ calls_in other ∷ [])
+    prefixes = (
+      (p.seen, same_log, mine.stand),
+      (
+        (
+          other.seen,
+          learnt.seen,
+          subst (λ (t : TreeFace).
+              StandsIn t.start t.words other.seen other.number other.calls) learnt.tree theirs.stand,
+        ),
+        tt,
+      ),
+    )
+
+-- the seat took in a note
+module _ (who : Caller) (n seat : SeatFace) (p : IsPass who) (note : IsNote n.view) (word : ℕ)
+    (same_table : seat.table ≡ who.seat.table)
+    (l : Looked (joined who.seat.view n.view) 0 word seat.view)
+    (later : Later who.seat.view.who who.seat.view.log seat.view.log)
+    (other_later : Later n.view.who n.view.log seat.view.log)
+    (one_tree : tree_of n ≡ tree_of who.seat) where
+  abbrev v : View
+  v = who.seat.view
+
+  abbrev x : View
+  x = seat.view
+
+  x_is : x ≡ seeing (joined v n.view) x.log 0 word
+  x_is = l.view
+
+  later_view : IsLaterView v x
+  later_view =
+      record {
+        who_is = ap (λ (y : View). y.who) x_is;
+        start_is = ap (λ (y : View). y.start) x_is;
+        words_is = ap (λ (y : View). y.words) x_is;
+        later = later;
+        sound = l.sound;
+      }
+
+  tree_same : tree_of seat ≡ tree_of who.seat
+  tree_same =
+      ap₂ (λ t (y : View). record { table = t; start = y.start; words = y.words }) same_table x_is
+
+  none : x.pending ≡ None
+  none = ap (λ (y : View). y.pending) x_is ∙ p.in_none
+
+  learns : HasLearnt (face_as seat who.number) (note_face n)
+  learns =
+      let up : x.stamp ≡ max v.stamp n.view.stamp = ap (λ (y : View). y.stamp) x_is in
+      record {
+        tree = one_tree ∙ sym tree_same;
+        seen = later-goes_on other_later;
+        stamp = omega arith;
+      }
+
+  mine : HasItsCalls (face_as seat who.number)
+  mine = has_its_calls x who.number l.sound (later_view.who_is ∙ p.caller.mine) none
+
+  theirs : HasItsCalls (note_face n)
+  theirs =
+      subst (λ number. HasCalls n.view.start n.view.words n.view.log number n.view.stamp n.view.calls)
+      (sym (ap noted_number note.of_pass)) note.calls
+
+  meet_here : MeetEnds (pass_face who) (note_face n) who seat
+  meet_here =
+      let up : x.stamp ≡ max v.stamp n.view.stamp = ap (λ (y : View). y.stamp) x_is in
+      record {
+        pass = pass_later who seat p later_view none;
+        seen = record {
+          tree = tree_same;
+          number = refl;
+          seen = later-goes_on later;
+          stamp = omega arith;
+        };
+        calls = ap (λ (y : View). y.calls) x_is;
+        learnt = learns;
+        woven = weaves (face_as seat who.number) (note_face n) l.sound.lawful mine theirs learns;
+      }
+
+  -- all of this together
+  pub meet_ends : (old other : PassFace) → pass_face who ≡ old → note_face n ≡ other
+      → MeetEnds old other who seat
+  meet_ends old other as_old as_other =
+      subst (λ (o : PassFace). MeetEnds o other who seat) as_old
+      (subst (λ (o : PassFace). MeetEnds (pass_face who) o who seat) as_other meet_here)

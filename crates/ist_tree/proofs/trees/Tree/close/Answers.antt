@@ -1,0 +1,21 @@
+-- The last words are those of a table whose maker took all passes back.
+use Rattle.std.proofs.Common.{◌≡◌, subst, sym, length}
+use Rattle.ist_tree.specs.Faces.{MakerFace}
+use Rattle.ist_tree.specs.Closing.{ClosesWith}
+use Rattle.ist_tree.proofs.ClosingLemmas.{closes_with}
+use Rattle.ist_tree.proofs.trees.Tree.close.Goals as goal
+
+pub new-requires-clause-stands : goal.new-requires-clause-stands
+new-requires-clause-stands c =
+    let back = subst (λ (m : MakerFace). length m.taken ≡ m.made) (sym c.maker.view_is)
+    c.requires.all_back in
+    let it = closes_with c.maker.inside.seat _ c.maker.invariant back c.close.ensures.words in
+    (_, _, it.stands)
+
+pub returns-clause-stands : goal.returns-clause-stands
+returns-clause-stands c =
+    let back = subst (λ (m : MakerFace). length m.taken ≡ m.made) (sym c.maker.view_is)
+    c.requires.all_back in
+    subst (λ (m : MakerFace). ClosesWith m c.new.result) c.maker.view_is
+    (subst (ClosesWith _) (sym c.new.ensures.value)
+    (closes_with c.maker.inside.seat _ c.maker.invariant back c.close.ensures.words))

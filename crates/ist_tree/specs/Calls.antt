@@ -1,0 +1,83 @@
+-- How a pass goes on: what it has seen and learnt, which call it was answered, how its calls are
+-- woven with those of another.
+use Rattle.std.specs.Prelude.{◌≡◌, ℕ, ◌+◌, ◌≤◌, List, [], ◌∷◌, ◌++◌, Option}
+use Rattle.std.specs.List.{sum_by}
+use Rattle.ist_core.specs.declared.calls.Call.{Call}
+use Rattle.ist_core.specs.declared.commands.Command.{Command}
+use Rattle.ist_core.specs.Arithmetic.{child_count}
+use Rattle.ist_core.specs.Map.{map_of}
+use Rattle.ist_core.specs.Elements.{Each}
+use Rattle.ist_core.specs.Pieces.{as_inner}
+use Rattle.ist_core.specs.Snapshots.{Snapshot}
+use Rattle.ist_core.specs.Logs.{GoesOn}
+use Rattle.ist_core.specs.Lawful.{state_of}
+use Rattle.ist_core.specs.Standing.{Follows}
+use Rattle.ist_core.specs.Histories.{woven, IsLegal}
+use Rattle.ist_math.specs.Guess.{guess_in, distance}
+use Rattle.ist_histories.specs.Calls.{IsAdded}
+use Rattle.ist_histories.specs.Placing.{HasPlaces}
+use Rattle.ist_walks.specs.Walking.{IsChainOf}
+use Rattle.ist_find.specs.Searches.{keys_in}
+use Rattle.ist_tree.specs.Faces.{PassFace, changes_seen, calls_in, HasItsCalls}
+
+-- ---- seeing and learning
+
+-- the pass is the one that it was, on its tree; it has seen what it had seen, and perhaps more; and
+-- its stamp didn't fall
+pub record HasSeenMore (p q : PassFace) : Type 0 where
+  pub tree : q.tree ≡ p.tree
+  pub number : q.number ≡ p.number
+  pub seen : GoesOn p.seen q.seen
+  pub stamp : p.stamp ≤ q.stamp
+
+-- the pass has learnt what another knew: it has seen all that the other had seen, and its stamp is
+-- no lower
+pub record HasLearnt (p other : PassFace) : Type 0 where
+  pub tree : other.tree ≡ p.tree
+  pub seen : GoesOn other.seen p.seen
+  pub stamp : other.stamp ≤ p.stamp
+
+-- ---- one call more
+
+-- the pass was answered one call more, with this command and this reply. It stands behind its
+-- earlier calls among the changes that the pass has seen, and is fresh: at a position behind all
+-- changes that the pass had seen before, and with a higher stamp. So it comes after each call that
+-- the pass had learnt of
+pub record AddsCall (p q : PassFace) (command : Command) (reply : Option ℕ) : Type 0 where
+  pub call : Call
+  pub command_is : call.command ≡ command
+  pub reply_is : call.reply ≡ reply
+  pub stamp_is : call.stamp ≡ q.stamp
+  pub calls_are : q.calls ≡ p.calls ++ call ∷ []
+  pub added : IsAdded p.tree.start p.tree.words p.seen q.seen p.number p.stamp p.calls call
+  pub learnt : (other : PassFace) → HasLearnt p other → HasItsCalls other
+      → Each (λ known. Follows known call) other.calls
+
+-- ---- weaving
+
+-- the calls of each of both passes stand by themselves, and together they are woven into one legal
+-- history, among the changes that the first has seen: each change once, and each other call of theirs
+-- once, in order of position and stamp
+pub record WeavesWith (p other : PassFace) : Type 0 where
+  pub mine : HasItsCalls p
+  pub theirs : HasItsCalls other
+  pub legal : IsLegal (map_of p.tree.start)
+      (woven (changes_seen p) (calls_in p ∷ calls_in other ∷ []))
+  pub places : HasPlaces (changes_seen p) (calls_in p ∷ calls_in other ∷ [])
+
+-- ---- loads
+
+-- how many loads an inner row costs a search for the key: as many as the guess lies off the child
+-- for the key, and 12
+abbrev pub row_loads : Snapshot → ℕ → ℕ → ℕ
+row_loads t key row =
+    let keys = keys_in (as_inner (t.pieces row)) in
+    distance (guess_in keys key) (child_count keys key) + 12
+
+-- the pass made few loads: 12 at most, and what the rows on the chain of one node cost
+pub record HasLoadedFew (p q : PassFace) (key : ℕ) : Type 0 where
+  pub node : ℕ
+  pub rows : List ℕ
+  pub chain : IsChainOf q.tree.start q.tree.words q.seen node rows
+  pub few : let t = state_of q.tree.start q.tree.words q.seen in
+      q.loaded ≤ p.loaded + 12 + sum_by (row_loads t key) rows

@@ -1,0 +1,40 @@
+-- A tree that is closed: what its words stand for.
+use Rattle.std.specs.Prelude.{◌≡◌, ℕ, ◌+◌, ◌<◌, ◌==◌, if◌then◌else◌, List, [], ◌∷◌, map, length, zero, suc}
+use Rattle.ist_core.specs.declared.calls.Call.{Call}
+use Rattle.ist_core.specs.Elements.{Each}
+use Rattle.ist_core.specs.Logs.{GoesOn}
+use Rattle.ist_core.specs.Changes.{changes_of}
+use Rattle.ist_core.specs.Histories.{PassCalls}
+use Rattle.ist_core.specs.Replies.{Answered}
+use Rattle.ist_core.specs.Resting.{StandsFor, told_by_call}
+use Rattle.ist_tree.specs.Faces.{MakerFace}
+
+-- the calls of the pass with this number, if it is one of these
+abbrev pub calls_numbered : ℕ → List PassCalls → List Call
+calls_numbered number [] = []
+calls_numbered number (pass ∷ more) =
+    if pass.number == number then pass.calls else calls_numbered number more
+
+-- the calls of so many passes, with the numbers from this one on
+abbrev pub calls_from : ℕ → ℕ → List PassCalls → List (List Call)
+calls_from number zero taken = []
+calls_from number (suc count) taken =
+    calls_numbered number taken ∷ calls_from (number + 1) count taken
+
+-- the calls of all passes of a maker that took all of them back, by their numbers
+abbrev pub calls_taken : MakerFace → List (List Call)
+calls_taken m = calls_from 0 m.made m.taken
+
+-- what each of them was asked and answered
+abbrev pub told_to : MakerFace → List (List Answered)
+told_to m = map (map told_by_call) (calls_taken m)
+
+-- the words stand for the opening pairs and the calls of each pass by its number; and the changes of
+-- the final log, which goes on from what the maker had seen, are the changing calls of these passes
+-- and no others
+pub record ClosesWith (m : MakerFace) (words : List ℕ) : Type 0 where
+  pub stands : StandsFor words m.tree.start (told_to m)
+  pub calls_are : stands.calls ≡ calls_taken m
+  pub goes_on : GoesOn m.seen stands.log
+  pub owners : Each (λ entry. entry.owner < m.made)
+      (changes_of m.tree.start (length words) stands.log)

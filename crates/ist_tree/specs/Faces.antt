@@ -1,0 +1,50 @@
+-- A tree, its passes, notes and maker, as contracts see them.
+use Rattle.std.specs.Prelude.{ℕ, List}
+use Rattle.atomic_table.specs.Seated.{TableId}
+use Rattle.ist_core.specs.declared.calls.Call.{Call}
+use Rattle.ist_core.specs.declared.pairs.Pair.{Pair}
+use Rattle.ist_core.specs.Logs.{Log}
+use Rattle.ist_core.specs.Changes.{Entry, changes_of}
+use Rattle.ist_core.specs.Histories.{PassCalls}
+use Rattle.ist_histories.specs.Calls.{HasCalls}
+
+-- a tree: which one it is, the pairs that it was opened with, and how many words it has
+pub record TreeFace : Type 0 where
+  pub table : TableId
+  pub start : List Pair
+  pub words : ℕ
+
+-- a pass, or what a note keeps of one: its tree and its number, the log that it has seen, its stamp,
+-- and the calls that it was answered, the oldest first. `loaded` counts its loads
+pub record PassFace : Type 0 where
+  pub tree : TreeFace
+  pub number : ℕ
+  pub seen : Log
+  pub stamp : ℕ
+  pub calls : List Call
+  pub loaded : ℕ
+
+-- a maker: its tree, how many passes it made, the log that it has seen, its stamp, and the passes
+-- that it took back, the last first
+pub record MakerFace : Type 0 where
+  pub tree : TreeFace
+  pub made : ℕ
+  pub seen : Log
+  pub stamp : ℕ
+  pub taken : List PassCalls
+
+-- the changes of the map that a pass has seen, the oldest first
+abbrev pub changes_seen : PassFace → List Entry
+changes_seen p = changes_of p.tree.start p.tree.words p.seen
+
+-- a pass as one whose calls are woven with those of others
+abbrev pub calls_in : PassFace → PassCalls
+calls_in p = record { number = p.number; calls = p.calls }
+
+-- the calls of a pass stand among the changes that it has seen, and none has a stamp above its own
+abbrev pub HasItsCalls : PassFace → Type 0
+HasItsCalls p = HasCalls p.tree.start p.tree.words p.seen p.number p.stamp p.calls
+
+-- what a note of a pass keeps: all that the pass knew, but none of its loads
+abbrev pub noted : PassFace → PassFace
+noted p = record p { loaded = 0 }

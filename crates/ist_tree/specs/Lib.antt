@@ -1,0 +1,7 @@
+-- what the public contracts rest on, in the order to read them
+pub mod Faces
+pub mod Opening
+pub mod Calls
+pub mod Closing
+-- what the tokens of a tree are inside
+pub mod Insides
