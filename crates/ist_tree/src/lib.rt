@@ -11,3 +11,6 @@ mod trees;
 pub use faults::OpenFault;
 pub use passes::{Maker, Note, Pass};
 pub use trees::Tree;
+
+#[cfg(test)]
+mod tests;
