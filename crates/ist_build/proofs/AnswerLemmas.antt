@@ -44,11 +44,11 @@ leaf_number (leaf ∷ leaves) (suc i) base e =
 -- ---- going on
 
 -- a seat that built went on by events of builds
-pub built_went : (v w : View) → IsSound v → BuiltOn v w → WentOn Builds v w
-built_went v w s b = laid_went Builds v w (built_put v w b) s
+pub built_went : (v w : View) → BuiltOn v w → WentOn Builds v w
+built_went v w b = laid_went Builds v w (built_put v w b)
 
-pub put_went : (v w : View) → IsSound v → PutOn v w → WentOn Builds v w
-put_went v w s b = laid_went Builds v w b s
+pub put_went : (v w : View) → PutOn v w → WentOn Builds v w
+put_went v w b = laid_went Builds v w b
 
 -- ---- references
 
@@ -82,31 +82,33 @@ root_as t rebuild word ref h is =
 -- ---- refusals
 
 -- a build that was refused
-pub short_out : (v w : View) (words keys : ℕ) (full : Full) → IsSound v → IsShort v words keys full w
+pub short_out : (v w : View) (words keys : ℕ) (full : Full) → IsShort v words keys full w
     → IsOutOfWords v words keys full w
-short_out v w words keys full s h =
+short_out v w words keys full h =
     record {
       before = h.before;
-      seen = built_went v h.before s h.seen;
+      seen = built_went v h.before h.seen;
       looked = h.looked;
       some = h.some;
+      several = h.several;
       few = h.few;
       asked = h.asked;
       words_is = h.words_is;
       small = h.small;
     }
 
-pub stopped_out : (v w : View) (rebuild words : ℕ) (full : Full) → IsSound v
+pub stopped_out : (v w : View) (rebuild words : ℕ) (full : Full)
     → IsStopped v rebuild words full w → RebuildIsShort v rebuild words full w
-stopped_out v w rebuild words full s h =
+stopped_out v w rebuild words full h =
     record {
       k = h.k;
       told = h.told;
       out = record {
         before = h.before;
-        seen = put_went v h.before s h.seen;
+        seen = put_went v h.before h.seen;
         looked = h.looked;
         some = h.some;
+        several = h.several;
         few = h.few;
         asked = h.asked;
         words_is = h.words_is;

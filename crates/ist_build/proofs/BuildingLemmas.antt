@@ -110,9 +110,9 @@ next_row who n two h =
     }
 
 -- for which too few words are left
-pub row_short : (v : View) (words n d : ℕ) (full : Full) (w : View) → d ≡ degree n
+pub row_short : (v : View) (words n d : ℕ) (full : Full) (w : View) → 2 ≤ n → d ≡ degree n
     → IsFull v words (inner_words d) full w → IsShort v words n full w
-row_short v words n d full w same f =
+row_short v words n d full w two same f =
     let asked = f.asked in
     let small = f.small in
     record {
@@ -120,6 +120,7 @@ row_short v words n d full w same f =
       seen = loads_built v f.before f.seen;
       looked = f.looked;
       some = n;
+      several = two;
       few = omega arith;
       asked = f.asked ∙ ap inner_words same;
       words_is = f.words_is;
@@ -224,6 +225,7 @@ module _ (old who : Caller) (leaves : List ℕ) (base d j : ℕ) (m : IsMidway o
         seen = built_more old.seat.view who.seat.view h.before m.built h.seen;
         looked = h.looked;
         some = h.some;
+        several = h.several;
         few = omega arith;
         asked = h.asked;
         words_is = h.words_is;

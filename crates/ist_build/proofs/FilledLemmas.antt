@@ -205,6 +205,7 @@ err_stopped_on u v w rebuild words k told a full h =
       seen = put_more u v h.before a h.seen;
       looked = h.looked;
       some = h.some;
+      several = h.several;
       few = h.few;
       asked = h.asked;
       words_is = h.words_is;

@@ -15,7 +15,7 @@ use Rattle.ist_core.proofs.SpendingLemmas.{next-state}
 use Rattle.ist_rule.specs.declared.view.View.{View}
 use Rattle.ist_rule.specs.declared.view.Who.{Who}
 use Rattle.ist_rule.specs.Authors.{LaterBy}
-use Rattle.ist_rule.specs.Going.{WentOn}
+use Rattle.ist_rule.specs.Going.{WentOn, KeepsWords}
 use Rattle.ist_rule.specs.Rule.{IsSound, own_at}
 use Rattle.ist_rule.specs.Learning.{now, made_behind, logging, logging_load, GoesOnTo, Logged, LoggedLoad}
 use Rattle.ist_rule.proofs.WentOnLemmas.{later_by, later_by_all, later_by_more, later_by-goes_on}
@@ -55,20 +55,17 @@ module _ (P : Event → Type 0) (v w : View) (b : LaidOn P v w) where
       subst (λ t. (now v).next ≤ t.next) (sym laid_now)
       (next_between v.start v.words v.who P v.log w.log laid_lawful.enabled b.later)
 
-  -- it went on by these events: the rows that the caller had keep their words
-  pub laid_went : IsSound v → WentOn P v w
-  laid_went s =
-      record {
-        later = b.later;
-        sound = b.sound;
-        same = b.same;
-        kept = λ h mine before after k less.
-            let inside = claimed_within v.start v.words v.log h.base h.size s.lawful.enabled
-            ((placed v.start v.words v.log s.lawful.enabled).held h before) in
-            let high = inside.below_next in
-            b.own (h.base + k) (omega arith);
-        loaded = b.loaded;
-      }
+  -- it went on by these events
+  pub laid_went : WentOn P v w
+  laid_went = record { later = b.later; sound = b.sound; same = b.same; loaded = b.loaded }
+
+  -- and the rows that the caller had keep their words
+  pub laid_words : IsSound v → KeepsWords v w
+  laid_words s h mine before after k less =
+      let inside = claimed_within v.start v.words v.log h.base h.size s.lawful.enabled
+      ((placed v.start v.words v.log s.lawful.enabled).held h before) in
+      let high = inside.below_next in
+      b.own (h.base + k) (omega arith)
 
 -- nothing was done
 pub laid_same : (P : Event → Type 0) (v : View) → IsSound v → LaidOn P v v

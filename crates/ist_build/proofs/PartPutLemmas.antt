@@ -447,6 +447,7 @@ err_shorter u v g words len k full w le h =
       seen = built_more u v h.before (loads_built u v g) h.seen;
       looked = h.looked;
       some = h.some;
+      several = h.several;
       few = omega arith;
       asked = h.asked;
       words_is = h.words_is;

@@ -56,6 +56,7 @@ short_stopped u v w rebuild words k full told a h =
       seen = put_more u v h.before a (built_put v h.before h.seen);
       looked = h.looked;
       some = h.some;
+      several = h.several;
       few = h.few;
       asked = h.asked;
       words_is = h.words_is;

@@ -132,6 +132,7 @@ short_on v w g words keys full x h =
       seen = built_more v w h.before (loads_built v w g) h.seen;
       looked = h.looked;
       some = h.some;
+      several = h.several;
       few = h.few;
       asked = h.asked;
       words_is = h.words_is;

@@ -123,6 +123,7 @@ pub record IsShort (v : View) (words keys : ℕ) (full : Full) (w : View) : Type
   pub seen : BuiltOn v before
   pub looked : Looked before next_place full.next w
   pub some : ℕ
+  pub several : 2 ≤ some
   pub few : some ≤ keys
   pub asked : full.asked ≡ inner_words (degree some)
   pub words_is : full.words ≡ words

@@ -82,6 +82,7 @@ pub record IsStopped (v : View) (rebuild words : ℕ) (full : Full) (w : View) :
   pub seen : PutOn v before
   pub looked : Looked before next_place full.next w
   pub some : ℕ
+  pub several : 2 ≤ some
   pub few : some ≤ k
   pub asked : full.asked ≡ inner_words (degree some)
   pub words_is : full.words ≡ words

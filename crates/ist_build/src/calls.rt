@@ -5,7 +5,7 @@ ghost use Rattle.ist_core.specs.References.{InnerAt, IsGoodRef, ref_of};
 ghost use Rattle.ist_core.specs.Shapes.{shape};
 ghost use Rattle.ist_layout.specs.Meanings.{ref_meant};
 ghost use Rattle.ist_rule.specs.Faces.{word_count_of};
-ghost use Rattle.ist_rule.specs.Going.{WentOn};
+ghost use Rattle.ist_rule.specs.Going.{WentOn, KeepsWords};
 ghost use Rattle.ist_rule.specs.Learning.{now, GoesOnTo};
 ghost use Rattle.ist_rows.specs.Rows.{IsCaller, spares_of};
 ghost use Rattle.ist_rows.specs.Building.{HasRefused, IsInBuild, sizes_built};
@@ -77,6 +77,7 @@ pub fn build_part<R: Wait>(
     ensures number { who.new.number ≡ who.old.number }
     ensures rows { spares_of who.new ≡ spares_of who.old }
     ensures went { WentOn Builds who.old.seat.view who.new.seat.view }
+    ensures words { KeepsWords who.old.seat.view who.new.seat.view }
     ensures laid { IfOk result (λ part. (all : List PlacedLeaf)
         → HasLeaves (now who.old.seat.view).pieces (Some (InnerAt target)) all
         → IsPartLaid who.old who.new (ref_meant part) (take len (drop start all))) }
@@ -114,6 +115,7 @@ pub fn set_root<R: Wait>(
     ensures number { who.new.number ≡ who.old.number }
     ensures rows { spares_of who.new ≡ spares_of who.old }
     ensures went { WentOn Builds who.old.seat.view who.new.seat.view }
+    ensures words { KeepsWords who.old.seat.view who.new.seat.view }
     ensures root { IfOk result (λ root.
         HasRootAs (now who.new.seat.view) rebuild (ref_meant root)) }
     ensures full { IfErr result (λ full.
@@ -149,6 +151,7 @@ pub fn fill_parts<R: Wait>(
     ensures number { who.new.number ≡ who.old.number }
     ensures rows { spares_of who.new ≡ spares_of who.old }
     ensures went { WentOn Builds who.old.seat.view who.new.seat.view }
+    ensures words { KeepsWords who.old.seat.view who.new.seat.view }
     ensures filled { IfOk result (λ done. IsBuiltOut (now who.new.seat.view) rebuild) }
     ensures full { IfErr result (λ full.
         RebuildIsShort who.old.seat.view rebuild (word_count_of table.now) full who.new.seat.view) }

@@ -15,3 +15,4 @@ pub use decisions::{Decision, Installed};
 pub use helping::help;
 pub use installing::install;
 pub use opening::is_open;
+pub use slots::slot_at;

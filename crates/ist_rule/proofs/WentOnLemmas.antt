@@ -1,10 +1,9 @@
 -- Seats that went on by loads, by events of their own and by stores. Serves the crates above.
-use Rattle.std.proofs.Common.{◌≡◌, ◌≢◌, ℕ, ◌+◌, ◌≤◌, ◌∷◌, refl, sym, ap, ap₂, ◌∙◌, subst, inl, inr, ⊎_elim, Some, arith}
+use Rattle.std.proofs.Common.{◌≡◌, ℕ, ◌+◌, ◌∷◌, refl, sym, ap, ap₂, ◌∙◌, subst, inl, inr, ⊎_elim, Some, arith}
 use Rattle.std.proofs.Math.Nat.{le_trans}
 use Rattle.std.proofs.lemmas.Bool.Decides.{eqb_tells}
 use Rattle.ist_core.specs.declared.events.Event.{Event}
 use Rattle.ist_core.specs.Authors.{no_more, one_more}
-use Rattle.ist_core.specs.Elements.{Among}
 use Rattle.ist_core.specs.Growing.{AllGrow}
 use Rattle.ist_core.specs.Logs.{Log, GoesOn, same_log, one_event}
 use Rattle.ist_core.specs.Lawful.{Lawful, state_of}
@@ -12,14 +11,10 @@ use Rattle.ist_core.proofs.FateLemmas.{grow_between}
 use Rattle.ist_rule.specs.declared.view.View.{View}
 use Rattle.ist_rule.specs.declared.view.Who.{Who}
 use Rattle.ist_rule.specs.Authors.{Later, LaterBy}
-use Rattle.ist_rule.specs.Rule.{own_at, IsSound}
+use Rattle.ist_rule.specs.Rule.{IsSound}
 use Rattle.ist_rule.specs.Learning.{now, made_behind, logging, logging_load, GoesOnTo, Looked, Logged, LoggedLoad, Naming, LoadedAs, as_event, as_load, Exchanged, Turned, searching, storing}
-use Rattle.ist_rule.specs.Conditions.{IsOwn}
 use Rattle.ist_rule.specs.Going.{WentOn}
 use Rattle.ist_rule.proofs.GoingOnLemmas.{goes_on_same, looked_goes_on}
-use Rattle.ist_rule.proofs.ShownLemmas.{held_loose}
-use Rattle.ist_rule.proofs.StoreLemmas.{own_else}
-use Rattle.ist_rule.proofs.HeldBetweenLemmas.{held_between}
 
 -- ---- logs
 
@@ -82,7 +77,6 @@ went_all P Q all v w h =
       later = later_by_all all h.later;
       sound = h.sound;
       same = h.same;
-      kept = h.kept;
       loaded = h.loaded;
     }
 
@@ -101,7 +95,6 @@ goes_on_went P v w g =
         loads = w.loads;
         loaded = w.loaded;
       }) (sym own);
-      kept = λ h mine i j k less. ap (λ own. own_at own (h.base + k)) own;
       loaded = g.loaded;
     }
 
@@ -131,7 +124,6 @@ logged_went P v event w l is made =
         loads = x.loads;
         loaded = x.loaded;
       }) (sym l.view) same;
-      kept = λ h mine i j k less. ap (λ x. own_at x.own (h.base + k)) l.view;
       loaded = let is = ap (λ x. x.loaded) l.view in omega arith;
     }
 
@@ -155,7 +147,6 @@ logged_load_went P v event place word w l is made =
         loads = x.loads;
         loaded = x.loaded;
       }) (sym l.view) same;
-      kept = λ h mine i j k less. ap (λ x. own_at x.own (h.base + k)) l.view;
       loaded = let is = ap (λ x. x.loaded) l.view in omega arith;
     }
 
@@ -189,7 +180,6 @@ searching_went P v w t =
         loads = x.loads;
         loaded = x.loaded;
       }) (sym t.view) refl;
-      kept = λ h mine i j k less. ap (λ x. own_at x.own (h.base + k)) t.view;
       loaded = let is = ap (λ x. x.loaded) t.view in omega arith;
     }
 
@@ -217,12 +207,6 @@ went_more P u v w a b =
         loads = w.loads;
         loaded = w.loaded;
       }) a.same;
-      kept = λ h mine i j k less.
-          let between = subst (λ t. Among h t.held) (sym (went_now P u v a))
-          (held_between u.start u.words h u.log v.log w.log lawful.enabled
-          (later_by-goes_on a.later) (later_by-goes_on b.later) i
-          (subst (λ t. Among h t.held) now_is j)) in
-          b.kept h (went_who P u v a ∙ mine) between j k less ∙ a.kept h mine i between k less;
       loaded = le_trans a.loaded b.loaded;
     }
   where
@@ -239,20 +223,13 @@ went_more P u v w a b =
     lawful = subst (λ p. Lawful p u.words w.log) start_is
         (subst (λ n. Lawful w.start n w.log) words_is b.sound.lawful)
 
--- a seat that went on, and then stored a word into a row that it has reserved since, went on
+-- a seat that went on, and then stored a word into a row of its own, went on
 pub storing_went : (P : Event → Type 0) (u v : View) (place word : ℕ) → WentOn P u v
-    → (o : IsOwn v place) → (now u).next ≤ o.row.base → IsSound u → IsSound (storing v place word)
-    → WentOn P u (storing v place word)
-storing_went P u v place word g o high before s =
+    → IsSound (storing v place word) → WentOn P u (storing v place word)
+storing_went P u v place word g s =
     record {
       later = g.later;
       sound = s;
       same = ap {B = View} (λ (x : View). record x { own = (storing v place word).own }) g.same;
-      kept = λ h mine i j k less.
-          let loose = held_loose u.start u.words u.log before.lawful.enabled h i k less in
-          let low = loose.below in
-          let at_place = o.at in
-          let apart : place ≢ h.base + k = λ e. omega arith in
-          own_else v.own place word (h.base + k) apart ∙ g.kept h mine i j k less;
       loaded = g.loaded;
     }

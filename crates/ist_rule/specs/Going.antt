@@ -17,13 +17,12 @@ KeepsWords v w =
     (h : HeldRow) → v.who ≡ Caller h.caller → Among h (now v).held → Among h (now w).held
     → (k : ℕ) → k < h.size → own_at w.own (h.base + k) ≡ own_at v.own (h.base + k)
 
--- the seat has made loads, and events that P is true of, has stored words into rows that it held
--- only in between, and may have begun a search: of all else it knows of itself what it knew
+-- the seat has made loads, and events that P is true of, has stored words into rows of its own, and
+-- may have begun a search: of all else it knows of itself what it knew
 pub record WentOn (P : Event → Type 0) (v w : View) : Type 0 where
   pub later : LaterBy v.who P v.log w.log
   pub sound : IsSound w
   pub same : w ≡ record v { log = w.log; own = w.own; loads = w.loads; loaded = w.loaded }
-  pub kept : KeepsWords v w
   pub loaded : v.loaded ≤ w.loaded
 
 -- the seat has stored no word and begun no search: the loads of its search are those that it had

@@ -1,5 +1,5 @@
 -- What a caller keeps while it marks, loads and helps. Serves the tests.
-use Rattle.std.proofs.Common.{ℕ, List, Some, sym, ap, ◌∙◌, subst}
+use Rattle.std.proofs.Common.{◌≡◌, ◌+◌, ℕ, List, Some, sym, ap, ◌∙◌, subst}
 use Rattle.ist_core.specs.declared.lists.HeldRow.{HeldRow}
 use Rattle.ist_core.specs.References.{InnerAt}
 use Rattle.ist_core.specs.Elements.{Among}
@@ -12,6 +12,7 @@ use Rattle.ist_links.proofs.FinishedLemmas.{target_grows}
 use Rattle.ist_links.proofs.FormLemmas.{finished_with_grows, started_grows}
 use Rattle.ist_rule.specs.declared.view.View.{View}
 use Rattle.ist_rule.specs.Learning.{now, Looked}
+use Rattle.ist_rule.specs.Rule.{own_at}
 use Rattle.ist_dcss.specs.Helping.{Serves}
 use Rattle.ist_rule.specs.Going.{WentOn}
 use Rattle.ist_rule.proofs.WentOnLemmas.{later_by-goes_on, went_now, went_all, looked_went, went_lawful, went_grow, went_more}
@@ -23,16 +24,16 @@ use Rattle.ist_schedules.specs.Racing.{HasPrepared, IsUnderway, HasBoth}
 -- ---- the rows of the race
 
 -- a filled row stays filled
-pub filled_went : (v w : View) → WentOn KeepsRows v w → (number base : ℕ) → HasPrepared v number base
-    → HasPrepared w number base
-filled_went v w g number base f =
+pub filled_went : (v w : View) → WentOn KeepsRows v w → w.own ≡ v.own → (number base : ℕ)
+    → HasPrepared v number base → HasPrepared w number base
+filled_went v w g own number base f =
     record {
       mine = ap (λ x. x.who) g.same ∙ f.mine;
       above = f.above;
       low = f.low;
       held = held;
       stored = (
-        λ k less. f.stored.0 k less ∙ ap Some (sym (g.kept row f.mine f.held held k less)),
+        λ k less. f.stored.0 k less ∙ ap Some (sym (ap (λ words. own_at words (base + k)) own)),
         tt,
       );
     }

@@ -63,6 +63,7 @@ pub(crate) fn follow(table: &TreeTable, seat: &mut TreeSeat) -> bool
     requires may_help { MayHelp seat.old.view 20 }
     ensures same_table { seat.new.table ≡ table.now.table }
     ensures went { WentOn KeepsRows seat.old.view seat.new.view }
+    ensures own { seat.new.view.own ≡ seat.old.view.own }
     ensures underway { result ≡ true → IsUnderway (now seat.new.view) }
 {
     know(seat);
@@ -91,6 +92,7 @@ fn find_both(table: &TreeTable, seat: &mut TreeSeat) -> bool
     requires finished { IsFinishedWith (now seat.old.view) 4 2 }
     ensures same_table { seat.new.table ≡ table.now.table }
     ensures went { WentOn KeepsRows seat.old.view seat.new.view }
+    ensures own { seat.new.view.own ≡ seat.old.view.own }
     ensures both { result ≡ true → HasBoth (now seat.new.view) }
 {
     know(seat);
@@ -122,6 +124,7 @@ fn find_no_root(table: &TreeTable, seat: &mut TreeSeat, number: u32) -> bool
     requires underway { IsUnderway (now seat.old.view) }
     ensures same_table { seat.new.table ≡ table.now.table }
     ensures went { WentOn KeepsRows seat.old.view seat.new.view }
+    ensures own { seat.new.view.own ≡ seat.old.view.own }
     ensures unset { result ≡ true → WasUnset seat.new.view number 18 }
 {
     know(seat);

@@ -1,15 +1,16 @@
 use Rattle.std.proofs.Common.{rules}
 use Rattle.ist_build.proofs.AnswerLemmas.{built_went, laid_named, short_out}
+use Rattle.ist_build.proofs.LaidOnLemmas.{laid_words}
 use Rattle.ist_build.proofs.calls.build_part.Goals as goal
 
 -- a build that was refused
 pub returns-in_err-word-clause-went : goal.returns-in_err-word-clause-went
 returns-in_err-word-clause-went g c =
-    built_went _ _ c.know.ensures.sound c.build_share.ensures.built
+    built_went _ _ c.build_share.ensures.built
 
 pub returns-in_err-word-clause-full : goal.returns-in_err-word-clause-full
 returns-in_err-word-clause-full g c =
-    let full = short_out _ _ _ _ _ c.know.ensures.sound c.in_err-word.ensures.full in
+    let full = short_out _ _ _ _ _ c.in_err-word.ensures.full in
     search rules
 
 -- the word of a build names something
@@ -21,4 +22,12 @@ named-requires g c =
     }
 
 pub returns-clause-went : goal.returns-clause-went
-returns-clause-went g c = built_went _ _ c.know.ensures.sound c.build_share.ensures.built
+returns-clause-went g c = built_went _ _ c.build_share.ensures.built
+
+-- the rows that the caller had keep their words
+pub returns-in_err-word-clause-words : goal.returns-in_err-word-clause-words
+returns-in_err-word-clause-words g c =
+    laid_words _ _ _ c.build_share.ensures.built c.know.ensures.sound
+
+pub returns-clause-words : goal.returns-clause-words
+returns-clause-words g c = laid_words _ _ _ c.build_share.ensures.built c.know.ensures.sound

@@ -1,14 +1,15 @@
 use Rattle.std.proofs.Common.{rules}
 use Rattle.ist_build.proofs.AnswerLemmas.{put_went, root_named, stopped_out}
+use Rattle.ist_build.proofs.LaidOnLemmas.{laid_words}
 use Rattle.ist_build.proofs.calls.set_root.Goals as goal
 
 -- a build that was refused
 pub returns-in_err-word-clause-went : goal.returns-in_err-word-clause-went
-returns-in_err-word-clause-went g c = put_went _ _ c.know.ensures.sound c.place_root.ensures.put
+returns-in_err-word-clause-went g c = put_went _ _ c.place_root.ensures.put
 
 pub returns-in_err-word-clause-full : goal.returns-in_err-word-clause-full
 returns-in_err-word-clause-full g c =
-    let full = stopped_out _ _ _ _ _ c.know.ensures.sound c.in_err-word.ensures.full in
+    let full = stopped_out _ _ _ _ _ c.in_err-word.ensures.full in
     search rules
 
 -- the word of the root names something
@@ -19,4 +20,12 @@ named-requires g c =
     }
 
 pub returns-clause-went : goal.returns-clause-went
-returns-clause-went g c = put_went _ _ c.know.ensures.sound c.place_root.ensures.put
+returns-clause-went g c = put_went _ _ c.place_root.ensures.put
+
+-- the rows that the caller had keep their words
+pub returns-in_err-word-clause-words : goal.returns-in_err-word-clause-words
+returns-in_err-word-clause-words g c =
+    laid_words _ _ _ c.place_root.ensures.put c.know.ensures.sound
+
+pub returns-clause-words : goal.returns-clause-words
+returns-clause-words g c = laid_words _ _ _ c.place_root.ensures.put c.know.ensures.sound

@@ -20,7 +20,7 @@ pub mark_and_count-keys-requires-clause-may_mark :
     goal.mark_and_count-keys-requires-clause-may_mark
 mark_and_count-keys-requires-clause-may_mark g c =
     may_mark _ c.args.number c.args.base
-    (filled_went _ _ c.follow-underway.ensures.went _ _ c.requires.filled)
+    (filled_went _ _ c.follow-underway.ensures.went c.follow-underway.ensures.own _ _ c.requires.filled)
     (c.follow-underway.ensures.underway c.if-not-underway.false)
 
 -- the rebuild stays started
@@ -37,10 +37,11 @@ returns-clause-built g c is =
     c.if-keys-ne2.false c.mark_and_count-keys.ensures.finished in
     let found = finished_went _ _ c.find_both-both.ensures.went done in
     has_built _ c.args.number c.args.base
-    (filled_went _ _ c.find_no_root.ensures.went _ _
-    (filled_went _ _ c.find_both-both.ensures.went _ _
-    (filled_went _ _ (marked _ _ c.mark_and_count-keys.ensures.went) _ _
-    (filled_went _ _ c.follow-underway.ensures.went _ _ c.requires.filled))))
+    (filled_went _ _ c.find_no_root.ensures.went c.find_no_root.ensures.own _ _
+    (filled_went _ _ c.find_both-both.ensures.went c.find_both-both.ensures.own _ _
+    (filled_went _ _ (marked _ _ c.mark_and_count-keys.ensures.went)
+    c.mark_and_count-keys.ensures.search.own _ _
+    (filled_went _ _ c.follow-underway.ensures.went c.follow-underway.ensures.own _ _ c.requires.filled))))
     (underway_went _ _ c.find_no_root.ensures.went
     (underway_went _ _ c.find_both-both.ensures.went
     (underway_went _ _ (marked _ _ c.mark_and_count-keys.ensures.went)
