@@ -1,0 +1,95 @@
+-- A rebuild that may be built is so still. Serves `build_out` and `help_rebuild`.
+use Rattle.std.proofs.Common.{◌≡◌, ℕ, sym, subst}
+use Rattle.ist_core.specs.declared.events.Event.{Event}
+use Rattle.ist_core.specs.Marking.{HasTarget, as_target}
+use Rattle.ist_core.specs.Rebuilding.{IsStarted, IsFinishedWith}
+use Rattle.ist_core.proofs.GrowingLemmas.{rebuild_there}
+use Rattle.ist_links.proofs.FinishedLemmas.{target_grows}
+use Rattle.ist_links.proofs.FormLemmas.{finished_with_grows}
+use Rattle.ist_rule.specs.declared.view.View.{View}
+use Rattle.ist_rule.specs.declared.view.Who.TheVariants.{Caller as CallerOf}
+use Rattle.ist_rule.specs.Going.{WentOn}
+use Rattle.ist_rule.specs.Faces.{SeatFace}
+use Rattle.ist_rule.specs.Learning.{now, GoesOnTo}
+use Rattle.ist_rule.proofs.WentOnLemmas.{went_grow}
+use Rattle.ist_rows.specs.declared.callers.Caller.{Caller}
+use Rattle.ist_mark.specs.Marking.{MayMark, Marks}
+use Rattle.ist_build.specs.Calls.{IsBuildable}
+use Rattle.ist_core.specs.Snapshots.{Snapshot}
+use Rattle.ist_rebuild.specs.Finishing.{IsAble, HasHelped}
+use Rattle.ist_rebuild.specs.Going.{Serves}
+use Rattle.ist_rebuild.proofs.AbleLemmas.{helped_more, loads_helped, marks_helped, started_went}
+
+-- a rebuild that may be built may be still
+pub buildable_went : (P : Event → Type 0) (v w : View) → WentOn P v w → (rebuild : ℕ)
+    → IsBuildable (now v) rebuild → IsBuildable (now w) rebuild
+buildable_went P v w g rebuild b =
+    let grow = went_grow P v w g in
+    let it = rebuild_there (now v).pieces (now w).pieces grow rebuild b.told.row b.told.published in
+    record {
+      k = b.k;
+      told = record {
+        row = it.0;
+        published = it.1;
+        started = started_went P v w g rebuild b.told.started;
+        finished = subst (λ n. IsFinishedWith (now w) n b.k) (sym it.2.target)
+            (finished_with_grows (now v) (now w) grow b.told.row.target b.k b.told.finished);
+      };
+    }
+
+-- one with a finished target may be built
+told_buildable : (t : Snapshot) (rebuild target k : ℕ) → HasTarget t rebuild target
+    → IsStarted t rebuild → IsFinishedWith t target k → IsBuildable t rebuild
+told_buildable t rebuild target k h started finished =
+    record {
+      k = k;
+      told = record {
+        row = h.row;
+        published = h.published;
+        started = started;
+        finished = subst (λ n. IsFinishedWith t n k) (sym h.target_is) finished;
+      };
+    }
+
+-- the target of a started rebuild may be marked
+may_mark_target : (v : View) (number rebuild target : ℕ) → v.who ≡ CallerOf number
+    → HasTarget (now v) rebuild target → IsStarted (now v) rebuild → MayMark v target
+may_mark_target v number rebuild target mine h started =
+    record { number = number; mine = mine; called = as_target rebuild h started }
+
+-- and is its target still
+target_went : (P : Event → Type 0) (v w : View) → WentOn P v w → (rebuild target : ℕ)
+    → HasTarget (now v) rebuild target → HasTarget (now w) rebuild target
+target_went P v w g rebuild target h =
+    target_grows (now v) (now w) (went_grow P v w g) rebuild target h
+
+-- ---- marking
+
+-- the caller has marked the rebuild's target, so that it may be built
+pub record HasMarked (who : Caller) (seat : SeatFace) (rebuild : ℕ) : Type 0 where
+  pub helped : HasHelped who (record who { seat = seat })
+  pub buildable : IsBuildable (now seat.view) rebuild
+
+pub has_marked : (who : Caller) (mid seat : SeatFace) (rebuild target keys : ℕ) → IsAble who
+    → IsStarted (now who.seat.view) rebuild → GoesOnTo who.seat.view mid.view
+    → HasTarget (now mid.view) rebuild target → WentOn (Marks seat.view target) mid.view seat.view
+    → IsFinishedWith (now seat.view) target keys → HasMarked who seat rebuild
+has_marked who mid seat rebuild target keys able started seen h marks finished =
+    let first = loads_helped who mid able seen in
+    let all = helped_more who (record who { seat = mid }) (record who { seat = seat }) first
+    (marks_helped (record who { seat = mid }) seat seat.view target first.able marks) in
+    record {
+      helped = all;
+      buildable = told_buildable (now seat.view) rebuild target keys
+          (target_went (Marks seat.view target) mid.view seat.view marks rebuild target h)
+          (started_went Serves who.seat.view seat.view all.went rebuild started) finished;
+    }
+
+-- it might mark it
+pub may_mark : (who : Caller) (mid : SeatFace) (rebuild target : ℕ) → IsAble who
+    → IsStarted (now who.seat.view) rebuild → GoesOnTo who.seat.view mid.view
+    → HasTarget (now mid.view) rebuild target → MayMark mid.view target
+may_mark who mid rebuild target able started seen h =
+    let first = loads_helped who mid able seen in
+    may_mark_target mid.view who.number rebuild target first.able.caller.mine h
+    (started_went Serves who.seat.view mid.view first.went rebuild started)

@@ -1,0 +1,131 @@
+-- A filled finish may be installed. Serves `prepare`.
+use Rattle.std.proofs.Common.{◌≡◌, ℕ, ◌+◌, ◌<◌, List, [], length, slice_get, Some, Ok, refl, sym, subst, ⊎_elim, arith}
+use Rattle.ist_core.specs.declared.states.ChangeRow.{ChangeRow}
+use Rattle.ist_core.specs.Installing.{IsUnrefused}
+use Rattle.ist_core.specs.Pieces.{Change, words_of}
+use Rattle.ist_core.specs.Rebuilding.{IsUpdate}
+use Rattle.ist_core.specs.Statuses.{finish_kind}
+use Rattle.ist_rule.specs.declared.view.View.{View}
+use Rattle.ist_rule.specs.Learning.{now}
+use Rattle.ist_rule.specs.Rule.{IsSound, own_at}
+use Rattle.ist_rule.proofs.WentOnLemmas.{went_all}
+use Rattle.ist_rows.specs.declared.callers.Caller.{Caller}
+use Rattle.ist_rows.specs.declared.kinds.Kind.TheVariants.{Change as ChangeKind}
+use Rattle.ist_rows.specs.CallerLaws.{InstallsNone}
+use Rattle.ist_dcss.specs.Installing.{IsInstallable}
+use Rattle.ist_build.specs.Calls.{Builds}
+use Rattle.ist_rebuild.specs.declared.sites.Plan.{Plan}
+use Rattle.ist_rebuild.specs.Finishing.{IsAble, HasHelped, IsPlan, IsPrepared, filling_at, finish_row, storing_words}
+use Rattle.ist_rebuild.specs.Going.{Serves}
+use Rattle.ist_rebuild.proofs.AbleLemmas.{HasRow, own_helped, helped_more, took_row}
+use Rattle.ist_rebuild.proofs.EventLemmas.{builds_install_none}
+use Rattle.ist_rebuild.proofs.OwnChangeLemmas.{unrefused_went}
+use Rattle.ist_rebuild.proofs.SiteLemmas.{parent_linked, parent_slot, plan_went}
+use Rattle.ist_rebuild.proofs.StoredLemmas.{read_back, stored_at, storing_words-same}
+
+no_update : IsUpdate finish_kind → ⊥
+no_update u = ⊎_elim (λ e. let four : ◌≡◌ {A = ℕ} 4 1 = e in omega arith)
+    (λ e. let four : ◌≡◌ {A = ℕ} 4 2 = e in omega arith) u
+
+-- a caller that stored the words of its plan's finish into its change row
+module _ (mid : Caller) (plan : Plan) (change : ℕ) (row : mid.change ≡ Some change)
+    (words : List ℕ) (words_are : words ≡ words_of (Change (finish_row plan mid.number))) where
+  abbrev w : View
+  w = storing_words mid.seat.view change words
+
+  abbrev new : Caller
+  new = record mid { seat = record mid.seat { view = w } }
+
+  -- has helped
+  pub filled_helped : IsAble mid → IsSound w → HasHelped mid new
+  filled_helped able s =
+      let same = storing_words-same mid.seat.view change words in
+      subst (λ (x : View). HasHelped mid (record mid { seat = record mid.seat { view = x } }))
+      (sym same) (own_helped mid w.own able (subst IsSound same s))
+
+  is : (filling_at w change).change ≡ finish_row plan mid.number
+  is = subst (λ ws. (filling_at (storing_words mid.seat.view change ws) change).change
+      ≡ finish_row plan mid.number) (sym words_are)
+      (read_back mid.seat.view change (finish_row plan mid.number))
+
+  stored : (k : ℕ) → k < 9
+      → slice_get (words_of (Change (finish_row plan mid.number))) k
+      ≡ Some (own_at w.own (change + k))
+  stored k less =
+      subst (λ ws. slice_get ws k ≡ Some (own_at w.own (change + k))) words_are
+      (stored_at mid.seat.view change words k
+      (subst (λ ws. k < length ws) (sym words_are) less))
+
+  -- the finish may be installed
+  installable : IsAble new → IsSound w → IsPlan w plan → IsUnrefused (now w) mid.number plan.parent
+      → IsInstallable w change record { change = finish_row plan mid.number; fresh = [] }
+  installable able s p unrefused =
+      let slot = parent_slot w s plan p in
+      record {
+        number = mid.number;
+        mine = able.caller.mine;
+        held = (able.caller.rows ChangeKind change row, tt);
+        stored = (stored, tt);
+        owned = refl;
+        unset = refl;
+        word = slot.word;
+        slot = slot.holds;
+        linked = parent_linked w s plan p;
+        unrefused = unrefused;
+        fits = p.fits mid.number;
+        allowed = record {
+          pending = able.quiet.pending;
+          in_call = able.quiet.in_call;
+          resolved = able.quiet.resolved;
+          command = λ u. absurd (no_update u);
+          none_yet = λ u. absurd (no_update u);
+        };
+      }
+
+  pub filled_prepared : IsAble new → IsSound w → IsPlan w plan
+      → IsUnrefused (now w) mid.number plan.parent → IsPrepared new plan change
+  filled_prepared able s p unrefused =
+      record {
+        row = row;
+        is = is;
+        may_install = subst (λ (r : ChangeRow). IsInstallable w change record {
+          change = r;
+          fresh = [];
+        }) (sym is) (installable able s p unrefused);
+      }
+
+-- ---- from the reserving on
+
+-- the caller has helped, and its change row is prepared
+pub record HasPrepared (old who : Caller) (plan : Plan) (change : ℕ) : Type 0 where
+  pub helped : HasHelped old who
+  pub prepared : IsPrepared who plan change
+
+pub has_prepared : (old mid who : Caller) (plan : Plan) (change : ℕ) (words : List ℕ) → IsAble old
+    → IsSound old.seat.view → IsPlan old.seat.view plan
+    → IsUnrefused (now old.seat.view) old.number plan.parent → HasRow old mid (Ok change)
+    → words ≡ words_of (Change (finish_row plan mid.number))
+    → who ≡ record mid {
+      seat = record mid.seat {
+        view = storing_words mid.seat.view change words;
+      };
+    }
+    → IsSound who.seat.view → HasPrepared old who plan change
+has_prepared old mid who plan change words able s p unrefused row words_are stored sound =
+    let t = took_row old mid change able s row in
+    let w = storing_words mid.seat.view change words in
+    let new = record mid { seat = record mid.seat { view = w } } in
+    let here = subst (λ (x : Caller). IsSound x.seat.view) stored sound in
+    let filled = filled_helped mid plan change t.row words words_are t.helped.able here in
+    let all = helped_more old mid new t.helped filled in
+    let same = storing_words-same mid.seat.view change words in
+    let none = unrefused_went old.seat.view mid.seat.view old.number able.caller.mine
+    (went_all Builds InstallsNone builds_install_none old.seat.view mid.seat.view t.by)
+    able.quiet.resolved plan.parent unrefused in
+    subst (λ x. HasPrepared old x plan change) (sym stored) record {
+      helped = all;
+      prepared = filled_prepared mid plan change t.row words words_are filled.able here
+          (plan_went Serves old.seat.view w all.went plan p)
+          (subst (λ (x : View). IsUnrefused (now x) mid.number plan.parent) (sym same)
+          (subst (λ n. IsUnrefused (now mid.seat.view) n plan.parent) (sym row.number) none));
+    }

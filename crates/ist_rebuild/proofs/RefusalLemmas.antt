@@ -1,0 +1,82 @@
+-- What a refused caller was refused for. Serves `build_out`, `prepare` and their callers.
+use Rattle.std.proofs.Common.{◌≡◌, ℕ, ◌+◌, ◌<◌, Result, Ok, Err, IfErr, sym, subst}
+use Rattle.std.specs.Result.{IsErrAnd}
+use Rattle.ist_core.specs.declared.ports.Full.{Full}
+use Rattle.ist_core.specs.Rebuilding.{IsFinishedWith}
+use Rattle.ist_core.proofs.GrowingLemmas.{rebuild_there}
+use Rattle.ist_links.proofs.FormLemmas.{finished_with_grows}
+use Rattle.ist_rule.specs.declared.view.View.{View}
+use Rattle.ist_rule.specs.Going.{WentOn}
+use Rattle.ist_rule.specs.Learning.{now}
+use Rattle.ist_rule.proofs.WentOnLemmas.{goes_on_went, looked_went, went_all, went_grow, went_more}
+use Rattle.ist_rows.specs.declared.callers.Caller.{Caller}
+use Rattle.ist_rows.specs.declared.kinds.Kind.TheVariants.{Change}
+use Rattle.ist_rows.specs.Rows.{IsRefused}
+use Rattle.ist_build.specs.Calls.{Builds, RebuildIsShort}
+use Rattle.ist_rebuild.specs.Going.{Serves}
+use Rattle.ist_rebuild.specs.Helping.{IsHelpRefused, for_change, for_row}
+use Rattle.ist_rebuild.proofs.EventLemmas.{builds_serve}
+
+-- a build was refused a row
+pub short_refused : (v w : View) (rebuild words : ℕ) (full : Full)
+    → RebuildIsShort v rebuild words full w → IsHelpRefused v rebuild words full w
+short_refused v w rebuild words full h =
+    let o = h.out in
+    let seen : WentOn Serves v o.before =
+    went_all Builds Serves builds_serve v o.before o.seen in
+    let grow = went_grow Serves v w
+    (went_more Serves v o.before w seen (looked_went Serves o.before _ full.next w o.looked)) in
+    let it = rebuild_there (now v).pieces (now w).pieces grow rebuild h.told.row h.told.published in
+    record {
+      short = record {
+        before = o.before;
+        seen = seen;
+        looked = o.looked;
+        words_is = o.words_is;
+        small = o.small;
+      };
+      asked = for_row it.0 h.k o.some it.1
+          (subst (λ n. IsFinishedWith (now w) n h.k) (sym it.2.target)
+          (finished_with_grows (now v) (now w) grow h.told.row.target h.k h.told.finished))
+          o.several o.few o.asked;
+    }
+
+-- or the caller a row for the change
+pub row_refused : (old new : Caller) (rebuild words : ℕ) (full : Full)
+    → IsRefused words Change old new full
+    → IsHelpRefused old.seat.view rebuild words full new.seat.view
+row_refused old new rebuild words full h =
+    let f = h.cause in
+    record {
+      short = record {
+        before = f.before;
+        seen = goes_on_went Serves old.seat.view f.before f.seen;
+        looked = f.looked;
+        words_is = f.words_is;
+        small = subst (λ n. words < full.next + n) (sym f.asked) f.small;
+      };
+      asked = for_change f.asked;
+    }
+
+-- so it was, where it had helped before
+pub refused_more : (u v w : View) (rebuild words : ℕ) (full : Full) → WentOn Serves u v
+    → IsHelpRefused v rebuild words full w → IsHelpRefused u rebuild words full w
+refused_more u v w rebuild words full g h =
+    record {
+      short = record {
+        before = h.short.before;
+        seen = went_more Serves u v h.short.before g h.short.seen;
+        looked = h.short.looked;
+        words_is = h.short.words_is;
+        small = h.short.small;
+      };
+      asked = h.asked;
+    }
+
+-- ---- answers
+
+-- what is true of the refusal that is passed on is true of the answer
+pub passed_on : {A : Type 0} (answer : Result A Full) (full : Full) (P : Full → Type 0)
+    → IsErrAnd answer (λ x. x ≡ full) → P full → IfErr answer P
+passed_on (Ok a) full P same p = tt
+passed_on (Err e) full P same p = subst P (sym same) p

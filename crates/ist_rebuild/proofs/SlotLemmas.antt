@@ -1,0 +1,134 @@
+-- What a load of a rebuild's slot tells of the rebuild. Serves `slot_word`, `settle` and
+-- `conclude`.
+use Rattle.std.proofs.Common.{◌≡◌, ◌≢◌, ℕ, ◌<◌, Option, None, Some, refl, sym, ap, ◌∙◌, subst, ⊎_elim, arith}
+use Rattle.ist_core.specs.declared.events.Event.{Event}
+use Rattle.ist_core.specs.Pieces.{Pieces, size_of, words_of}
+use Rattle.ist_core.specs.Rebuilding.{IsReplaced}
+use Rattle.ist_core.specs.References.{Ref, Empty, Unset, LeafAt, InnerAt, ChangeAt, RebuildAt, ref_of}
+use Rattle.ist_core.specs.Shown.{IsShown, shown_next, shown_callers, shown_status, shown_slot, shown_row, shown_free}
+use Rattle.ist_core.specs.Slots.{SlotHolds, IsOpen, past_change}
+use Rattle.ist_core.specs.Writing.{place_of_slot}
+use Rattle.ist_core.proofs.ImageLemmas.{get_below}
+use Rattle.ist_core.proofs.PlaceLemmas.{anchor_free, placed, claimed_within}
+use Rattle.ist_core.proofs.RoomLemmas.{next_within, words_same}
+use Rattle.ist_core.proofs.SlotLemmas.{slot_once}
+use Rattle.ist_rebuilds.proofs.RebuiltLemmas.{started_reads, read_unreplaced}
+use Rattle.ist_rule.specs.declared.view.View.{View}
+use Rattle.ist_rule.specs.Going.{WentOn}
+use Rattle.ist_rule.specs.Learning.{now, Looked}
+use Rattle.ist_rule.specs.Rule.{IsSound}
+use Rattle.ist_rule.proofs.GoingOnLemmas.{looked_goes_on}
+use Rattle.ist_rule.proofs.WentOnLemmas.{went_now, went_lawful, later_by-goes_on}
+use Rattle.ist_dcss.specs.Naming.{IsSlot}
+use Rattle.ist_dcss.proofs.InstallLemmas.{slot_on}
+use Rattle.ist_dcss.proofs.InstalledLemmas.{place_on}
+use Rattle.ist_dcss.proofs.OpeningLemmas.{closed_node_stays}
+use Rattle.ist_dcss.proofs.SlotPlaceLemmas.{slot_shown}
+use Rattle.ist_rebuild.specs.declared.sites.Plan.{Plan}
+use Rattle.ist_rebuild.specs.Finishing.{IsPlan}
+use Rattle.ist_rebuild.specs.Helping.{IsLeftToParent}
+use Rattle.ist_rebuild.proofs.SiteLemmas.{parent_node}
+
+-- ---- the load
+
+-- a word that is shown stands in the table
+pub shown_low : (v : View) → IsSound v → (place word : ℕ) → IsShown (now v) place word
+    → place < v.words
+shown_low v s _ _ shown_next = let room = s.lawful.opens.room in omega arith
+shown_low v s _ _ shown_callers = let room = s.lawful.opens.room in omega arith
+shown_low v s _ _ shown_status = let room = s.lawful.opens.room in omega arith
+shown_low v s _ _ shown_slot = let room = s.lawful.opens.room in omega arith
+shown_low v s _ word (shown_row base p k there got) =
+    let high = (claimed_within v.start v.words v.log base (size_of p) s.lawful.enabled
+    ((placed v.start v.words v.log s.lawful.enabled).published base p there)).below_next in
+    let less = get_below (words_of p) k word got in
+    let low = next_within v.start v.words s.lawful.opens v.log s.lawful.enabled in
+    let all = words_same v.start v.words s.lawful.opens v.log in
+    omega arith
+shown_low v s _ _ (shown_free far inside) =
+    let all = words_same v.start v.words s.lawful.opens v.log in omega arith
+
+-- so does that in a slot
+pub slot_low : (v : View) → IsSound v → (node i place : ℕ) → IsSlot v node i
+    → place ≡ place_of_slot (now v) node i → place < v.words
+slot_low v s node i place slot at =
+    subst (λ p. p < v.words) (sym at)
+    (shown_low v s (place_of_slot (now v) node i) slot.word
+    (slot_shown v.start v.words v.log s.lawful.enabled node i slot.word slot.holds))
+
+-- and a load of it gives it
+pub slot_told : (v : View) → IsSound v → (node i place : ℕ) → IsSlot v node i
+    → place ≡ place_of_slot (now v) node i → (word : ℕ) (w : View) → Looked v place word w
+    → SlotHolds (now w) node i word
+slot_told v s node i place before at word w l =
+    let more = looked_goes_on v place word w l in
+    let slot = slot_on v w more node i before.word before.holds in
+    let shown = slot_shown w.start w.words w.log l.sound.lawful.enabled node i slot.word slot.holds
+    in
+    let same : word ≡ slot.word = l.stood slot.word
+    (subst (λ p. IsShown (now w) p slot.word)
+    (place_on v w s more node i before.word before.holds ∙ sym at) shown) in
+    subst (SlotHolds (now w) node i) (sym same) slot.holds
+
+-- ---- what the word tells
+
+-- what is no change reads as it is
+read_same : (ps : Pieces) (o : Option Ref) → ((base : ℕ) → o ≢ Some (ChangeAt base))
+    → past_change ps o ≡ o
+read_same ps None none = refl
+read_same ps (Some Empty) none = refl
+read_same ps (Some Unset) none = refl
+read_same ps (Some (LeafAt base)) none = refl
+read_same ps (Some (InnerAt base)) none = refl
+read_same ps (Some (RebuildAt base)) none = refl
+read_same ps (Some (ChangeAt base)) none = absurd (none base refl)
+
+module _ (v : View) (s : IsSound v) (plan : Plan) (p : IsPlan v plan) (word : ℕ)
+    (holds : SlotHolds (now v) plan.parent plan.index word) where
+  -- in the words of the rebuild's row
+  in_row_words : SlotHolds (now v) p.row.parent p.row.index word
+  in_row_words =
+      subst (λ n. SlotHolds (now v) n p.row.index word) (sym p.parent_is)
+      (subst (λ i. SlotHolds (now v) plan.parent i word) (sym p.index_is) holds)
+
+  -- any word but the rebuild's and a change's: the rebuild was replaced
+  pub tells_replaced : ((change : ℕ) → ref_of word ≢ Some (ChangeAt change))
+      → ref_of word ≢ Some (RebuildAt plan.rebuild) → IsReplaced (now v) plan.rebuild
+  tells_replaced no_change another =
+      ⊎_elim (λ k. k)
+      (λ r.
+      let same : r.word ≡ word =
+      slot_once (now v) p.row.parent p.row.index r.word word
+      (anchor_free v.start v.words v.log s.lawful.enabled) r.holds in_row_words in
+      absurd (another
+      (sym (read_same (now v).pieces (ref_of word) no_change)
+      ∙ ap (λ n. past_change (now v).pieces (ref_of n)) (sym same) ∙ r.reads)))
+      (started_reads v.start v.words s.lawful.opens v.log s.lawful.enabled plan.rebuild p.row
+      p.published p.started)
+
+  -- the rebuild's own: it stands there
+  pub tells_left : ref_of word ≡ Some (RebuildAt plan.rebuild) → ¬ (IsOpen (now v) plan.parent)
+      → IsLeftToParent (now v) plan.rebuild
+  tells_left itself closed =
+      record {
+        row = p.row;
+        published = p.published;
+        closed = λ o. closed (subst (IsOpen (now v)) p.parent_is o);
+        stands = read_unreplaced v.start v.words s.lawful.opens v.log s.lawful.enabled plan.rebuild
+            p.row p.published
+            record {
+              word = word;
+              holds = in_row_words;
+              reads = ap (past_change (now v).pieces) itself;
+            };
+      }
+
+-- ---- what stays
+
+-- a closed parent stays closed
+pub closed_went : (P : Event → Type 0) (v w : View) → WentOn P v w → IsSound v → (plan : Plan)
+    → IsPlan v plan → ¬ (IsOpen (now v) plan.parent) → ¬ (IsOpen (now w) plan.parent)
+closed_went P v w g s plan p closed =
+    subst (λ t. ¬ (IsOpen t plan.parent)) (sym (went_now P v w g))
+    (closed_node_stays v.start v.words v.log w.log (went_lawful P v w g)
+    (later_by-goes_on g.later) plan.parent (parent_node v s plan p) closed)

@@ -1,0 +1,173 @@
+-- What `start` answers, by what came of putting the start in. Serves `put_in` and `start`.
+use Rattle.std.proofs.Common.{◌≡◌, ◌≢◌, ℕ, Bool, true, false, Result, Some, Ok, Err, refl, sym, ◌∙◌, subst, inl, inr, ⊎_elim, arith}
+use Rattle.std.specs.Result.{IsErr}
+use Rattle.ist_build.specs.Laying.{Reserves}
+use Rattle.ist_core.specs.declared.events.Event.{Event}
+use Rattle.ist_core.specs.declared.events.Event.TheVariants.{Okay, Decide, Resolve}
+use Rattle.ist_core.specs.declared.ports.Full.{Full}
+use Rattle.ist_core.specs.Pieces.{Change}
+use Rattle.ist_core.specs.References.{IsGoodBase}
+use Rattle.ist_core.specs.Rows.{Apart}
+use Rattle.ist_core.specs.RowLayout.{change_words, rebuild_words}
+use Rattle.ist_core.specs.Slots.{IsOpen}
+use Rattle.ist_core.specs.Snapshots.{Snapshot}
+use Rattle.ist_settling.specs.Settling.{StartsAreDone}
+use Rattle.ist_rule.specs.declared.view.View.{View}
+use Rattle.ist_rule.specs.declared.view.Who.TheVariants.{Caller as CallerOf}
+use Rattle.ist_rule.specs.Conditions.{IsResolved}
+use Rattle.ist_rule.specs.Going.{WentOn}
+use Rattle.ist_rule.specs.Learning.{now, GoesOnTo}
+use Rattle.ist_rule.specs.Rule.{IsSound}
+use Rattle.ist_rule.proofs.WentOnLemmas.{goes_on_went, went_more}
+use Rattle.ist_rows.specs.declared.callers.Caller.{Caller}
+use Rattle.ist_dcss.specs.Helping.{Serves, IsDecided}
+use Rattle.ist_dcss.specs.Installing.{Filling, IsInstalled}
+use Rattle.ist_rebuild.specs.declared.answers.Started.{Started}
+use Rattle.ist_rebuild.specs.declared.answers.Started.TheVariants.{Yes, Other}
+use Rattle.ist_rebuild.specs.Going.{Begins}
+use Rattle.ist_rebuild.specs.Starting.{IsStartedAt, LeavesDone, IsStartRefused, StartsAreDoneBut}
+use Rattle.ist_rebuild.specs.StartSteps.{IsReady, start_filling}
+use Rattle.ist_rebuild.proofs.StartFillLemmas.{rebuild_good, rows_apart}
+use Rattle.ist_rebuild.proofs.StartGoingLemmas.{HasPutIn, begins_installing, begins_serving, put_went}
+use Rattle.ist_rebuild.proofs.StartOwnLemmas.{InstallsBut, starts_but, starts_reserving}
+use Rattle.ist_rebuild.proofs.StartResultLemmas.{put_closed, put_said, put_started, put_to}
+
+-- ---- answers
+
+-- the rebuild and the word that are answered
+pub same_rebuild : (a b : ℕ) → Yes a ≡ Yes b → a ≡ b
+same_rebuild a b e = cc
+
+pub same_word : (a b : ℕ) → Other a ≡ Other b → a ≡ b
+same_word a b e = cc
+
+pub same_answer : (a b : Started) → ◌≡◌ {A = Result Started Full} (Ok a) (Ok b) → a ≡ b
+same_answer a b e = cc
+
+-- what was installed, helped and decided so is the filling
+pub has_put : (v : View) (change : ℕ) (f g : Filling) (said : Bool) (between w : View) → f ≡ g
+    → IsInstalled v change f between → WentOn (Serves change) between w → IsDecided w change said
+    → HasPutIn v change g said w
+has_put v change f g said between w is i helped d =
+    record {
+      between = between;
+      installed = subst (λ x. IsInstalled v change x between) is i;
+      helped = helped;
+      decided = d;
+    }
+
+-- ---- the rows
+
+-- rows that share no word have different bases
+bases_apart : (rebuild change : ℕ) → Apart rebuild rebuild_words change change_words
+    → rebuild ≢ change
+bases_apart rebuild change a same = ⊎_elim (λ low. omega arith) (λ low. omega arith) a
+
+-- a step of help installs nothing
+serving_but : (number change : ℕ) (event : Event) → Serves change event
+    → InstallsBut number change event
+serving_but number change (Okay c other) is = tt
+serving_but number change (Decide c other said) is = tt
+serving_but number change (Resolve c other) is = tt
+serving_but number change _ is = absurd is
+
+module _ (who : Caller) (parent index target rebuild change : ℕ) (f : Filling)
+    (ready : IsReady who rebuild change f) (s : IsSound who.seat.view) (w : View) where
+  abbrev v : View
+  v = who.seat.view
+
+  abbrev plan : Filling
+  plan = start_filling who.number parent index target rebuild
+
+  apart : rebuild ≢ change
+  apart = bases_apart rebuild change (rows_apart who rebuild change ready.rows ready.caller s)
+
+  good : IsGoodBase rebuild
+  good = rebuild_good who rebuild change ready.rows ready.caller s
+
+  -- ---- how the seat went on
+
+  pub put_begins : (said : Bool) → HasPutIn v change plan said w → WentOn Begins v w
+  put_begins said h =
+      put_went Begins v change plan said w h (λ n. begins_installing change plan refl)
+      (begins_serving change)
+
+  put_but : (said : Bool) → HasPutIn v change plan said w
+      → WentOn (InstallsBut who.number change) v w
+  put_but said h =
+      put_went (InstallsBut who.number change) v change plan said w h (λ n same. refl)
+      (serving_but who.number change)
+
+  -- ---- decided yes
+
+  pub yes_started : HasPutIn v change plan true w → (other : ℕ) → Yes rebuild ≡ Yes other
+      → IsStartedAt (now w) other parent index target
+  yes_started h other is =
+      subst (λ n. IsStartedAt (now w) n parent index target) (same_rebuild rebuild other is)
+      (put_started who.number parent index target rebuild change apart good v w h)
+
+  pub yes_done : HasPutIn v change plan true w → StartsAreDone (now v) who.number
+      → StartsAreDoneBut (now w) who.number rebuild
+  yes_done h done base x e own kind said sent to =
+      ⊎_elim
+      (λ same. inl (put_to who.number parent index target rebuild change apart v true w h good x
+      (subst (λ b. (now w).pieces b ≡ Some (Change x)) same e) sent to))
+      (λ d. inr d)
+      (starts_but (InstallsBut who.number change) v w (put_but true h) who.number change
+      ready.caller.mine (λ event p. p) ready.quiet.resolved done base x e own kind said sent to)
+
+  -- ---- decided no
+
+  pub no_closed : HasPutIn v change plan false w → ¬ (IsOpen (now w) parent)
+  no_closed h =
+      put_closed who.number parent index target rebuild change apart v w h.helped.sound h
+
+  pub no_done : HasPutIn v change plan false w → StartsAreDone (now v) who.number
+      → StartsAreDone (now w) who.number
+  no_done h done base x e own kind said sent to =
+      ⊎_elim
+      (λ same. absurd (two_sides _ said
+      (put_said who.number parent index target rebuild change apart v false w h x
+      (subst (λ b. (now w).pieces b ≡ Some (Change x)) same e) ∙ h.decided.decision)))
+      (λ d. d)
+      (starts_but (InstallsBut who.number change) v w (put_but false h) who.number change
+      ready.caller.mine (λ event p. p) ready.quiet.resolved done base x e own kind said sent to)
+    where
+      two_sides : (d : ℕ) → d ≡ 1 → d ≡ 2 → ⊥
+      two_sides d e f = omega arith
+
+-- ---- refusals
+
+-- a refusal behind loads
+pub refused_behind : (u v w : View) (words : ℕ) (full : Full) → GoesOnTo u v
+    → IsStartRefused v words full w → IsStartRefused u words full w
+refused_behind u v w words full g r =
+    record {
+      short = record {
+        before = r.short.before;
+        seen = went_more Begins u v r.short.before (goes_on_went Begins u v g) r.short.seen;
+        looked = r.short.looked;
+        words_is = r.short.words_is;
+        small = r.short.small;
+      };
+      asked = r.asked;
+    }
+
+-- where it was refused, no start came
+pub err_done : (t : Snapshot) (number : ℕ) (answer : Result Started Full) → IsErr answer
+    → StartsAreDone t number → LeavesDone t number answer
+err_done t number (Ok a) is done = absurd (no is)
+  where
+    no : false ≡ true → ⊥
+    no e = cc
+err_done t number (Err full) is done = done
+
+-- what a start leaves done, behind reservings
+pub behind_done : (v u w : View) → WentOn Reserves v u → (number same : ℕ)
+    → v.who ≡ CallerOf number → IsResolved v number → same ≡ number → (answer : Result Started Full)
+    → (StartsAreDone (now u) same → LeavesDone (now w) same answer)
+    → StartsAreDone (now v) number → LeavesDone (now w) number answer
+behind_done v u w g number same mine resolved is answer leaves done =
+    subst (λ n. LeavesDone (now w) n answer) is
+    (leaves (subst (StartsAreDone (now u)) (sym is)
+    (starts_reserving v u g number mine resolved done)))

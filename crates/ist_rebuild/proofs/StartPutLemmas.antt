@@ -1,0 +1,107 @@
+-- What installing and helping a start leaves of its caller. Serves `put_in`.
+use Rattle.std.proofs.Common.{◌≡◌, ℕ, [], ◌∷◌, None, refl, sym, ap, ◌∙◌}
+use Rattle.ist_core.specs.declared.events.Event.{Event}
+use Rattle.ist_core.specs.declared.events.Event.TheVariants.{Install, Okay, Decide, Resolve}
+use Rattle.ist_core.specs.Snapshots.{bases_of}
+use Rattle.ist_rule.specs.declared.view.Who.TheVariants.{Caller as CallerOf}
+use Rattle.ist_rule.specs.Authors.{whose}
+use Rattle.ist_rule.specs.Faces.{SeatFace}
+use Rattle.ist_rule.specs.Going.{WentOn}
+use Rattle.ist_rule.specs.Learning.{GoesOnTo}
+use Rattle.ist_rule.proofs.WentOnLemmas.{goes_on_went, went_all}
+use Rattle.ist_rows.specs.declared.callers.Caller.{Caller}
+use Rattle.ist_rows.specs.declared.kinds.Kind.TheVariants.{Change, Rebuild}
+use Rattle.ist_rows.specs.Building.{HasRefused}
+use Rattle.ist_rows.specs.CallerLaws.{KeepsRows, InstallsNone}
+use Rattle.ist_rows.specs.Rows.{IsCaller}
+use Rattle.ist_rows.proofs.CallerGoingLemmas.{caller_goes_on}
+use Rattle.ist_rows.proofs.CallerLawLemmas.{caller_went, refused_went, resolved_went, logged_made, caller_made, refused_made}
+use Rattle.ist_dcss.specs.Helping.{Serves, IsOut}
+use Rattle.ist_dcss.specs.Installing.{Filling, rows_of, IsInstalled}
+use Rattle.ist_dcss.proofs.ResolvedLemmas.{resolved_helped}
+use Rattle.ist_rebuild.specs.Going.{IsQuiet}
+use Rattle.ist_rebuild.specs.StartSteps.{HasStartRows, start_filling}
+
+-- a step of help changes nothing of what is held
+serving_keeps : (change : ℕ) (event : Event) → Serves change event → KeepsRows event
+serving_keeps change (Okay c other) is = tt
+serving_keeps change (Decide c other said) is = tt
+serving_keeps change (Resolve c other) is = tt
+serving_keeps change _ is = absurd is
+
+-- ---- where the slot held another word
+
+module _ (who : Caller) (seat : SeatFace) (c : IsCaller who) (g : GoesOnTo who.seat.view seat.view)
+  where
+    pub loads_refused : HasRefused who → HasRefused (record who { seat = seat })
+    loads_refused r =
+        refused_went who seat c r (goes_on_went KeepsRows who.seat.view seat.view g)
+
+    pub loads_quiet : IsQuiet who → IsQuiet (record who { seat = seat })
+    loads_quiet q =
+        record {
+          pending = q.pending;
+          in_call = ap (λ x. x.pending) g.same ∙ q.in_call;
+          resolved = resolved_went who.seat.view seat.view who.number c.mine q.resolved
+              (goes_on_went InstallsNone who.seat.view seat.view g);
+        }
+
+-- ---- where it was installed
+
+-- the rows of a start are the change's and the rebuild's
+pub start_bases : (number parent index target rebuild change : ℕ) (f : Filling)
+    → f ≡ start_filling number parent index target rebuild
+    → bases_of (rows_of f change) ≡ change ∷ rebuild ∷ []
+start_bases number parent index target rebuild change f is =
+    ap (λ (x : Filling). bases_of (rows_of x change)) is
+
+module _ (who : Caller) (rebuild change : ℕ) (rows : HasStartRows who rebuild change)
+    (c : IsCaller who) (f : Filling) (bases : bases_of (rows_of f change) ≡ change ∷ rebuild ∷ [])
+    (seat : SeatFace) (i : IsInstalled who.seat.view change f seat.view) where
+  -- the caller before the install, and behind it without the rows
+  abbrev before : Caller
+  before = record who { seat = record who.seat { view = i.before } }
+
+  abbrev bare : SeatFace → Caller
+  bare at = record who { seat = at; change = None; rebuild = None }
+
+  before_caller : IsCaller before
+  before_caller = caller_goes_on who (record who.seat { view = i.before }) c i.seen
+
+  its : whose (Install i.number change (rows_of f change)) ≡ CallerOf who.number
+  its = sym i.mine ∙ c.mine
+
+  bare_caller : IsCaller (bare seat)
+  bare_caller =
+      caller_made before (bare seat) (Change ∷ Rebuild ∷ [])
+      (Install i.number change (rows_of f change)) (change ∷ rebuild ∷ []) before_caller
+      i.logged.before (logged_made i.before _ seat.view i.logged) its bases
+      (rows.change_is, (rows.rebuild_is, tt)) record { number = refl; rows = refl }
+
+  bare_refused : HasRefused who → HasRefused (bare seat)
+  bare_refused r =
+      refused_made before (bare seat) (Change ∷ Rebuild ∷ [])
+      (Install i.number change (rows_of f change)) (change ∷ rebuild ∷ []) before_caller
+      i.logged.before (logged_made i.before _ seat.view i.logged) its bases
+      (rows.change_is, (rows.rebuild_is, tt)) record { number = refl; rows = refl }
+      (loads_refused who (record who.seat { view = i.before }) c i.seen r)
+
+  module _ (last : SeatFace) (g : WentOn (Serves change) seat.view last.view) where
+    kept : WentOn KeepsRows seat.view last.view
+    kept = went_all (Serves change) KeepsRows (serving_keeps change) seat.view last.view g
+
+    pub put_caller : IsCaller (bare last)
+    put_caller = caller_went (bare seat) last bare_caller kept
+
+    pub put_refused : HasRefused who → HasRefused (bare last)
+    put_refused r = refused_went (bare seat) last bare_caller (bare_refused r) kept
+
+    pub put_quiet : IsQuiet who → IsOut last.view change → IsQuiet (bare last)
+    put_quiet q out =
+        record {
+          pending = q.pending;
+          in_call = ap (λ x. x.pending) g.same ∙ ap (λ x. x.pending) i.logged.view
+              ∙ ap (λ x. x.pending) i.seen.same ∙ q.in_call;
+          resolved = resolved_helped who.seat.view seat.view last.view who.number change f c.mine
+              q.resolved i g out;
+        }

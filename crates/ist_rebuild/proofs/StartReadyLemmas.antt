@@ -1,0 +1,230 @@
+-- A start whose rows are filled may be installed. Serves `start`.
+use Rattle.std.proofs.Common.{◌≡◌, ℕ, ◌≤◌, refl, sym, ap, ap₂, ◌∙◌, subst, inl, inr, ⊎_elim, arith}
+use Rattle.ist_build.specs.Laying.{Reserves}
+use Rattle.ist_core.specs.declared.events.Event.{Event}
+use Rattle.ist_core.specs.declared.events.Event.TheVariants.{Reserve}
+use Rattle.ist_core.specs.declared.states.InnerRow.{InnerRow}
+use Rattle.ist_core.specs.Growing.{InnerGrows}
+use Rattle.ist_core.specs.Installing.{IsUnrefused, FitsKind, a_start}
+use Rattle.ist_core.specs.Lawful.{state_of}
+use Rattle.ist_core.specs.Links.{Linked, WasLinked}
+use Rattle.ist_core.specs.Pieces.{Inner}
+use Rattle.ist_core.specs.Rebuilding.{IsDue, IsUpdate}
+use Rattle.ist_core.specs.References.{word_of, InnerAt, RebuildAt, IsGoodBase}
+use Rattle.ist_core.specs.Slots.{SlotHolds, in_anchor, in_row}
+use Rattle.ist_core.specs.Snapshots.{Snapshot}
+use Rattle.ist_core.specs.StartLayout.{start}
+use Rattle.ist_core.specs.Statuses.{start_kind}
+use Rattle.ist_core.specs.Arithmetic.{limit}
+use Rattle.ist_core.proofs.FateLemmas.{grow_between}
+use Rattle.ist_core.proofs.GrowingLemmas.{inner_there}
+use Rattle.ist_core.proofs.PlaceLemmas.{placed, claimed_within}
+use Rattle.ist_core.proofs.ReferenceLemmas.{ref_of-word_of}
+use Rattle.ist_core.proofs.RoomLemmas.{next_within, words_same}
+use Rattle.ist_rule.specs.declared.view.View.{View}
+use Rattle.ist_rule.specs.Conditions.{IsResolved, StoredAll}
+use Rattle.ist_rule.specs.Going.{WentOn}
+use Rattle.ist_rule.specs.Learning.{now, GoesOnTo}
+use Rattle.ist_rule.specs.Rule.{IsSound}
+use Rattle.ist_rule.specs.Watching.{IsNode, is_anchor, is_inner}
+use Rattle.ist_rule.proofs.LaterLemmas.{goes_on_more, later-goes_on}
+use Rattle.ist_rule.proofs.WentOnLemmas.{goes_on_grow, later_by-goes_on, went_all, went_grow}
+use Rattle.ist_rows.specs.declared.callers.Caller.{Caller}
+use Rattle.ist_rows.specs.CallerLaws.{InstallsNone}
+use Rattle.ist_rows.specs.Rows.{IsCaller}
+use Rattle.ist_rows.proofs.CallerLawLemmas.{resolved_went}
+use Rattle.ist_dcss.specs.Installing.{IsInstallable, rows_of}
+use Rattle.ist_dcss.proofs.FitsLemmas.{ever_later}
+use Rattle.ist_dcss.proofs.SlotPlaceLemmas.{slot_later}
+use Rattle.ist_rebuild.specs.Going.{IsQuiet}
+use Rattle.ist_rebuild.specs.Starting.{MayStart}
+use Rattle.ist_rebuild.specs.StartSteps.{HasStartRows, IsReady, filled_start, start_change, start_filling}
+use Rattle.ist_rebuild.proofs.StartFillLemmas.{rebuild_good, start_held, start_same, start_stored}
+
+-- ---- the slot and the target
+
+-- the slot that is meant is one still
+pub start_slot : (v : View) → IsSound v → (parent index target : ℕ) → MayStart v parent index target
+    → (word : ℕ) × SlotHolds (now v) parent index word
+start_slot v s parent index target m =
+    slot_later (state_of v.start v.words m.prefix) (now v)
+    (grow_between v.start v.words m.prefix v.log s.lawful.enabled m.goes_on) parent index _ m.stood
+
+-- so the parent is a node
+pub start_node : (v : View) → IsSound v → (parent index target : ℕ) → MayStart v parent index target
+    → IsNode (now v) parent
+start_node v s parent index target m =
+    let slot = start_slot v s parent index target m in
+    at (now v) slot.0 slot.1
+  where
+    at : (t : Snapshot) (word : ℕ) → SlotHolds t parent index word → IsNode t parent
+    at t word (in_anchor e f is) = is_anchor e
+    at t word (in_row r e f) = is_inner r e
+
+-- and the target's base is good
+pub target_good : (v : View) → IsSound v → (parent index target : ℕ)
+    → MayStart v parent index target → IsGoodBase target
+target_good v s parent index target m =
+    let claim = claimed_within v.start v.words v.log target _ s.lawful.enabled
+    ((placed v.start v.words v.log s.lawful.enabled).published target (Inner m.row) m.published) in
+    let low = claim.behind_fixed in
+    let some = claim.some in
+    let high = claim.below_next in
+    let next = next_within v.start v.words s.lawful.opens v.log s.lawful.enabled in
+    let all = words_same v.start v.words s.lawful.opens v.log in
+    let small = s.lawful.opens.within in
+    record { behind_fixed = low; below_limit = omega arith }
+
+-- ---- what stays while the caller reserves
+
+-- a reserving installs nothing
+pub reserving_installs : (event : Event) → Reserves event → InstallsNone event
+reserving_installs (Reserve c base size) is = tt
+reserving_installs _ is = absurd is
+
+-- a row that was due is due
+due_on : (old new : InnerRow) → InnerGrows old new → IsDue old → IsDue new
+due_on old new g due =
+    let count = g.count in
+    let same : limit new.size ≡ limit old.size = ap limit g.size in
+    let was : limit old.size ≤ old.count = due in
+    let is : limit new.size ≤ new.count = omega arith in
+    is
+
+-- a caller that reserved is in its call, and all its changes are resolved
+pub reserved_quiet : (old new : Caller) → IsCaller old → new.number ≡ old.number
+    → WentOn Reserves old.seat.view new.seat.view → IsQuiet old → IsQuiet new
+reserved_quiet old new c same g q =
+    record {
+      pending = q.pending;
+      in_call = ap (λ (x : View). x.pending) g.same ∙ q.in_call;
+      resolved = subst (IsResolved new.seat.view) (sym same)
+          (resolved_went old.seat.view new.seat.view old.number c.mine q.resolved
+          (went_all Reserves InstallsNone reserving_installs old.seat.view new.seat.view g));
+    }
+
+-- a seat that may start may do so still once it made loads
+pub may_start_on : (v w : View) (parent index target : ℕ) → GoesOnTo v w
+    → MayStart v parent index target → MayStart w parent index target
+may_start_on v w parent index target g m =
+    let start_is = ap (λ (x : View). x.start) g.same in
+    let words_is = ap (λ (x : View). x.words) g.same in
+    let row = inner_there (now v).pieces (now w).pieces (goes_on_grow v w g) target m.row
+    m.published in
+    record {
+      prefix = m.prefix;
+      goes_on = goes_on_more m.goes_on (later-goes_on g.later);
+      stood = subst (λ t. SlotHolds t parent index (word_of (InnerAt target)))
+          (sym (ap₂ (λ p n. state_of p n m.prefix) start_is words_is)) m.stood;
+      linked = subst (λ t. WasLinked t w.log parent) (sym (ap₂ start start_is words_is))
+          (ever_later (start v.start v.words) (λ t. Linked t parent) v.log w.log
+          (later-goes_on g.later) m.linked);
+      row = row.0;
+      published = row.1;
+      due = ⊎_elim (λ due. inl (due_on m.row row.0 row.2 due)) (λ top. inr top) m.due;
+    }
+
+-- so is one that has filled the rows of a start
+pub filled_quiet : (mid who : Caller) (rebuild change parent index target : ℕ)
+    → who ≡ filled_start mid rebuild change parent index target → IsQuiet mid → IsQuiet who
+filled_quiet mid who rebuild change parent index target is q =
+    subst IsQuiet (sym is)
+    (subst (λ (x : View). IsQuiet (record mid { seat = record mid.seat { view = x } }))
+    (sym (start_same mid rebuild change parent index target))
+    record { pending = q.pending; in_call = q.in_call; resolved = q.resolved })
+
+-- ---- the install
+
+module _ (v : View) (parent index target : ℕ) (m : MayStart v parent index target)
+    (mid who : Caller) (rebuild change : ℕ) (rows : HasStartRows mid rebuild change)
+    (c : IsCaller mid)
+    (g : WentOn Reserves v mid.seat.view) (quiet : IsQuiet mid)
+    (none : IsUnrefused (now mid.seat.view) mid.number parent)
+    (is : who ≡ filled_start mid rebuild change parent index target) (cw : IsCaller who) where
+  abbrev u : View
+  u = mid.seat.view
+
+  abbrev full : Caller
+  full = filled_start mid rebuild change parent index target
+
+  s : IsSound mid.seat.view
+  s = g.sound
+
+  fits : IsSound v → FitsKind (start u.start u.words) u.log
+      (start_change mid.number parent index target rebuild)
+      (start_filling mid.number parent index target rebuild).fresh
+  fits sv =
+      let row = inner_there (now v).pieces (now u).pieces (went_grow Reserves v u g) target m.row
+      m.published in
+      a_start record {
+        kind = refl;
+        key = refl;
+        value = refl;
+        target = target;
+        row = row.0;
+        from = ref_of-word_of (InnerAt target) (target_good v sv parent index target m);
+        published = row.1;
+        due = ⊎_elim (λ due. inl (due_on m.row row.0 row.2 due)) (λ top. inr top) m.due;
+        rebuild = rebuild;
+        to = ref_of-word_of (RebuildAt rebuild) (rebuild_good mid rebuild change rows c s);
+        fresh_are = refl;
+      }
+
+  no_update : IsUpdate start_kind → ⊥
+  no_update (inl e) = let three : ◌≡◌ {A = ℕ} 3 1 = e in omega arith
+  no_update (inr e) = let three : ◌≡◌ {A = ℕ} 3 2 = e in omega arith
+
+  linked : WasLinked (start u.start u.words) u.log parent
+  linked =
+      subst (λ t. WasLinked t u.log parent)
+      (sym (ap₂ start (ap (λ (x : View). x.start) g.same) (ap (λ (x : View). x.words) g.same)))
+      (ever_later (start v.start v.words) (λ t. Linked t parent) v.log u.log
+      (later_by-goes_on g.later) m.linked)
+
+  -- with the view in which the rows are filled
+  installable : IsSound v → IsInstallable full.seat.view change
+      (start_filling mid.number parent index target rebuild)
+  installable sv =
+      let slot = start_slot v sv parent index target m in
+      let here = slot_later (now v) (now u) (went_grow Reserves v u g) parent index slot.0 slot.1 in
+      let w = record u { own = full.seat.view.own } in
+      let at : IsInstallable w change (start_filling mid.number parent index target rebuild) =
+      record {
+        number = mid.number;
+        mine = c.mine;
+        held = start_held mid rebuild change rows c s parent index target;
+        stored = subst (λ (x : View). StoredAll x
+            (rows_of (start_filling mid.number parent index target rebuild) change))
+            (start_same mid rebuild change parent index target)
+            (start_stored mid rebuild change rows c s parent index target);
+        owned = refl;
+        unset = refl;
+        word = here.0;
+        slot = here.1;
+        linked = linked;
+        unrefused = none;
+        fits = fits sv;
+        allowed = record {
+          pending = quiet.pending;
+          in_call = quiet.in_call;
+          resolved = quiet.resolved;
+          command = λ up. absurd (no_update up);
+          none_yet = λ up. absurd (no_update up);
+        };
+      } in
+      subst (λ (x : View). IsInstallable x change
+      (start_filling mid.number parent index target rebuild))
+      (sym (start_same mid rebuild change parent index target)) at
+
+  -- the caller that has filled the rows is ready
+  pub start_ready : IsSound v → IsReady who rebuild change
+      (start_filling who.number parent index target rebuild)
+  start_ready sv =
+      subst (λ (x : Caller). IsReady x rebuild change
+      (start_filling x.number parent index target rebuild)) (sym is)
+      record {
+        caller = subst IsCaller is cw;
+        rows = record { rebuild_is = rows.rebuild_is; change_is = rows.change_is };
+        quiet = filled_quiet mid full rebuild change parent index target refl quiet;
+        may_install = installable sv;
+      }

@@ -1,0 +1,266 @@
+-- What reserving the rows of a start leaves of its caller. Serves `reserve_rows`.
+use Rattle.std.proofs.Common.{◌≡◌, ◌≢◌, ℕ, ◌==◌, ◌||◌, not, true, false, if◌then◌else◌, List, [], ◌∷◌, ◌++◌, map, filter, Option, Some, None, Result, Ok, Err, IfSome, IfErr, refl, sym, ap, ap₂, ◌∙◌, subst, inl, inr, ⊎_elim, arith}
+use Rattle.std.proofs.lemmas.Bool.Decides.{eqb_tells}
+use Rattle.ist_build.specs.Laying.{Reserves}
+use Rattle.ist_core.specs.declared.events.Event.TheVariants.{Reserve}
+use Rattle.ist_core.specs.declared.lists.HeldRow.{HeldRow}
+use Rattle.ist_core.specs.declared.ports.Full.{Full}
+use Rattle.ist_core.specs.Elements.{Among}
+use Rattle.ist_core.specs.Lawful.{Lawful, state_of}
+use Rattle.ist_core.specs.Logs.{same_log, one_event}
+use Rattle.ist_core.specs.RowLayout.{rebuild_words, change_words}
+use Rattle.ist_core.specs.Snapshots.{Snapshot}
+use Rattle.ist_core.specs.StartLayout.{start}
+use Rattle.ist_core.proofs.ElementLemmas.{among-filter}
+use Rattle.ist_core.proofs.SoundLemmas.{sound}
+use Rattle.ist_core.proofs.StartLemmas.{sound_start}
+use Rattle.ist_rule.specs.declared.view.View.{View}
+use Rattle.ist_rule.specs.declared.view.Who.TheVariants.{Caller as CallerOf}
+use Rattle.ist_rule.specs.Authors.{Later}
+use Rattle.ist_rule.specs.Going.{WentOn}
+use Rattle.ist_rule.specs.Learning.{now}
+use Rattle.ist_rule.specs.Rule.{IsSound}
+use Rattle.ist_rule.proofs.GoingOnLemmas.{goes_on_more, looked_goes_on}
+use Rattle.ist_rule.proofs.LaterLemmas.{later-goes_on}
+use Rattle.ist_rule.proofs.WentOnLemmas.{goes_on_went, logged_went, went_more, went_same, went_all}
+use Rattle.ist_rows.specs.declared.callers.Caller.{Caller}
+use Rattle.ist_rows.specs.declared.kinds.Kind.{Kind}
+use Rattle.ist_rows.specs.declared.kinds.Kind.TheVariants.{Leaf, Pair as PairKind, Change, Rebuild}
+use Rattle.ist_rows.specs.Building.{AreStuck, HasRefused}
+use Rattle.ist_rows.specs.CallerLaws.{KeepsRows}
+use Rattle.ist_rows.specs.Kinds.{kind_words}
+use Rattle.ist_rows.specs.Rows.{Spares, spares_of, row_of, with_row, is_base, is_spare, held_by, build_sizes, IsCaller, Reserved, IsFull, IsFresh, IsRefused}
+use Rattle.ist_rows.proofs.BuildingCallLemmas.{Took, took}
+use Rattle.ist_rows.proofs.BuildingLemmas.{all_stuck_on}
+use Rattle.ist_rows.proofs.CallerGoingLemmas.{base_same, or_any}
+use Rattle.ist_rows.proofs.CallerLawLemmas.{refused_went}
+use Rattle.ist_rows.proofs.HeldBehindLemmas.{filter_at, held_by_own, behind_between}
+use Rattle.ist_rows.proofs.HeldListLemmas.{held_by_later}
+use Rattle.ist_rebuild.specs.Going.{Begins}
+use Rattle.ist_rebuild.specs.Starting.{IsStartRefused}
+use Rattle.ist_rebuild.proofs.StartGoingLemmas.{begins_reserving}
+
+-- ---- spare rows
+
+base_differs : (base x : ℕ) → base ≢ x → (base == x) ≡ false
+base_differs base x ne = ⊎_elim (λ k. absurd (ne k.1)) (λ k. k.0) (eqb_tells base x)
+
+-- another row is as spare as it was
+spare_else : (own : Spares) (kind : Kind) (base x : ℕ) → row_of kind own ≡ None → base ≢ x
+    → is_spare (with_row kind base own) x ≡ is_spare own x
+spare_else own Leaf base x none ne =
+    ap (λ a. a || (is_base own.pair x || (is_base own.change x || is_base own.rebuild x)))
+    (base_differs base x ne ∙ sym (ap (λ o. is_base o x) none))
+spare_else own PairKind base x none ne =
+    ap (λ a. is_base own.leaf x || (a || (is_base own.change x || is_base own.rebuild x)))
+    (base_differs base x ne ∙ sym (ap (λ o. is_base o x) none))
+spare_else own Change base x none ne =
+    ap (λ a. is_base own.leaf x || (is_base own.pair x || (a || is_base own.rebuild x)))
+    (base_differs base x ne ∙ sym (ap (λ o. is_base o x) none))
+spare_else own Rebuild base x none ne =
+    ap (λ a. is_base own.leaf x || (is_base own.pair x || (is_base own.change x || a)))
+    (base_differs base x ne ∙ sym (ap (λ o. is_base o x) none))
+
+-- the new row is spare
+spare_here : (own : Spares) (kind : Kind) (base : ℕ) → is_spare (with_row kind base own) base ≡ true
+spare_here own Leaf base =
+    ap (λ a. a || (is_base own.pair base
+    || (is_base own.change base || is_base own.rebuild base))) (base_same base)
+spare_here own PairKind base =
+    ap (λ a. is_base own.leaf base
+    || (a || (is_base own.change base || is_base own.rebuild base))) (base_same base)
+    ∙ or_any (is_base own.leaf base)
+spare_here own Change base =
+    ap (λ a. is_base own.leaf base || (is_base own.pair base || (a || is_base own.rebuild base)))
+    (base_same base)
+    ∙ ap (λ a. is_base own.leaf base || a) (or_any (is_base own.pair base))
+    ∙ or_any (is_base own.leaf base)
+spare_here own Rebuild base =
+    ap (λ a. is_base own.leaf base || (is_base own.pair base || (is_base own.change base || a)))
+    (base_same base)
+    ∙ ap (λ a. is_base own.leaf base || (is_base own.pair base || a))
+    (or_any (is_base own.change base))
+    ∙ ap (λ a. is_base own.leaf base || a) (or_any (is_base own.pair base))
+    ∙ or_any (is_base own.leaf base)
+
+-- the rows of builds are the same, where one more spare row is held
+builds_beside : (own : Spares) (kind : Kind) (row : HeldRow) (held : List HeldRow)
+    → row_of kind own ≡ None → ((h : HeldRow) → Among h held → row.base ≢ h.base)
+    → filter (λ h. not (is_spare (with_row kind row.base own) h.base)) (held ++ row ∷ [])
+    ≡ filter (λ h. not (is_spare own h.base)) held
+builds_beside own kind row [] none apart =
+    filter_at (λ (h : HeldRow). not (is_spare (with_row kind row.base own) h.base)) row [] false
+    (ap not (spare_here own kind row.base))
+builds_beside own kind row (h ∷ held) none apart =
+    ap₂ (λ v ys. if not v then h ∷ ys else ys)
+    (spare_else own kind row.base h.base none (apart h (inl refl)))
+    (builds_beside own kind row held none (λ g i. apart g (inr i)))
+
+-- ---- refused builds
+
+-- what they are depends on the state, the number and the spare rows alone
+refused_as : (a b : Caller) → now b.seat.view ≡ now a.seat.view → b.number ≡ a.number
+    → spares_of b ≡ spares_of a → HasRefused a → HasRefused b
+refused_as a b now_is number_is rows_are r =
+    subst (λ own. AreStuck (now b.seat.view) (build_sizes (now b.seat.view) b.number own))
+    (sym rows_are)
+    (subst (λ n. AreStuck (now b.seat.view) (build_sizes (now b.seat.view) n (spares_of a)))
+    (sym number_is)
+    (subst (λ t. AreStuck t (build_sizes t a.number (spares_of a))) (sym now_is) r))
+
+-- they stay refused where a spare row is reserved
+refused_beside : (old new : Caller) (kind : Kind) (base : ℕ) → IsCaller old
+    → row_of kind (spares_of old) ≡ None
+    → Reserved old.seat.view old.number base (kind_words kind) new.seat.view
+    → new.number ≡ old.number → spares_of new ≡ with_row kind base (spares_of old)
+    → HasRefused old → HasRefused new
+refused_beside old new kind base c none r number_is rows_are h =
+    subst (λ own. AreStuck (now new.seat.view) (build_sizes (now new.seat.view) new.number own))
+    (sym rows_are)
+    (subst (λ n. AreStuck (now new.seat.view)
+    (build_sizes (now new.seat.view) n (with_row kind base own)))
+    (sym number_is)
+    (subst (λ x. AreStuck x (build_sizes x old.number (with_row kind base own)))
+    (sym it.now_is) behind))
+  where
+    own : Spares
+    own = spares_of old
+
+    v : View
+    v = old.seat.view
+
+    it : Took v old.number base (kind_words kind) new.seat.view
+    it = took v old.number base (kind_words kind) new.seat.view r
+
+    later : Later (CallerOf old.number) v.log it.before
+    later = subst (λ who. Later who v.log it.before) c.mine it.later
+
+    lawful_before : Lawful v.start v.words it.before
+    lawful_before = record { opens = it.lawful.opens; enabled = it.lawful.enabled.0 }
+
+    t : Snapshot
+    t = state_of v.start v.words it.before
+
+    u : Snapshot
+    u = state_of v.start v.words (Reserve old.number base (kind_words kind) ∷ it.before)
+
+    was : AreStuck t (build_sizes t old.number own)
+    was =
+        subst (λ held. AreStuck t
+        (map (λ (h : HeldRow). h.size) (filter (λ h. not (is_spare own h.base)) held)))
+        (sym (held_by_later v.start v.words old.number v.log it.before lawful_before.enabled later))
+        (all_stuck_on (now v) t
+        (behind_between v.start v.words v.log it.before lawful_before (later-goes_on later)) _ h)
+
+    apart : (h : HeldRow) → Among h (held_by t old.number) → base ≢ h.base
+    apart h i same =
+        let there = among-filter (λ (x : HeldRow). x.caller == old.number) h t.held i in
+        let low = (sound (start v.start v.words) it.before (sound_start v.start v.words)
+        it.lawful.enabled.0).held_below h there.0 in
+        let at_next = it.lawful.enabled.1.base_is in
+        omega arith
+
+    sizes : build_sizes u old.number (with_row kind base own) ≡ build_sizes t old.number own
+    sizes =
+        let row : HeldRow = record { caller = old.number; base = base; size = kind_words kind } in
+        ap (λ held. map (λ (h : HeldRow). h.size)
+        (filter (λ h. not (is_spare (with_row kind base own) h.base)) held))
+        (held_by_own v.start v.words it.before old.number
+        (Reserve old.number base (kind_words kind)) refl)
+        ∙ ap (map (λ (h : HeldRow). h.size))
+        (builds_beside own kind row (held_by t old.number) none apart)
+
+    behind : AreStuck u (build_sizes u old.number (with_row kind base own))
+    behind =
+        subst (AreStuck u) (sym sizes)
+        (all_stuck_on t u
+        (behind_between v.start v.words it.before
+        (Reserve old.number base (kind_words kind) ∷ it.before) it.lawful
+        (one_event (Reserve old.number base (kind_words kind)) same_log)) _ was)
+
+-- ---- one reserving
+
+-- the seat goes on by its reserving
+reserved_went : (v : View) (number base size : ℕ) (w : View) → Reserved v number base size w
+    → WentOn Reserves v w
+reserved_went v number base size w r =
+    went_more Reserves v r.before w (goes_on_went Reserves v r.before r.seen)
+    (logged_went Reserves r.before (Reserve number base size) w r.reserved tt refl)
+
+-- what a reserving answers
+module _ (words : ℕ) (kind : Kind) (old new : Caller) (answer : Result ℕ Full)
+    (held : IfSome (row_of kind (spares_of old)) (λ base. (answer ≡ Ok base) × (new ≡ old)))
+    (fresh : IsFresh kind old new answer)
+    (full : IfErr answer (λ f. IsRefused words kind old new f)) where
+  -- the seat has reserved at most
+  pub reserve_went : IsSound old.seat.view → WentOn Reserves old.seat.view new.seat.view
+  reserve_went s = at (row_of kind (spares_of old)) refl held answer refl fresh full
+    where
+      at : (o : Option ℕ) → row_of kind (spares_of old) ≡ o
+          → IfSome o (λ base. (answer ≡ Ok base) × (new ≡ old))
+          → (a : Result ℕ Full) → answer ≡ a → IsFresh kind old new a
+          → IfErr a (λ f. IsRefused words kind old new f)
+          → WentOn Reserves old.seat.view new.seat.view
+      at (Some base) e h a is f r =
+          subst (λ (x : Caller). WentOn Reserves old.seat.view x.seat.view) (sym h.1)
+          (went_same Reserves old.seat.view s)
+      at None e h (Ok base) is f r =
+          reserved_went old.seat.view old.number base (kind_words kind) new.seat.view (f e).0
+      at None e h (Err x) is f r =
+          goes_on_went Reserves old.seat.view new.seat.view
+          (goes_on_more _ _ _ r.cause.seen (looked_goes_on _ _ _ _ r.cause.looked))
+
+  -- and its refused builds are refused still
+  pub reserve_refused : IsCaller old → new.number ≡ old.number → HasRefused old → HasRefused new
+  reserve_refused c number_is was =
+      at (row_of kind (spares_of old)) refl held answer fresh full
+    where
+      at : (o : Option ℕ) → row_of kind (spares_of old) ≡ o
+          → IfSome o (λ base. (answer ≡ Ok base) × (new ≡ old))
+          → (a : Result ℕ Full) → IsFresh kind old new a
+          → IfErr a (λ f. IsRefused words kind old new f) → HasRefused new
+      at (Some base) e h a f r = subst HasRefused (sym h.1) was
+      at None e h (Ok base) f r =
+          refused_beside old new kind base c e (f e).0 number_is (f e).1 was
+      at None e h (Err x) f r =
+          refused_as (record old { seat = new.seat }) new refl number_is r.same
+          (refused_went old new.seat c was
+          (goes_on_went KeepsRows old.seat.view new.seat.view
+          (goes_on_more _ _ _ r.cause.seen (looked_goes_on _ _ _ _ r.cause.looked))))
+
+-- ---- for want of words
+
+-- the rebuild's row was refused
+pub rebuild_short : (v : View) (words : ℕ) (full : Full) (w : View)
+    → IsFull v words rebuild_words full w → IsStartRefused v words full w
+rebuild_short v words full w f =
+    let asked = f.asked in
+    let small = f.small in
+    record {
+      short = record {
+        before = f.before;
+        seen = goes_on_went Begins v f.before f.seen;
+        looked = f.looked;
+        words_is = f.words_is;
+        small = omega arith;
+      };
+      asked = inl f.asked;
+    }
+
+-- the change's row was refused
+pub change_short : (u v : View) (words : ℕ) (full : Full) (w : View) → WentOn Reserves u v
+    → IsFull v words change_words full w → IsStartRefused u words full w
+change_short u v words full w g f =
+    let asked = f.asked in
+    let small = f.small in
+    record {
+      short = record {
+        before = f.before;
+        seen = went_more Begins u v f.before (went_all Reserves Begins begins_reserving u v g)
+            (goes_on_went Begins v f.before f.seen);
+        looked = f.looked;
+        words_is = f.words_is;
+        small = omega arith;
+      };
+      asked = inr f.asked;
+    }

@@ -1,0 +1,53 @@
+use Rattle.std.proofs.Common.{subst}
+use Rattle.ist_rule.specs.Faces.{word_count_of}
+use Rattle.ist_build.proofs.ShareLemmas.{err_map}
+use Rattle.ist_rebuild.specs.Going.{Serves}
+use Rattle.ist_rebuild.specs.Helping.{IsHelpRefused}
+use Rattle.ist_rebuild.proofs.AbleLemmas.{helped_loads, helped_more, started_went}
+use Rattle.ist_rebuild.proofs.RefusalLemmas.{passed_on, refused_more}
+use Rattle.ist_rebuild.proofs.helping.help_rebuild.Goals as goal
+
+-- a build that was refused
+pub returns-in_err-build_out-clause-went : goal.returns-in_err-build_out-clause-went
+returns-in_err-build_out-clause-went g c =
+    (helped_more c.args.who.now c.mark_target.new.who c.build_out.new.who
+    c.mark_target.ensures.helped c.build_out.ensures.helped).went
+
+pub returns-in_err-build_out-clause-full : goal.returns-in_err-build_out-clause-full
+returns-in_err-build_out-clause-full g c =
+    passed_on c.from_residual.result _ _ c.from_residual.ensures.1
+    (refused_more _ _ _ c.args.rebuild _ _ c.mark_target.ensures.helped.went
+    c.in_err-build_out.ensures.full)
+
+-- the rebuild is started still
+pub plan_of-plan-requires-clause-started : goal.plan_of-plan-requires-clause-started
+plan_of-plan-requires-clause-started g c =
+    started_went Serves _ _
+    (helped_more c.args.who.now c.mark_target.new.who c.build_out.new.who
+    c.mark_target.ensures.helped c.build_out.ensures.helped).went c.args.rebuild
+    c.requires.started
+
+pub finish-requires-clause-able : goal.finish-requires-clause-able
+finish-requires-clause-able g c =
+    (helped_loads c.mark_target.new.who c.build_out.new.who c.plan_of-plan.new.seat
+    c.build_out.ensures.helped c.plan_of-plan.ensures.seen).able
+
+-- each step was one of help
+pub returns-clause-went : goal.returns-clause-went
+returns-clause-went g c =
+    let built = helped_loads c.mark_target.new.who c.build_out.new.who c.plan_of-plan.new.seat
+    c.build_out.ensures.helped c.plan_of-plan.ensures.seen in
+    (helped_more c.args.who.now _ c.finish.new.who
+    (helped_more c.args.who.now c.mark_target.new.who _ c.mark_target.ensures.helped built)
+    c.finish.ensures.helped).went
+
+pub returns-clause-full : goal.returns-clause-full
+returns-clause-full g c =
+    let built = helped_loads c.mark_target.new.who c.build_out.new.who c.plan_of-plan.new.seat
+    c.build_out.ensures.helped c.plan_of-plan.ensures.seen in
+    let all = helped_more c.args.who.now c.mark_target.new.who _ c.mark_target.ensures.helped
+    built in
+    err_map _ _ c.finish.result
+    (λ full h. refused_more _ _ _ c.args.rebuild _ full all.went
+    (subst (λ n. IsHelpRefused c.plan_of-plan.new.seat.view n (word_count_of c.args.table.now) full
+    c.finish.new.who.seat.view) c.plan_of-plan.ensures.rebuild h)) c.finish.ensures.full

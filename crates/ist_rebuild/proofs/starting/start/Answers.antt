@@ -1,0 +1,113 @@
+use Rattle.std.proofs.Common.{rules, refl, Ok}
+use Rattle.ist_build.specs.Laying.{Reserves}
+use Rattle.ist_rebuild.specs.declared.answers.Started.TheVariants.{Marked}
+use Rattle.ist_rebuild.specs.Going.{Begins}
+use Rattle.ist_rule.proofs.WentOnLemmas.{goes_on_went, went_all, went_more}
+use Rattle.ist_rows.proofs.CallerGoingLemmas.{caller_goes_on}
+use Rattle.ist_rebuild.proofs.StartAnswerLemmas.{behind_done, err_done, refused_behind, same_answer}
+use Rattle.ist_rebuild.proofs.StartGoingLemmas.{begins_reserving}
+use Rattle.ist_rebuild.proofs.StartOwnLemmas.{starts_reserving}
+use Rattle.ist_rebuild.proofs.StartPutLemmas.{loads_quiet, loads_refused}
+use Rattle.ist_rebuild.proofs.StartReadyLemmas.{may_start_on, start_node}
+use Rattle.ist_rebuild.proofs.starting.start.Goals as goal
+
+-- the parent is a node
+pub is_open-requires-clause-node : goal.is_open-requires-clause-node
+is_open-requires-clause-node g c =
+    start_node _ c.know.ensures.sound c.args.parent c.args.index c.args.target c.requires.may_start
+
+-- ---- the parent isn't open
+
+pub returns-then-not-is_open-clause-caller : goal.returns-then-not-is_open-clause-caller
+returns-then-not-is_open-clause-caller g c =
+    caller_goes_on c.args.who.now c.is_open.new.seat c.requires.caller c.is_open.ensures.seen
+
+pub returns-then-not-is_open-clause-went : goal.returns-then-not-is_open-clause-went
+returns-then-not-is_open-clause-went g c = goes_on_went Begins _ _ c.is_open.ensures.seen
+
+pub returns-then-not-is_open-clause-quiet : goal.returns-then-not-is_open-clause-quiet
+returns-then-not-is_open-clause-quiet g c =
+    loads_quiet c.args.who.now c.is_open.new.seat c.requires.caller c.is_open.ensures.seen
+    c.requires.quiet
+
+pub returns-then-not-is_open-clause-refused : goal.returns-then-not-is_open-clause-refused
+returns-then-not-is_open-clause-refused g c =
+    loads_refused c.args.who.now c.is_open.new.seat c.requires.caller c.is_open.ensures.seen
+
+pub returns-then-not-is_open-clause-done : goal.returns-then-not-is_open-clause-done
+returns-then-not-is_open-clause-done g c =
+    starts_reserving _ _ (goes_on_went Reserves _ _ c.is_open.ensures.seen) _ c.requires.caller.mine
+    c.requires.quiet.resolved
+
+-- ---- the parent is open, and no change of the caller on it was decided no
+
+pub prepare-requires-clause-caller : goal.prepare-requires-clause-caller
+prepare-requires-clause-caller g c =
+    caller_goes_on c.args.who.now c.is_open.new.seat c.requires.caller c.is_open.ensures.seen
+
+pub prepare-requires-clause-quiet : goal.prepare-requires-clause-quiet
+prepare-requires-clause-quiet g c =
+    loads_quiet c.args.who.now c.is_open.new.seat c.requires.caller c.is_open.ensures.seen
+    c.requires.quiet
+
+pub prepare-requires-clause-may_start : goal.prepare-requires-clause-may_start
+prepare-requires-clause-may_start g c =
+    may_start_on _ _ c.args.parent c.args.index c.args.target c.is_open.ensures.seen
+    c.requires.may_start
+
+pub prepare-requires-clause-unrefused : goal.prepare-requires-clause-unrefused
+prepare-requires-clause-unrefused g c =
+    c.is_open.ensures.unrefused c.args.who.now.number c.if-not-is_open.false
+
+-- ---- the rows are refused
+
+pub returns-in_err-rows-clause-went : goal.returns-in_err-rows-clause-went
+returns-in_err-rows-clause-went g c =
+    went_more Begins _ _ _ (goes_on_went Begins _ _ c.is_open.ensures.seen)
+    (went_all Reserves Begins begins_reserving _ _ c.in_err-rows.ensures.went)
+
+pub returns-in_err-rows-clause-refused : goal.returns-in_err-rows-clause-refused
+returns-in_err-rows-clause-refused g c was =
+    c.in_err-rows.ensures.refused
+    (loads_refused c.args.who.now c.is_open.new.seat c.requires.caller c.is_open.ensures.seen was)
+
+pub returns-in_err-rows-clause-full : goal.returns-in_err-rows-clause-full
+returns-in_err-rows-clause-full g c =
+    let short = refused_behind _ _ _ _ _ c.is_open.ensures.seen c.in_err-rows.ensures.full in
+    search rules
+
+pub returns-in_err-rows-clause-done : goal.returns-in_err-rows-clause-done
+returns-in_err-rows-clause-done g c done =
+    err_done _ _ _ c.from_residual.ensures.0
+    (starts_reserving _ _
+    (went_more Reserves _ _ _ (goes_on_went Reserves _ _ c.is_open.ensures.seen)
+    c.in_err-rows.ensures.went) _ c.requires.caller.mine c.requires.quiet.resolved done)
+
+-- ---- the install
+
+-- the rows are filled
+pub put_in-requires : goal.put_in-requires
+put_in-requires g c = (c.in_ok-rows.ensures.same_table, (c.in_ok-rows.ensures.ready, refl))
+
+pub returns-clause-went : goal.returns-clause-went
+returns-clause-went g c =
+    went_more Begins _ _ _
+    (went_more Begins _ _ _ (goes_on_went Begins _ _ c.is_open.ensures.seen)
+    (went_all Reserves Begins begins_reserving _ _ c.in_ok-rows.ensures.went))
+    c.put_in.ensures.went
+
+pub returns-clause-refused : goal.returns-clause-refused
+returns-clause-refused g c was =
+    c.put_in.ensures.refused (c.in_ok-rows.ensures.refused
+    (loads_refused c.args.who.now c.is_open.new.seat c.requires.caller c.is_open.ensures.seen was))
+
+pub returns-clause-marked : goal.returns-clause-marked
+returns-clause-marked g c is = c.put_in.ensures.marked (same_answer c.put_in.result Marked is)
+
+pub returns-clause-done : goal.returns-clause-done
+returns-clause-done g c =
+    behind_done _ _ c.put_in.new.who.seat.view
+    (went_more Reserves _ _ _ (goes_on_went Reserves _ _ c.is_open.ensures.seen)
+    c.in_ok-rows.ensures.went) c.args.who.now.number _ c.requires.caller.mine
+    c.requires.quiet.resolved c.in_ok-rows.ensures.number (Ok c.put_in.result)
+    c.put_in.ensures.done

@@ -1,0 +1,63 @@
+-- When a caller may start or help a rebuild, how its seat goes on meanwhile, and for want of which
+-- words it is refused.
+use Rattle.std.specs.Prelude.{◌≡◌, ℕ, ◌+◌, ◌<◌, List, Some}
+use Rattle.ist_core.specs.declared.events.Event.{Event}
+use Rattle.ist_core.specs.declared.events.Event.TheVariants.{Enter, Reserve, Install, Okay, Count, Decide, Resolve}
+use Rattle.ist_core.specs.declared.lists.Row.{Row}
+use Rattle.ist_core.specs.declared.ports.Full.{Full}
+use Rattle.ist_core.specs.declared.states.ChangeRow.{ChangeRow}
+use Rattle.ist_core.specs.RowLayout.{next_place}
+use Rattle.ist_core.specs.Statuses.{start_kind, finish_kind}
+use Rattle.ist_core.specs.Writing.{first_change}
+use Rattle.ist_rule.specs.declared.view.Pending.{Pending}
+use Rattle.ist_rule.specs.declared.view.View.{View}
+use Rattle.ist_rule.specs.Conditions.{IsResolved}
+use Rattle.ist_rule.specs.Going.{WentOn}
+use Rattle.ist_rule.specs.Learning.{Looked}
+use Rattle.ist_rows.specs.declared.callers.Caller.{Caller}
+
+-- ---- when
+
+-- the caller is in a call, in which each change that it installed is resolved
+pub record IsQuiet (who : Caller) : Type 0 where
+  pub pending : Pending
+  pub in_call : who.seat.view.pending ≡ Some pending
+  pub resolved : IsResolved who.seat.view who.number
+
+-- ---- how the seat goes on
+
+-- the rows are those of a change of this kind
+abbrev pub IsOfKind : ℕ → List Row → Type 0
+IsOfKind kind rows = (change : ChangeRow) → first_change rows ≡ Some change → change.kind ≡ kind
+
+-- the event is a step of starting a rebuild: a reserving, the installing of a start, or a step of
+-- help
+abbrev pub Begins : Event → Type 0
+Begins (Reserve caller base size) = Unit {0}
+Begins (Install caller base rows) = IsOfKind start_kind rows
+Begins (Okay caller base) = Unit {0}
+Begins (Decide caller base said) = Unit {0}
+Begins (Resolve caller base) = Unit {0}
+Begins _ = ⊥
+
+-- the event is a step of helping one: of Installs that of a finish alone, no Count, and no Enter
+abbrev pub Serves : Event → Type 0
+Serves (Enter caller) = ⊥
+Serves (Install caller base rows) = IsOfKind finish_kind rows
+Serves (Count caller node) = ⊥
+Serves _ = Unit {0}
+
+-- the caller holds the leaf and the pair row that it held
+abbrev pub KeepsFresh : Caller → Caller → Type 0
+KeepsFresh old new = (new.leaf ≡ old.leaf) × (new.pair ≡ old.pair)
+
+-- ---- for want of words
+
+-- a load of the first word, the last step of the call, gave how many words are used, and fewer are left
+-- than were asked for; before it the seat made events that P is true of
+pub record IsShortOf (P : Event → Type 0) (v : View) (words : ℕ) (full : Full) (w : View) : Type 0 where
+  pub before : View
+  pub seen : WentOn P v before
+  pub looked : Looked before next_place full.next w
+  pub words_is : full.words ≡ words
+  pub small : words < full.next + full.asked

@@ -1,0 +1,33 @@
+-- Helping a rebuild: what comes of it.
+use Rattle.std.specs.Prelude.{◌≡◌, ℕ, ◌≤◌, Some}
+use Rattle.ist_core.specs.declared.ports.Full.{Full}
+use Rattle.ist_core.specs.declared.states.RebuildRow.{RebuildRow}
+use Rattle.ist_core.specs.Arithmetic.{degree}
+use Rattle.ist_core.specs.Pieces.{Rebuild}
+use Rattle.ist_core.specs.Rebuilding.{IsFinishedWith, IsReplaced}
+use Rattle.ist_core.specs.RowLayout.{change_words, inner_words}
+use Rattle.ist_core.specs.Slots.{IsOpen}
+use Rattle.ist_core.specs.Snapshots.{Snapshot}
+use Rattle.ist_rule.specs.declared.view.View.{View}
+use Rattle.ist_rule.specs.Learning.{now}
+use Rattle.ist_rebuild.specs.Going.{IsShortOf, Serves}
+
+-- the rebuild stands in its slot still, in a parent that isn't open
+pub record IsLeftToParent (t : Snapshot) (rebuild : ℕ) : Type 0 where
+  pub row : RebuildRow
+  pub published : t.pieces rebuild ≡ Some (Rebuild row)
+  pub closed : ¬ (IsOpen t row.parent)
+  pub stands : ¬ (IsReplaced t rebuild)
+
+-- so many words were asked for: for a change, or for a row over no more keys than the finished target
+-- has, and over two at least
+pub data IsAskedFor (t : Snapshot) (rebuild asked : ℕ) : Type 0 where
+  for_change : asked ≡ change_words → IsAskedFor t rebuild asked
+  for_row : (row : RebuildRow) (k some : ℕ) → t.pieces rebuild ≡ Some (Rebuild row)
+      → IsFinishedWith t row.target k → 2 ≤ some → some ≤ k → asked ≡ inner_words (degree some)
+      → IsAskedFor t rebuild asked
+
+-- the caller was refused a row for the change, or for what it built
+pub record IsHelpRefused (v : View) (rebuild words : ℕ) (full : Full) (w : View) : Type 0 where
+  pub short : IsShortOf Serves v words full w
+  pub asked : IsAskedFor (now w) rebuild full.asked

@@ -1,0 +1,72 @@
+-- Starting a rebuild: when a caller may, and what comes of it.
+use Rattle.std.specs.Prelude.{◌≡◌, ◌≢◌, ℕ, ◌⊎◌, Result, Ok, Err, Some}
+use Rattle.ist_core.specs.declared.ports.Full.{Full}
+use Rattle.ist_core.specs.declared.states.ChangeRow.{ChangeRow}
+use Rattle.ist_core.specs.declared.states.InnerRow.{InnerRow}
+use Rattle.ist_core.specs.declared.states.RebuildRow.{RebuildRow}
+use Rattle.ist_core.specs.Lawful.{state_of}
+use Rattle.ist_core.specs.Links.{WasLinked}
+use Rattle.ist_core.specs.Logs.{Log, GoesOn}
+use Rattle.ist_core.specs.Pieces.{Inner, Change, Rebuild}
+use Rattle.ist_core.specs.Rebuilding.{IsDue, IsStarted}
+use Rattle.ist_core.specs.References.{InnerAt, RebuildAt, ref_of, word_of}
+use Rattle.ist_core.specs.RowLayout.{anchor, change_words, rebuild_words}
+use Rattle.ist_core.specs.Slots.{SlotHolds}
+use Rattle.ist_core.specs.Snapshots.{Snapshot}
+use Rattle.ist_core.specs.StartLayout.{start}
+use Rattle.ist_core.specs.Statuses.{start_kind, decided_yes}
+use Rattle.ist_rule.specs.declared.view.View.{View}
+use Rattle.ist_rule.specs.Learning.{now}
+use Rattle.ist_settling.specs.Settling.{IsDoneStart, StartsAreDone}
+use Rattle.ist_rebuild.specs.declared.answers.Started.{Started}
+use Rattle.ist_rebuild.specs.declared.answers.Started.TheVariants.{Yes, Other, Marked}
+use Rattle.ist_rebuild.specs.Going.{IsShortOf, Begins}
+
+-- ---- when
+
+-- the seat has seen the target stand in this slot of the parent, which was linked; and the target is
+-- due, or the parent is the anchor
+pub record MayStart (v : View) (parent index target : ℕ) : Type 0 where
+  pub prefix : Log
+  pub goes_on : GoesOn prefix v.log
+  pub stood : SlotHolds (state_of v.start v.words prefix) parent index (word_of (InnerAt target))
+  pub linked : WasLinked (start v.start v.words) v.log parent
+  pub row : InnerRow
+  pub published : (now v).pieces target ≡ Some (Inner row)
+  pub due : IsDue row ⊎ (parent ≡ anchor)
+
+-- ---- what comes of it
+
+-- the rebuild is a started one of this target, in this slot of the parent
+pub record IsStartedAt (t : Snapshot) (rebuild parent index target : ℕ) : Type 0 where
+  pub row : RebuildRow
+  pub published : t.pieces rebuild ≡ Some (Rebuild row)
+  pub target_is : row.target ≡ target
+  pub parent_is : row.parent ≡ parent
+  pub index_is : row.index ≡ index
+  pub started : IsStarted t rebuild
+
+-- the slot held this word in place of the target when the start was to be installed
+pub record StoodInstead (w : View) (parent index target word : ℕ) : Type 0 where
+  pub holds : SlotHolds (now w) parent index word
+  pub differs : word ≢ word_of (InnerAt target)
+
+-- each start of the caller that was decided yes is done, but for that of this rebuild
+abbrev pub StartsAreDoneBut : Snapshot → ℕ → ℕ → Type 0
+StartsAreDoneBut t caller but =
+    (base : ℕ) (change : ChangeRow) → t.pieces base ≡ Some (Change change)
+    → change.owner ≡ caller → change.kind ≡ start_kind → change.decision ≡ decided_yes
+    → (rebuild : ℕ) → ref_of change.to ≡ Some (RebuildAt rebuild)
+    → (rebuild ≡ but) ⊎ IsDoneStart t change rebuild
+
+-- where a rebuild was started, the others that the caller started are done; and where none was, all are
+abbrev pub LeavesDone : Snapshot → ℕ → Result Started Full → Type 0
+LeavesDone t caller (Ok (Yes rebuild)) = StartsAreDoneBut t caller rebuild
+LeavesDone t caller (Ok (Other word)) = StartsAreDone t caller
+LeavesDone t caller (Ok Marked) = StartsAreDone t caller
+LeavesDone t caller (Err full) = StartsAreDone t caller
+
+-- the caller was refused a row for the rebuild, or for the change
+pub record IsStartRefused (v : View) (words : ℕ) (full : Full) (w : View) : Type 0 where
+  pub short : IsShortOf Begins v words full w
+  pub asked : (full.asked ≡ rebuild_words) ⊎ (full.asked ≡ change_words)

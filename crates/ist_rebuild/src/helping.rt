@@ -1,0 +1,77 @@
+//! Helping a rebuild until it is done.
+ghost use Rattle.std.specs.Prelude.{◌≡◌, Ok, IfErr};
+ghost use Rattle.ist_core.specs.Rebuilding.{IsStarted, IsReplaced};
+ghost use Rattle.ist_rebuild.specs.declared.answers.Helped.TheVariants.{Replaced, ParentMarked};
+ghost use Rattle.ist_rule.specs.Faces.{word_count_of};
+ghost use Rattle.ist_rule.specs.Going.{WentOn};
+ghost use Rattle.ist_rule.specs.Learning.{now};
+ghost use Rattle.ist_rows.specs.Building.{HasRefused};
+ghost use Rattle.ist_rows.specs.Rows.{IsCaller};
+ghost use Rattle.ist_build.specs.Calls.{IsBuildable};
+ghost use Rattle.ist_rebuild.specs.Finishing.{IsAble, HasHelped};
+ghost use Rattle.ist_rebuild.specs.Going.{IsQuiet, Serves, KeepsFresh};
+ghost use Rattle.ist_rebuild.specs.Helping.{IsLeftToParent, IsHelpRefused};
+
+use crate::answers::Helped;
+use crate::finishing::{build_out, finish};
+use crate::sites::{plan_of, target_of};
+use ist_core::Full;
+use ist_mark::mark_and_count;
+use ist_rows::Caller;
+use ist_rule::TreeTable;
+use std::sync::Wait;
+
+// Marks the target of a started rebuild, and counts its keys: the rebuild may be built then.
+fn mark_target<R: Wait>(table: &TreeTable, rt: &R, who: &mut Caller, rebuild: u32)
+    requires same_table { who.old.seat.table ≡ table.now.table }
+    requires able { IsAble who.old }
+    requires started { IsStarted (now who.old.seat.view) rebuild }
+    ensures same_table { who.new.seat.table ≡ table.now.table }
+    ensures helped { HasHelped who.old who.new }
+    ensures buildable { IsBuildable (now who.new.seat.view) rebuild }
+{
+    let target = target_of(table, &mut who.seat, rebuild);
+    mark_and_count(table, rt, &mut who.seat, target);
+}
+
+/// Helps a started rebuild until it is done: marks its target and counts the keys, sets its root,
+/// fills the root's parts, and puts the root in the place of the target, by a change.
+///
+/// `Replaced` comes exactly where a finish of this rebuild was decided yes. `ParentMarked` comes
+/// only where the parent isn't open: the rebuild stands in its slot still, and reads as its target.
+/// Any number of callers may help one rebuild, and each of them may stand still at any step. `Full`
+/// comes where a load of the first word in this call left too few words for the change, or for a
+/// row of what is built; the rows of a refused build stay held. Retries while others reserve or
+/// install, and takes no memory.
+///
+/// Source: Brown, Prokopec and Alistarh, "Non-Blocking Interpolation Search Trees with
+/// Doubly-Logarithmic Running Time", PPoPP 2020.
+pub fn help_rebuild<R: Wait>(
+    table: &TreeTable,
+    rt: &R,
+    who: &mut Caller,
+    rebuild: u32,
+) -> Result<Helped, Full>
+    requires same_table { who.old.seat.table ≡ table.now.table }
+    requires caller { IsCaller who.old }
+    requires refused { HasRefused who.old }
+    requires quiet { IsQuiet who.old }
+    requires started { IsStarted (now who.old.seat.view) rebuild }
+    ensures same_table { who.new.seat.table ≡ table.now.table }
+    ensures caller { IsCaller who.new }
+    ensures number { who.new.number ≡ who.old.number }
+    ensures fresh { KeepsFresh who.old who.new }
+    ensures refused { HasRefused who.new }
+    ensures went { WentOn Serves who.old.seat.view who.new.seat.view }
+    ensures quiet { IsQuiet who.new }
+    ensures replaced { result ≡ Ok Replaced → IsReplaced (now who.new.seat.view) rebuild }
+    ensures parent_marked { result ≡ Ok ParentMarked
+        → IsLeftToParent (now who.new.seat.view) rebuild }
+    ensures full { IfErr result (λ full. IsHelpRefused who.old.seat.view rebuild
+        (word_count_of table.now) full who.new.seat.view) }
+{
+    mark_target(table, rt, who, rebuild);
+    build_out(table, rt, who, rebuild)?;
+    let plan = plan_of(table, &mut who.seat, rebuild);
+    finish(table, rt, who, plan)
+}

@@ -1,0 +1,158 @@
+//! What a rebuild's row says, and what its slot tells.
+ghost use Rattle.std.specs.Prelude.{◌≡◌, ◌≢◌, ℕ, ◌<◌, Some};
+ghost use Rattle.ist_core.specs.Marking.{HasTarget};
+ghost use Rattle.ist_core.specs.Rebuilding.{IsStarted, IsReplaced};
+ghost use Rattle.ist_core.specs.References.{ChangeAt, RebuildAt, ref_of};
+ghost use Rattle.ist_core.specs.RowLayout.{rebuild_words};
+ghost use Rattle.ist_core.specs.Slots.{SlotHolds, IsOpen};
+ghost use Rattle.ist_rule.specs.Learning.{now, GoesOnTo};
+ghost use Rattle.ist_build.specs.Calls.{IsBuiltOut};
+ghost use Rattle.ist_rebuild.specs.declared.answers.Helped.TheVariants.{Replaced, ParentMarked};
+ghost use Rattle.ist_rebuild.specs.declared.sites.Met.TheVariants.{Change, Itself, Another};
+ghost use Rattle.ist_rebuild.specs.Finishing.{IsAble, HasHelped, IsRebuild, IsWordOf, IsPlan};
+ghost use Rattle.ist_rebuild.specs.Helping.{IsLeftToParent};
+
+use crate::answers::Helped;
+use ist_dcss::{help, slot_at};
+use ist_layout::{
+    REBUILD_INDEX_OFFSET, REBUILD_PARENT_OFFSET, REBUILD_ROOT_OFFSET, REBUILD_TARGET_OFFSET, Ref,
+};
+use ist_rows::Caller;
+use ist_rule::{TreeSeat, TreeTable, know, load};
+use std::sync::Wait;
+
+/// What the finish of a rebuild is to do: put this root into slot `index` of the parent.
+#[derive(Clone, Copy, Drop)]
+pub(crate) struct Plan {
+    pub(crate) rebuild: u32,
+    pub(crate) parent: u32,
+    pub(crate) index: u64,
+    pub(crate) root: u64,
+}
+
+/// What a word in the slot of a rebuild is to it.
+#[derive(Clone, Copy, Drop)]
+pub(crate) enum Met {
+    /// That of a change.
+    Change(u32),
+    /// That of the rebuild itself.
+    Itself,
+    /// Another, and of no change.
+    Another,
+}
+
+// A word of the rebuild's row.
+fn field(table: &TreeTable, seat: &mut TreeSeat, rebuild: u32, offset: u64) -> u64
+    requires same_table { seat.old.table ≡ table.now.table }
+    requires published { IsRebuild (now seat.old.view) rebuild }
+    requires within { offset < rebuild_words }
+    ensures same_table { seat.new.table ≡ seat.old.table }
+    ensures seen { GoesOnTo seat.old.view seat.new.view }
+    ensures field { IsWordOf (now seat.new.view) rebuild offset result }
+{
+    know(seat);
+    load(table, seat, u64::from(rebuild) + offset)
+}
+
+/// The node that a started rebuild is to replace.
+pub(crate) fn target_of(table: &TreeTable, seat: &mut TreeSeat, rebuild: u32) -> u32
+    requires same_table { seat.old.table ≡ table.now.table }
+    requires started { IsStarted (now seat.old.view) rebuild }
+    ensures same_table { seat.new.table ≡ seat.old.table }
+    ensures seen { GoesOnTo seat.old.view seat.new.view }
+    ensures target { HasTarget (now seat.new.view) rebuild result }
+{
+    know(seat);
+    let target = field(table, seat, rebuild, REBUILD_TARGET_OFFSET);
+    know(seat);
+    target as u32
+}
+
+/// What the finish of a started rebuild is to do, once its root is built.
+pub(crate) fn plan_of(table: &TreeTable, seat: &mut TreeSeat, rebuild: u32) -> Plan
+    requires same_table { seat.old.table ≡ table.now.table }
+    requires started { IsStarted (now seat.old.view) rebuild }
+    requires built { IsBuiltOut (now seat.old.view) rebuild }
+    ensures same_table { seat.new.table ≡ seat.old.table }
+    ensures seen { GoesOnTo seat.old.view seat.new.view }
+    ensures rebuild { result.rebuild ≡ rebuild }
+    ensures plan { IsPlan seat.new.view result }
+{
+    know(seat);
+    let parent = field(table, seat, rebuild, REBUILD_PARENT_OFFSET);
+    let index = field(table, seat, rebuild, REBUILD_INDEX_OFFSET);
+    let root = field(table, seat, rebuild, REBUILD_ROOT_OFFSET);
+    know(seat);
+    let parent = parent as u32;
+    Plan {
+        rebuild,
+        parent,
+        index,
+        root,
+    }
+}
+
+/// What the word is to the rebuild in whose slot it stands.
+pub(crate) fn meet(word: u64, rebuild: u32) -> Met
+    ensures change { (change : ℕ) → result ≡ Change change → ref_of word ≡ Some (ChangeAt change) }
+    ensures itself { result ≡ Itself → ref_of word ≡ Some (RebuildAt rebuild) }
+    ensures no_change { result ≡ Another → (change : ℕ) → ref_of word ≢ Some (ChangeAt change) }
+    ensures another { result ≡ Another → ref_of word ≢ Some (RebuildAt rebuild) }
+{
+    match Ref::from_word(word) {
+        Some(Ref::Change { base }) => Met::Change(base),
+        Some(Ref::Rebuild { base }) => {
+            if base == rebuild {
+                Met::Itself
+            } else {
+                Met::Another
+            }
+        }
+        Some(Ref::Empty) => Met::Another,
+        Some(Ref::Unset) => Met::Another,
+        Some(Ref::Leaf { base: _ }) => Met::Another,
+        Some(Ref::Inner { base: _ }) => Met::Another,
+        None => Met::Another,
+    }
+}
+
+// The word in the slot of the rebuild.
+fn slot_word(table: &TreeTable, seat: &mut TreeSeat, plan: Plan) -> u64
+    requires same_table { seat.old.table ≡ table.now.table }
+    requires plan { IsPlan seat.old.view plan }
+    ensures same_table { seat.new.table ≡ seat.old.table }
+    ensures seen { GoesOnTo seat.old.view seat.new.view }
+    ensures holds { SlotHolds (now seat.new.view) plan.parent plan.index result }
+{
+    know(seat);
+    let place = slot_at(table, seat, u64::from(plan.parent), plan.index);
+    know(seat);
+    // A load. Meets an install in the slot, and what a helper leaves there.
+    load(table, seat, place)
+}
+
+/// What became of a rebuild whose parent isn't open, by a last load of its slot, behind the changes
+/// that stand there.
+pub(crate) fn settle<R: Wait>(table: &TreeTable, rt: &R, who: &mut Caller, plan: Plan) -> Helped
+    requires same_table { who.old.seat.table ≡ table.now.table }
+    requires able { IsAble who.old }
+    requires plan { IsPlan who.old.seat.view plan }
+    requires closed { ¬ (IsOpen (now who.old.seat.view) plan.parent) }
+    ensures same_table { who.new.seat.table ≡ table.now.table }
+    ensures helped { HasHelped who.old who.new }
+    ensures replaced { result ≡ Replaced → IsReplaced (now who.new.seat.view) plan.rebuild }
+    ensures left { result ≡ ParentMarked → IsLeftToParent (now who.new.seat.view) plan.rebuild }
+{
+    know(&who.seat);
+    for _ in rt.forever() {
+        let word = slot_word(table, &mut who.seat, plan);
+        know(&who.seat);
+        match meet(word, plan.rebuild) {
+            // Okay, Decide and Resolve. Meets whoever helps the change.
+            Met::Change(change) => help(table, &mut who.seat, change),
+            Met::Itself => return Helped::ParentMarked,
+            Met::Another => return Helped::Replaced,
+        };
+    }
+    unreachable!()
+}

@@ -1,0 +1,130 @@
+//! The rows of a start: reserving them, and filling them.
+ghost use Rattle.std.specs.Prelude.{◌≡◌, ◌≤◌, length, Some, IfOk, IfErr};
+ghost use Rattle.ist_build.specs.Laying.{Reserves};
+ghost use Rattle.ist_core.specs.Installing.{IsUnrefused};
+ghost use Rattle.ist_core.specs.References.{IsGoodBase};
+ghost use Rattle.ist_rule.specs.Faces.{word_count_of};
+ghost use Rattle.ist_rule.specs.Going.{WentOn};
+ghost use Rattle.ist_rule.specs.Learning.{now};
+ghost use Rattle.ist_rows.specs.Building.{HasRefused};
+ghost use Rattle.ist_rows.specs.Kinds.{kind_words};
+ghost use Rattle.ist_rows.specs.Rows.{IsCaller, row_of, spares_of};
+ghost use Rattle.ist_rebuild.specs.Going.{IsQuiet, KeepsFresh};
+ghost use Rattle.ist_rebuild.specs.Starting.{MayStart, IsStartRefused};
+ghost use Rattle.ist_rebuild.specs.StartSteps.{HasStartRows, IsReady, filled_with, filled_start, start_filling};
+
+use ist_core::Full;
+use ist_layout::{Ref, START_KIND, UNDECIDED};
+use ist_rows::{Caller, Kind, fill, reserve};
+use ist_rule::{TreeTable, know};
+use std::sync::Wait;
+
+/// The rows of a start: the rebuild's and the change's, by their bases.
+#[derive(Clone, Copy, Drop)]
+pub(crate) struct StartRows {
+    pub(crate) rebuild: u32,
+    pub(crate) change: u32,
+}
+
+// Reserves the rows of a start, where the caller doesn't hold them.
+fn reserve_rows<R: Wait>(table: &TreeTable, rt: &R, who: &mut Caller) -> Result<StartRows, Full>
+    requires same_table { who.old.seat.table ≡ table.now.table }
+    requires caller { IsCaller who.old }
+    ensures same_table { who.new.seat.table ≡ table.now.table }
+    ensures caller { IsCaller who.new }
+    ensures number { who.new.number ≡ who.old.number }
+    ensures fresh { KeepsFresh who.old who.new }
+    ensures refused { HasRefused who.old → HasRefused who.new }
+    ensures went { WentOn Reserves who.old.seat.view who.new.seat.view }
+    ensures rows { IfOk result (λ rows. HasStartRows who.new rows.rebuild rows.change) }
+    ensures full { IfErr result (λ full.
+        IsStartRefused who.old.seat.view (word_count_of table.now) full who.new.seat.view) }
+{
+    know(&who.seat);
+    // Reserve. Meets another caller's.
+    let rebuild = reserve(table, rt, who, Kind::Rebuild)?;
+    // Reserve. Meets another caller's.
+    let change = reserve(table, rt, who, Kind::Change)?;
+    Ok(StartRows { rebuild, change })
+}
+
+// Stores the words into the row of this kind that the caller holds, from its base on.
+fn fill_row(table: &TreeTable, who: &mut Caller, kind: Kind, base: u32, words: &[u64])
+    requires same_table { who.old.seat.table ≡ table.now.table }
+    requires caller { IsCaller who.old }
+    requires row { row_of kind (spares_of who.old) ≡ Some base }
+    requires within { length words.now ≤ kind_words kind }
+    ensures same_table { who.new.seat.table ≡ table.now.table }
+    ensures caller { IsCaller who.new }
+    ensures stored { who.new ≡ filled_with who.old base words.now }
+{
+    let mut at = 0;
+    for word in words {
+        fill(table, who, base, at, *word);
+        at += 1;
+    }
+}
+
+// Fills the rows of a start: each word again, since rows that stayed held are used again.
+fn fill_rows(
+    table: &TreeTable,
+    who: &mut Caller,
+    rows: StartRows,
+    parent: u32,
+    index: u64,
+    target: u32,
+)
+    requires same_table { who.old.seat.table ≡ table.now.table }
+    requires caller { IsCaller who.old }
+    requires rows { HasStartRows who.old rows.rebuild rows.change }
+    requires target { IsGoodBase target }
+    ensures same_table { who.new.seat.table ≡ table.now.table }
+    ensures caller { IsCaller who.new }
+    ensures filled { who.new ≡ filled_start who.old rows.rebuild rows.change parent index target }
+{
+    know(&who.seat);
+    let StartRows { rebuild, change } = rows;
+    let node = u64::from(parent);
+    let unset = Ref::Unset.to_word();
+    let from = Ref::Inner { base: target }.to_word();
+    let to = Ref::Rebuild { base: rebuild }.to_word();
+    let owner = u64::from(who.number);
+    let row = [u64::from(target), node, index, unset, 0];
+    fill_row(table, who, Kind::Rebuild, rebuild, &row);
+    let row = [UNDECIDED, START_KIND, node, index, from, to, owner, 0, 0];
+    fill_row(table, who, Kind::Change, change, &row);
+}
+
+/// Reserves the rows of a start and fills them, so that its change may be installed.
+pub(crate) fn prepare<R: Wait>(
+    table: &TreeTable,
+    rt: &R,
+    who: &mut Caller,
+    parent: u32,
+    index: u64,
+    target: u32,
+) -> Result<StartRows, Full>
+    requires same_table { who.old.seat.table ≡ table.now.table }
+    requires caller { IsCaller who.old }
+    requires quiet { IsQuiet who.old }
+    requires may_start { MayStart who.old.seat.view parent index target }
+    requires unrefused { IsUnrefused (now who.old.seat.view) who.old.number parent }
+    ensures same_table { who.new.seat.table ≡ table.now.table }
+    ensures caller { IsCaller who.new }
+    ensures number { who.new.number ≡ who.old.number }
+    ensures fresh { KeepsFresh who.old who.new }
+    ensures quiet { IsQuiet who.new }
+    ensures refused { HasRefused who.old → HasRefused who.new }
+    ensures went { WentOn Reserves who.old.seat.view who.new.seat.view }
+    ensures ready { let number = who.new.number in
+        IfOk result (λ rows. IsReady who.new rows.rebuild rows.change
+        (start_filling number parent index target rows.rebuild)) }
+    ensures full { IfErr result (λ full.
+        IsStartRefused who.old.seat.view (word_count_of table.now) full who.new.seat.view) }
+{
+    know(&who.seat);
+    let rows = reserve_rows(table, rt, who)?;
+    fill_rows(table, who, rows, parent, index, target);
+    know(&who.seat);
+    Ok(rows)
+}

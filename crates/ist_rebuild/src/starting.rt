@@ -1,0 +1,124 @@
+//! Starting a rebuild.
+ghost use Rattle.std.specs.Prelude.{◌≡◌, ℕ, Ok, IfErr};
+ghost use Rattle.ist_core.specs.Slots.{IsOpen};
+ghost use Rattle.ist_dcss.specs.Installing.{Filling};
+ghost use Rattle.ist_rebuild.specs.declared.answers.Started.TheVariants.{Yes, Other, Marked};
+ghost use Rattle.ist_rule.specs.Faces.{word_count_of};
+ghost use Rattle.ist_rule.specs.Going.{WentOn};
+ghost use Rattle.ist_rule.specs.Learning.{now};
+ghost use Rattle.ist_rows.specs.Building.{HasRefused};
+ghost use Rattle.ist_rows.specs.Rows.{IsCaller};
+ghost use Rattle.ist_settling.specs.Settling.{StartsAreDone};
+ghost use Rattle.ist_rebuild.specs.Going.{IsQuiet, Begins, KeepsFresh};
+ghost use Rattle.ist_rebuild.specs.Starting.{MayStart, IsStartedAt, StoodInstead, LeavesDone, IsStartRefused};
+ghost use Rattle.ist_rebuild.specs.StartSteps.{IsReady, start_filling};
+
+use crate::answers::Started;
+use crate::start_rows::{StartRows, prepare};
+use ist_core::Full;
+use ist_dcss::{Decision, Installed, help, install, is_open};
+use ist_rows::Caller;
+use ist_rule::{TreeTable, know};
+use std::sync::Wait;
+
+// A start whose rows are filled: the slot that is meant, the target that stood there, the rows.
+#[derive(Clone, Copy, Drop)]
+struct Plan {
+    parent: u32,
+    index: u64,
+    target: u32,
+    rows: StartRows,
+}
+
+// Installs the change whose rows are filled, and helps it until it is out of its slot.
+fn put_in(table: &TreeTable, who: &mut Caller, plan: Plan) -> Started
+    ghost filling: { Filling }
+    requires same_table { who.old.seat.table ≡ table.now.table }
+    requires ready { IsReady who.old plan.rows.rebuild plan.rows.change filling }
+    requires filled { let number = who.old.number in filling
+        ≡ start_filling number plan.parent plan.index plan.target plan.rows.rebuild }
+    ensures same_table { who.new.seat.table ≡ table.now.table }
+    ensures caller { IsCaller who.new }
+    ensures number { who.new.number ≡ who.old.number }
+    ensures fresh { KeepsFresh who.old who.new }
+    ensures went { WentOn Begins who.old.seat.view who.new.seat.view }
+    ensures quiet { IsQuiet who.new }
+    ensures refused { HasRefused who.old → HasRefused who.new }
+    ensures yes { (rebuild : ℕ) → result ≡ Yes rebuild
+        → IsStartedAt (now who.new.seat.view) rebuild plan.parent plan.index plan.target }
+    ensures other { (word : ℕ) → result ≡ Other word
+        → StoodInstead who.new.seat.view plan.parent plan.index plan.target word }
+    ensures marked { result ≡ Marked → ¬ (IsOpen (now who.new.seat.view) plan.parent) }
+    ensures done { StartsAreDone (now who.old.seat.view) who.old.number
+        → LeavesDone (now who.new.seat.view) who.old.number (Ok result) }
+{
+    know(&who.seat);
+    // Install. Meets another caller's in the slot, and what a helper left there.
+    if let Installed::Other(word) = install(table, &mut who.seat, plan.rows.change) {
+        return Started::Other(word);
+    }
+    who.change = None;
+    who.rebuild = None;
+    // Okay, Decide and Resolve. Meets a mark of the parent, and who helps the change too.
+    match help(table, &mut who.seat, plan.rows.change) {
+        Decision::Yes => Started::Yes {
+            rebuild: plan.rows.rebuild,
+        },
+        Decision::No => Started::Marked,
+    }
+}
+
+/// Starts a rebuild of the target, which stood in slot `index` of the parent: puts a fresh rebuild in
+/// its place, by a change.
+///
+/// It loads the parent's status first. `Yes` comes where the change was decided yes; `Other` where the
+/// slot held that word and not the target when the change was to be installed; `Marked` only where the
+/// parent isn't open. `Full` comes where a load of the first word in this call left too few words for
+/// the rebuild's row or the change's; nothing was installed then, and a rebuild row that was reserved
+/// stays held for the next start. Retries while others reserve, and takes no memory.
+///
+/// Source: Brown, Prokopec and Alistarh, "Non-Blocking Interpolation Search Trees with
+/// Doubly-Logarithmic Running Time", PPoPP 2020.
+pub fn start<R: Wait>(
+    table: &TreeTable,
+    rt: &R,
+    who: &mut Caller,
+    parent: u32,
+    index: u64,
+    target: u32,
+) -> Result<Started, Full>
+    requires same_table { who.old.seat.table ≡ table.now.table }
+    requires caller { IsCaller who.old }
+    requires quiet { IsQuiet who.old }
+    requires may_start { MayStart who.old.seat.view parent index target }
+    ensures same_table { who.new.seat.table ≡ table.now.table }
+    ensures caller { IsCaller who.new }
+    ensures number { who.new.number ≡ who.old.number }
+    ensures fresh { KeepsFresh who.old who.new }
+    ensures went { WentOn Begins who.old.seat.view who.new.seat.view }
+    ensures quiet { IsQuiet who.new }
+    ensures refused { HasRefused who.old → HasRefused who.new }
+    ensures yes { (rebuild : ℕ) → result ≡ Ok (Yes rebuild)
+        → IsStartedAt (now who.new.seat.view) rebuild parent index target }
+    ensures other { (word : ℕ) → result ≡ Ok (Other word)
+        → StoodInstead who.new.seat.view parent index target word }
+    ensures marked { result ≡ Ok Marked → ¬ (IsOpen (now who.new.seat.view) parent) }
+    ensures full { IfErr result (λ full.
+        IsStartRefused who.old.seat.view (word_count_of table.now) full who.new.seat.view) }
+    ensures done { StartsAreDone (now who.old.seat.view) who.old.number
+        → LeavesDone (now who.new.seat.view) who.old.number result }
+{
+    know(&who.seat);
+    // A load. Meets a mark of the parent.
+    if !is_open(table, &mut who.seat, parent) {
+        return Ok(Started::Marked);
+    }
+    let rows = prepare(table, rt, who, parent, index, target)?;
+    let plan = Plan {
+        parent,
+        index,
+        target,
+        rows,
+    };
+    Ok(put_in(table, who, plan))
+}
