@@ -1,0 +1,202 @@
+-- A try of the whole walk, from its begin to what it came to. Serves `apply`.
+use Rattle.std.proofs.Common.{◌≡◌, ◌≢◌, ℕ, ◌≤◌, true, List, [], length, Option, Some, None, Ok, sym, ap, ◌∙◌, subst, inl}
+use Rattle.ist_core.specs.declared.commands.Command.{Command}
+use Rattle.ist_core.specs.declared.commands.Command.TheVariants.{Remove}
+use Rattle.ist_core.specs.declared.pairs.Pair.{Pair}
+use Rattle.ist_core.specs.declared.ports.Full.{Full}
+use Rattle.ist_core.specs.Authors.{GoesOnBy}
+use Rattle.ist_core.specs.Pieces.{Inner}
+use Rattle.ist_core.specs.RowLayout.{anchor}
+use Rattle.ist_core.specs.Standing.{makes_entry}
+use Rattle.ist_rule.specs.declared.view.View.{View}
+use Rattle.ist_rule.specs.Faces.{SeatFace}
+use Rattle.ist_rule.specs.Going.{WentOn}
+use Rattle.ist_rule.specs.Learning.{Turned, searching}
+use Rattle.ist_rule.specs.Standings.{HasMade}
+use Rattle.ist_rule.proofs.LaterLemmas.{goes_on_length}
+use Rattle.ist_rule.proofs.WentOnLemmas.{went_all, went_now, went_lawful, went_more, later_by-goes_on, searching_went}
+use Rattle.ist_walks.proofs.WalkLemmas.{met_chain}
+use Rattle.ist_rows.specs.declared.callers.Caller.{Caller}
+use Rattle.ist_rows.specs.Rows.{IsCaller}
+use Rattle.ist_rebuild.specs.Going.{IsQuiet}
+use Rattle.ist_find.specs.Searches.{HasCome}
+use Rattle.ist_find.proofs.SearchLemmas.{begun_comes}
+use Rattle.ist_updates.specs.declared.updates.Applied.{Applied}
+use Rattle.ist_updates.specs.declared.updates.Due.{Due}
+use Rattle.ist_updates.specs.declared.walking.Walked.TheVariants.{Took}
+use Rattle.ist_updates.specs.Asking.{Updates, command_for, IsAsked, MayEnd}
+use Rattle.ist_updates.specs.Counting.{IsCounted, LeavesDue}
+use Rattle.ist_updates.specs.Refusals.{IsUpdateRefused}
+use Rattle.ist_updates.specs.Trying.{Tries, BeganSince}
+use Rattle.ist_updates.specs.Walking.{HasStood, IsDueBy, HasCounted, HasTriedSince, IsAskedStill, IsNotThere, HasWalked}
+use Rattle.ist_updates.proofs.AskedStillLemmas.{NoEvent, asked_went}
+use Rattle.ist_updates.proofs.EndingLemmas.{taken_ends, nothing_ends}
+use Rattle.ist_updates.proofs.OwnCountLemmas.{CountsNone, came_none}
+use Rattle.ist_updates.proofs.TriedWalkLemmas.{tries_update, went_table, tried_by}
+
+-- ---- the begin
+
+-- the caller began a walk at the anchor, behind walks of which none took effect
+pub record HasBegun (old who : Caller) (key : ℕ) (command : Command) : Type 0 where
+  pub number : who.number ≡ old.number
+  pub asked : IsAsked who command
+  pub went : WentOn Tries old.seat.view who.seat.view
+  pub come : HasCome who.seat.view key anchor []
+  pub since : who.seat.view.loads.since ≡ length who.seat.view.log
+
+-- it does so by beginning a search
+pub begun_walk : (old who : Caller) (seat : SeatFace) (key : ℕ) (command : Command)
+    → who.number ≡ old.number → IsAskedStill old who command
+    → Turned who.seat.view (searching who.seat.view) seat.view
+    → HasBegun old (record who { seat = seat }) key command
+begun_walk old who seat key command number s t =
+    record {
+      number = number;
+      asked = asked_went who seat command s.asked
+          (searching_went NoEvent who.seat.view seat.view t);
+      went = went_more Tries old.seat.view who.seat.view seat.view s.went
+          (searching_went Tries who.seat.view seat.view t);
+      come = begun_comes who.seat.view seat.view key t;
+      since = ap (λ x. x.loads.since) t.view ∙ ap length (sym (ap (λ x. x.log) t.view));
+    }
+
+module _ (old who : Caller) (key : ℕ) (value : Option ℕ) (a : IsAsked old (command_for key value))
+    (b : HasBegun old who key (command_for key value)) where
+  abbrev first : View
+  first = old.seat.view
+
+  abbrev v : View
+  v = who.seat.view
+
+  -- ---- the end
+
+  -- all steps were steps of an update
+  pub all_went : (new : Caller) → WentOn Updates v new.seat.view
+      → WentOn Updates first new.seat.view
+  all_went new g =
+      went_more Updates first v new.seat.view (went_all Tries Updates tries_update first v b.went) g
+
+  -- a walk that took no effect leaves the caller as it was asked
+  pub still_on : (new : Caller) → IsAskedStill who new (command_for key value)
+      → IsAskedStill old new (command_for key value)
+  still_on new s =
+      record { went = went_more Tries first v new.seat.view b.went s.went; asked = s.asked }
+
+  -- it was refused since the call began
+  pub refused_first : (words : ℕ) (full : Full) (new : Caller)
+      → ((before : View) → BeganSince before v
+      → IsUpdateRefused before key value words full new.seat.view)
+      → IsUpdateRefused first key value words full new.seat.view
+  refused_first words full new h =
+      h first record {
+        went = went_all Tries Updates tries_update first v b.went;
+        since = subst (λ n. length first.log ≤ n) (sym b.since)
+            (goes_on_length (later_by-goes_on b.went.later));
+      }
+
+  tried : HasTriedSince first v who.number
+  tried = record {
+    went = b.went;
+    none_yet = subst (λ n. HasMade first.start first.words first.log n first.calls) (sym b.number)
+        a.none_yet;
+  }
+
+  -- walks that took no effect counted nowhere
+  pub still_due : (new : Caller) → IsAskedStill who new (command_for key value)
+      → LeavesDue first new.seat.view old.number None
+  still_due new s =
+      came_none first.start first.words first.log old.number new.seat.view.log
+      (subst (λ m. GoesOnBy (CountsNone m) first.log new.seat.view.log) b.number
+      (tried_by who (command_for key value) b.asked first tried new.seat.view s.went))
+
+  -- ---- where it took effect
+
+  module _ (new : Caller) (words : ℕ) (done : Applied) (g : WentOn Updates v new.seat.view)
+      (h : HasWalked who key value anchor words (Ok (Took done)) new) where
+    abbrev w : View
+    w = new.seat.view
+
+    -- it was counted at each row
+    took_counted : HasCounted first.start first.words first.log w.log old.number
+        (command_for key value) [] done
+    took_counted =
+        subst (λ n. HasCounted first.start first.words first.log w.log n (command_for key value) []
+        done) b.number
+        (back (λ p n. HasCounted p n first.log w.log who.number (command_for key value) [] done)
+        (h first [] tried b.come))
+      where
+        back : (Q : List Pair → ℕ → Type 0) → Q v.start v.words → Q first.start first.words
+        back Q y =
+            subst (λ p. Q p first.words) (ap (λ x. x.start) b.went.same)
+            (subst (Q v.start) (ap (λ x. x.words) b.went.same) y)
+
+    pub took_is_counted : IsCounted first.start first.words first.log w.log old.number
+        (command_for key value)
+    took_is_counted =
+        let x = took_counted in
+        let lawful = went_lawful Updates first w (all_went new g) in
+        record {
+          base = x.base;
+          change = x.update.change;
+          published = x.update.published;
+          owned = x.update.owned;
+          command_is = x.command_is;
+          decision = x.update.decision;
+          rows = x.below;
+          chain = met_chain first.start first.words lawful.opens w.log lawful.enabled x.met.key
+              x.met.began x.met.last x.update.change.node x.below x.met.comes;
+          counted = x.counted;
+        }
+
+    -- the call may end
+    pub took_ends : IsCaller new → new.number ≡ who.number → IsQuiet new
+        → MayEnd new (command_for key value) done.reply
+    took_ends c same q =
+        taken_ends old new (command_for key value) a (all_went new g) [] done took_counted c
+        (same ∙ b.number) q
+
+    -- and the topmost row that came to its limit is told
+    pub took_due : LeavesDue first w old.number done.due
+    took_due = due_told done.due took_counted.due
+      where
+        due_told : (due : Option Due)
+            → IsDueBy first.start first.words first.log w.log old.number due
+            → LeavesDue first w old.number due
+        due_told None none = none
+        due_told (Some due) d =
+            let stood = went_table Updates first w (all_went new g)
+            (λ p n. HasStood p n w.log due.parent due.index due.target) d.stood in
+            record {
+              may = record {
+                prefix = stood.prefix;
+                goes_on = stood.goes_on;
+                stood = stood.stood;
+                linked = stood.linked;
+                row = d.row;
+                published = subst (λ t. t.pieces due.target ≡ Some (Inner d.row))
+                    (sym (went_now Updates first w (all_went new g))) d.published;
+                due = inl d.is_due;
+              };
+              due = d.is_due;
+              came = d.came;
+              top = d.top;
+            }
+
+  -- ---- where there was nothing to remove
+
+  module _ (new : Caller) (s : IsAskedStill who new (command_for key value))
+      (n : IsNotThere v new.seat.view key value) where
+    pub nothing_told : IsCaller new → new.number ≡ who.number → IsQuiet new
+        → MayEnd new (command_for key value) None
+    nothing_told c same q =
+        let there : IsAsked who (Remove key) = subst (λ o. IsAsked who (command_for key o)) n.remove
+        b.asked in
+        let here : IsAsked new (Remove key) = subst (λ o. IsAsked new (command_for key o)) n.remove
+        s.asked in
+        subst (λ o. MayEnd new (command_for key o) None) (sym n.remove)
+        (nothing_ends who new key there here s.went same b.since n.since n.found c q)
+
+    -- it makes no entry
+    pub nothing_made : makes_entry (command_for key value) None ≢ true
+    nothing_made =
+        subst (λ o. makes_entry (command_for key o) None ≢ true) (sym n.remove) (λ e. cc)

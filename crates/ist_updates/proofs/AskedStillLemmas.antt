@@ -1,0 +1,82 @@
+-- A caller that was asked an update is so still behind loads, and where it began a search. Serves
+-- `descend` and `apply`.
+use Rattle.std.proofs.Common.{◌≡◌, sym, ap, ◌∙◌, subst, inl, inr}
+use Rattle.ist_core.specs.declared.commands.Command.{Command}
+use Rattle.ist_core.specs.declared.events.Event.{Event}
+use Rattle.ist_core.specs.Authors.{no_more, one_more}
+use Rattle.ist_core.specs.Logs.{Log}
+use Rattle.ist_histories.specs.Calls.{HasCalls}
+use Rattle.ist_rule.specs.declared.view.View.{View}
+use Rattle.ist_rule.specs.declared.view.Who.{Who}
+use Rattle.ist_rule.specs.declared.view.Who.TheVariants.{Caller as CallerOf}
+use Rattle.ist_rule.specs.Authors.{Later, LaterBy}
+use Rattle.ist_rule.specs.Faces.{SeatFace}
+use Rattle.ist_rule.specs.Going.{WentOn}
+use Rattle.ist_rule.specs.Standings.{HasMade}
+use Rattle.ist_rule.proofs.CallLemmas.{between_later}
+use Rattle.ist_rule.proofs.LaterLemmas.{goes_on_more}
+use Rattle.ist_rule.proofs.WentOnLemmas.{went_all, went_lawful, later_by-goes_on}
+use Rattle.ist_rows.specs.declared.callers.Caller.{Caller}
+use Rattle.ist_rows.specs.CallerLaws.{KeepsRows, InstallsNone}
+use Rattle.ist_rows.proofs.CallerLawLemmas.{caller_went, refused_went, resolved_went}
+use Rattle.ist_updates.specs.Asking.{IsAsked}
+use Rattle.ist_updates.proofs.TriedWalkLemmas.{went_table}
+
+-- no event
+abbrev pub NoEvent : Event → Type 0
+NoEvent event = ⊥
+
+-- a log that went on without own events went on by others
+pub by_others : {who : Who} {a b : Log} → LaterBy who NoEvent a b → Later who a b
+by_others no_more = no_more
+by_others (one_more event l (inl other)) = one_more event (by_others l) other
+by_others (one_more event l (inr none)) = absurd none
+
+module _ (who : Caller) (seat : SeatFace) (command : Command) (a : IsAsked who command)
+    (g : WentOn NoEvent who.seat.view seat.view) where
+  abbrev v : View
+  v = who.seat.view
+
+  abbrev w : View
+  w = seat.view
+
+  -- what is true of any event
+  by_none : (P : Event → Type 0) → WentOn P v w
+  by_none P = went_all NoEvent P (λ event none. absurd none) v w g
+
+  later : Later (CallerOf who.number) v.log w.log
+  later = by_others (subst (λ x. LaterBy x NoEvent v.log w.log) a.caller.mine g.later)
+
+  made : HasMade v.start v.words w.log who.number v.calls
+  made =
+      (between_later v.start v.words who.number v.calls v.log w.log
+      (went_lawful NoEvent v w g).enabled later
+      record { made = a.none_yet; resolved = a.resolved }).made
+
+  stamp_is : w.stamp ≡ v.stamp
+  stamp_is = ap (λ x. x.stamp) g.same
+
+  calls_are : w.calls ≡ v.calls
+  calls_are = ap (λ x. x.calls) g.same
+
+  -- it is so still
+  pub asked_went : IsAsked (record who { seat = seat }) command
+  asked_went =
+      record {
+        caller = caller_went who seat a.caller (by_none KeepsRows);
+        refused = refused_went who seat a.caller a.refused (by_none KeepsRows);
+        pending = a.pending;
+        in_call = ap (λ x. x.pending) g.same ∙ a.in_call;
+        command_is = a.command_is;
+        seen = a.seen;
+        goes_on = goes_on_more a.goes_on (later_by-goes_on g.later);
+        length_is = a.length_is;
+        had = went_table NoEvent v w g (λ p n. HasCalls p n a.seen who.number w.stamp w.calls)
+            (subst (λ calls. HasCalls v.start v.words a.seen who.number w.stamp calls)
+            (sym calls_are)
+            (subst (λ stamp. HasCalls v.start v.words a.seen who.number stamp v.calls)
+            (sym stamp_is) a.had));
+        resolved = resolved_went v w who.number a.caller.mine a.resolved (by_none InstallsNone);
+        none_yet = went_table NoEvent v w g (λ p n. HasMade p n w.log who.number w.calls)
+            (subst (λ calls. HasMade v.start v.words w.log who.number calls) (sym calls_are) made);
+      }

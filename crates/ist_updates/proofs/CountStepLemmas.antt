@@ -1,0 +1,267 @@
+-- One Count on the way back: what was counted behind it, and which row is due. Serves `counting`.
+use Rattle.std.proofs.Common.{◌≡◌, ◌≢◌, ℕ, ◌+◌, ◌≤◌, Bool, true, false, Option, List, [], ◌∷◌, ◌++◌, length, option_map, Some, None, refl, sym, ap, ◌∙◌, subst, ⊎_elim, append_assoc, arith}
+use Rattle.std.proofs.Math.Nat.{le_trans}
+use Rattle.ist_core.specs.declared.commands.Command.{Command}
+use Rattle.ist_core.specs.declared.events.Event.{Event}
+use Rattle.ist_core.specs.declared.events.Event.TheVariants.{Enter, Reserve, Install, Okay, Decide, Resolve, Count, Mark, Pass, Finish, Root, Draw, Place, Lose}
+use Rattle.ist_core.specs.declared.pairs.Pair.{Pair}
+use Rattle.ist_core.specs.declared.states.InnerRow.{InnerRow}
+use Rattle.ist_core.specs.Arithmetic.{limit}
+use Rattle.ist_core.specs.Authors.{GoesOnBy, no_more, one_more}
+use Rattle.ist_core.specs.Deciding.{AllResolvedOf}
+use Rattle.ist_core.specs.Elements.{Among}
+use Rattle.ist_core.specs.Lawful.{EachEnabled, CanOpen, state_of}
+use Rattle.ist_core.specs.Links.{Linked, Chain}
+use Rattle.ist_core.specs.Logs.{Log, GoesOn, same_log, one_event}
+use Rattle.ist_core.specs.Pieces.{Inner, counted}
+use Rattle.ist_core.specs.Rebuilding.{IsDue}
+use Rattle.ist_core.specs.Snapshots.{Snapshot}
+use Rattle.ist_core.specs.StartLayout.{start}
+use Rattle.ist_core.proofs.FateLemmas.{enabled_before, grow_between}
+use Rattle.ist_core.proofs.GrowingLemmas.{inner_there}
+use Rattle.ist_core.proofs.RowLemmas.{changed_at-same}
+use Rattle.ist_rule.specs.declared.view.Who.TheVariants.{Caller as CallerOf}
+use Rattle.ist_rule.specs.Authors.{whose, Later}
+use Rattle.ist_rule.proofs.LaterLemmas.{goes_on_more, later-goes_on}
+use Rattle.ist_histories.specs.Calls.{MadeNoEntry}
+use Rattle.ist_stability.proofs.LaterLemmas.{ever_later}
+use Rattle.ist_walks.specs.Walking.{ComesBy}
+use Rattle.ist_walks.proofs.WalkLemmas.{meeting_on, met_chain, upper_rows}
+use Rattle.ist_outcomes.specs.Accepting.{InstallsNoYes}
+use Rattle.ist_outcomes.specs.Counting.{CountsFrom}
+use Rattle.ist_outcomes.proofs.InstalledLemmas.{installed_no_entry}
+use Rattle.ist_outcomes.proofs.UpLemmas.{counts_from}
+use Rattle.ist_updates.specs.declared.updates.Applied.{Applied}
+use Rattle.ist_updates.specs.declared.updates.Due.{Due}
+use Rattle.ist_updates.specs.Counting.{WasCounted, CameToLimit}
+use Rattle.ist_updates.specs.Walking.{HasCountedAt, HasStood, IsTopmost, IsDueBy, HasCounted}
+use Rattle.ist_updates.proofs.NextRowLemmas.{get_here, counted_behind}
+use Rattle.ist_updates.proofs.OneUpdateLemmas.{yes_stays, reply_stays}
+use Rattle.ist_updates.proofs.OwnCountLemmas.{later_none, from_none, last_or_sooner, event_by, by-goes_on, came_on, came_back, counted_on}
+
+-- ---- no entry
+
+-- what others do installs nothing of the caller
+other_installs : (t : Snapshot) (caller : ℕ) (event : Event) → whose event ≢ CallerOf caller
+    → InstallsNoYes t caller event
+other_installs t caller (Enter c) other = tt
+other_installs t caller (Reserve c base size) other = tt
+other_installs t caller (Install c base rows) other =
+    λ is change e up yes. other (ap CallerOf is)
+other_installs t caller (Okay c base) other = tt
+other_installs t caller (Decide c base said) other = tt
+other_installs t caller (Resolve c base) other = tt
+other_installs t caller (Count c n) other = tt
+other_installs t caller (Mark c n) other = tt
+other_installs t caller (Pass c n i word) other = tt
+other_installs t caller (Finish c n keys) other = tt
+other_installs t caller (Root c rebuild word rows) other = tt
+other_installs t caller (Draw c rebuild part) other = tt
+other_installs t caller (Place c rebuild i word rows) other = tt
+other_installs t caller (Lose c bases) other = tt
+
+others_install : (t : Snapshot) (caller : ℕ) (a b c : Log)
+    → GoesOnBy (InstallsNoYes t caller) a b → Later (CallerOf caller) b c
+    → GoesOnBy (InstallsNoYes t caller) a c
+others_install t caller a b _ g no_more = g
+others_install t caller a b _ g (one_more {log = log} event l other) =
+    one_more event (others_install t caller a b log g l) (other_installs t caller event other)
+
+-- ---- a Count
+
+module _ (pairs : List Pair) (words : ℕ) (opens : CanOpen pairs words) (earlier log longer : Log)
+    (h : EachEnabled (start pairs words) longer) (caller row : ℕ) (reached : Bool)
+    (c : HasCountedAt pairs words log caller row reached longer) where
+  -- the log goes on by the Count
+  pub counted_log : GoesOn log longer
+  counted_log =
+      goes_on_more (later-goes_on c.later)
+      (goes_on_more (one_event (Count caller row) same_log) (later-goes_on c.more))
+
+  before : EachEnabled (start pairs words) log
+  before = enabled_before (start pairs words) log longer counted_log h
+
+  -- it makes no entry
+  no_entry : AllResolvedOf (state_of pairs words log) log caller
+      → MadeNoEntry pairs words caller log longer
+  no_entry resolved =
+      let t = state_of pairs words longer in
+      installed_no_entry pairs words opens log longer h caller
+      (others_install t caller log (Count caller row ∷ c.at) longer
+      (one_more (Count caller row) (others_install t caller log log c.at no_more c.later) tt) c.more)
+      resolved
+
+  -- the Count is behind the earlier log
+  pub count_was : GoesOn earlier log → WasCounted earlier longer caller row
+  count_was since =
+      record {
+        at = c.at;
+        since = goes_on_more since (later-goes_on c.later);
+        until = later-goes_on c.more;
+      }
+
+  -- what stood in a slot stood there
+  pub stood_on : (parent index target : ℕ) → HasStood pairs words log parent index target
+      → HasStood pairs words longer parent index target
+  stood_on parent index target s =
+      record {
+        prefix = s.prefix;
+        goes_on = goes_on_more s.goes_on counted_log;
+        stood = s.stood;
+        linked = ever_later (start pairs words) (λ t. Linked t parent) counted_log s.linked;
+      }
+
+  -- the row is due where the Count came to its limit
+  row_due : reached ≡ true → (r : InnerRow)
+      × ((state_of pairs words longer).pieces row ≡ Some (Inner r)) × IsDue r
+  row_due hit =
+      let t = state_of pairs words c.at in
+      let u = state_of pairs words (Count caller row ∷ c.at) in
+      let made : u.pieces row ≡ Some (Inner record c.inner { count = c.inner.count + 1 }) =
+      changed_at-same t.pieces row counted ∙ ap (option_map counted) c.published in
+      let it = inner_there u.pieces (state_of pairs words longer).pieces
+      (grow_between pairs words (Count caller row ∷ c.at) longer h (later-goes_on c.more)) row
+      record c.inner { count = c.inner.count + 1 } made in (
+        it.0,
+        it.1,
+        subst (λ n. limit n ≤ it.0.count) (sym it.2.size) (le_trans (c.yes hit) it.2.count),
+      )
+
+  -- ---- where the count came to no limit
+
+  same_inner : (a b : InnerRow) → Some (Inner a) ≡ Some (Inner b) → a ≡ b
+  same_inner a b e = cc
+
+  -- what came to its limit came to it before
+  came_before : reached ≡ false → (node : ℕ) → CameToLimit pairs words earlier longer caller node
+      → CameToLimit pairs words earlier log caller node
+  came_before miss node k =
+      let here = came_back pairs words earlier caller (Count caller row ∷ c.at) longer
+      (later_none c.more) node k in
+      ⊎_elim
+      (λ (same : (Count caller node ≡ Count caller row) × (here.at ≡ c.at)).
+      let node_is : node ≡ row = let e = same.0 in cc in
+      let there : (state_of pairs words c.at).pieces row ≡ Some (Inner here.row) =
+      subst (λ n. (state_of pairs words c.at).pieces n ≡ Some (Inner here.row)) node_is
+      (subst (λ l. (state_of pairs words l).pieces node ≡ Some (Inner here.row)) same.1
+      here.published) in
+      let one = same_inner here.row c.inner (sym there ∙ c.published) in
+      absurd (c.no miss (subst (λ (r : InnerRow). limit r.size ≤ r.count + 1) one here.reached)))
+      (λ sooner. came_back pairs words earlier caller log c.at (later_none c.later) node
+      record {
+        at = here.at;
+        since = here.since;
+        until = sooner;
+        row = here.row;
+        published = here.published;
+        reached = here.reached;
+      })
+      (last_or_sooner (Count caller node) (Count caller row) here.at c.at here.until)
+
+  -- and the row that was due is so still
+  pub due_before : reached ≡ false → (due : Option Due) → IsDueBy pairs words earlier log caller due
+      → IsDueBy pairs words earlier longer caller due
+  due_before miss None none = λ node k. none node (came_before miss node k)
+  due_before miss (Some due) d =
+      let it = inner_there (state_of pairs words log).pieces (state_of pairs words longer).pieces
+      (grow_between pairs words log longer h counted_log) due.target d.row d.published in
+      record {
+        stood = stood_on due.parent due.index due.target d.stood;
+        row = it.0;
+        published = it.1;
+        is_due = subst (λ n. limit n ≤ it.0.count) (sym it.2.size) (le_trans d.is_due it.2.count);
+        came = came_on pairs words earlier caller log longer counted_log due.target d.came;
+        top = λ node k. ever_later (start pairs words)
+            (λ t. (rows : List ℕ) × Chain t node rows × Among due.target rows) counted_log
+            (d.top node (came_before miss node k));
+      }
+
+  -- ---- one row more
+
+  module _ (command : Command) (rows : List ℕ) (done : Applied)
+      (x : HasCounted pairs words earlier log caller command (rows ++ row ∷ []) done) where
+    comes_longer : ComesBy pairs words longer x.met.key x.met.began x.met.last x.update.change.node
+        (rows ++ row ∷ x.below)
+    comes_longer =
+        subst (ComesBy pairs words longer x.met.key x.met.began x.met.last x.update.change.node)
+        (append_assoc rows (row ∷ []) x.below)
+        (meeting_on pairs words log longer counted_log x.met.key x.met.began x.met.last
+        x.update.change.node ((rows ++ row ∷ []) ++ x.below) x.met.comes)
+
+    so_far_longer : GoesOnBy (CountsFrom caller (rows ++ row ∷ x.below) (length rows)) earlier longer
+    so_far_longer =
+        let all = rows ++ row ∷ x.below in
+        from_none caller (length rows) all earlier (Count caller row ∷ c.at) longer
+        (counts_from earlier c.at caller (length rows) row all (get_here rows x.below row)
+        (from_none caller (length rows + 1) all earlier log c.at
+        (counted_behind pairs words opens earlier log before caller command rows row done x)
+        (later_none c.later)))
+        (later_none c.more)
+
+    -- the row is the topmost that came to its limit
+    pub due_here : reached ≡ true → (parent index : ℕ)
+        → HasStood pairs words log parent index row
+        → IsTopmost pairs words earlier longer caller
+        record { parent = parent; index = index; target = row }
+    due_here hit parent index s =
+        let it = row_due hit in
+        let all = rows ++ row ∷ x.below in
+        record {
+          stood = stood_on parent index row s;
+          row = it.0;
+          published = it.1;
+          is_due = it.2;
+          came = record {
+            at = c.at;
+            since = goes_on_more (by-goes_on x.so_far) (later-goes_on c.later);
+            until = later-goes_on c.more;
+            row = c.inner;
+            published = c.published;
+            reached = c.yes hit;
+          };
+          top = λ node k.
+              let from = event_by (CountsFrom caller all (length rows)) earlier longer so_far_longer
+              (Count caller node) k.at k.since k.until node (refl, refl) in
+              upper_rows pairs words longer x.update.change.node all
+              (met_chain pairs words opens longer h x.met.key x.met.began x.met.last
+              x.update.change.node all comes_longer) (length rows) from.0 row node from.1
+              (get_here rows x.below row) from.2;
+        }
+
+    -- the update was counted at one row more
+    pub counted_more : AllResolvedOf (state_of pairs words log) log caller → (more : Applied)
+        → more.reply ≡ done.reply → IsDueBy pairs words earlier longer caller more.due
+        → HasCounted pairs words earlier longer caller command rows more
+    counted_more resolved more same due =
+        let same_entries = ap length (no_entry resolved) in
+        let few = x.update.alone in
+        record {
+          base = x.base;
+          update = record {
+            change = x.update.change;
+            published = yes_stays pairs words opens log longer h counted_log x.base x.update.change
+                x.update.published x.update.decision;
+            owned = x.update.owned;
+            update = x.update.update;
+            decision = x.update.decision;
+            since = x.update.since;
+            alone = omega arith;
+          };
+          command_is = x.command_is;
+          reply_is = same ∙ x.reply_is
+              ∙ sym (reply_stays pairs words opens log longer h counted_log before x.base
+              x.update.change x.update.published);
+          below = row ∷ x.below;
+          met = record {
+            key = x.met.key;
+            began = x.met.began;
+            last = x.met.last;
+            comes = comes_longer;
+          };
+          so_far = so_far_longer;
+          counted = λ node i. ⊎_elim
+              (λ e. subst (WasCounted earlier longer caller) (sym e)
+              (count_was (by-goes_on x.so_far)))
+              (λ j. counted_on earlier log longer caller node counted_log (x.counted node j)) i;
+          due = due;
+        }

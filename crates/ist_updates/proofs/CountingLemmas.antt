@@ -1,0 +1,98 @@
+-- A caller whose seat has made one Count is one still, and has counted its update at one row more. Serves
+-- `count_update`.
+use Rattle.std.proofs.Common.{◌≡◌, ℕ, Bool, true, false, List, [], ◌∷◌, ◌++◌, Some, refl, sym, ap, ◌∙◌, subst}
+use Rattle.ist_core.specs.declared.commands.Command.{Command}
+use Rattle.ist_core.specs.declared.events.Event.{Event}
+use Rattle.ist_core.specs.declared.events.Event.TheVariants.{Count}
+use Rattle.ist_core.specs.Deciding.{CanCount}
+use Rattle.ist_core.specs.Lawful.{Lawful}
+use Rattle.ist_core.specs.Logs.{Log}
+use Rattle.ist_core.specs.StartLayout.{start}
+use Rattle.ist_rule.specs.declared.view.View.{View}
+use Rattle.ist_rule.specs.Faces.{SeatFace}
+use Rattle.ist_rule.specs.Going.{WentOn}
+use Rattle.ist_rule.specs.Watching.{number_of}
+use Rattle.ist_rule.proofs.WentOnLemmas.{went_all, went_lawful}
+use Rattle.ist_rows.specs.declared.callers.Caller.{Caller}
+use Rattle.ist_rows.specs.Building.{HasRefused}
+use Rattle.ist_rows.specs.CallerLaws.{KeepsRows, InstallsNone}
+use Rattle.ist_rows.specs.Rows.{IsCaller}
+use Rattle.ist_rows.proofs.CallerLawLemmas.{caller_went, refused_went, resolved_went}
+use Rattle.ist_rebuild.specs.Going.{IsQuiet}
+use Rattle.ist_updates.specs.declared.updates.Applied.{Applied}
+use Rattle.ist_updates.specs.Asking.{Updates}
+use Rattle.ist_updates.specs.Walking.{MayCount, IsCountAt, HasCountedAt, HasStood, HasCounted}
+use Rattle.ist_updates.proofs.CountStepLemmas.{due_before, due_here, counted_more}
+
+module _ (who : Caller) (row : ℕ) (c : IsCaller who) (q : IsQuiet who) where
+  abbrev v : View
+  v = who.seat.view
+
+  -- it may count its update at the row
+  pub may_count_row : CanCount (start v.start v.words) v.log who.number row → MayCount v row
+  may_count_row can =
+      record { number = who.number; mine = c.mine; resolved = q.resolved; can = can }
+
+  module _ (seat : SeatFace) (g : WentOn (IsCountAt (number_of v.who) row) v seat.view) where
+    -- what is true of a Count is true of all own events
+    by_count : (P : Event → Type 0) → P (Count (number_of v.who) row) → WentOn P v seat.view
+    by_count P is =
+        went_all (IsCountAt (number_of v.who) row) P (λ event e. subst P (sym e) is) v seat.view g
+
+    pub counted_went : WentOn Updates v seat.view
+    counted_went = by_count Updates tt
+
+    pub counted_caller : IsCaller (record who { seat = seat })
+    counted_caller = caller_went who seat c (by_count KeepsRows tt)
+
+    pub counted_refused : HasRefused who → HasRefused (record who { seat = seat })
+    counted_refused r = refused_went who seat c r (by_count KeepsRows tt)
+
+    pub counted_quiet : IsQuiet (record who { seat = seat })
+    counted_quiet =
+        record {
+          pending = q.pending;
+          in_call = ap (λ x. x.pending) g.same ∙ q.in_call;
+          resolved = resolved_went v seat.view who.number c.mine q.resolved
+              (by_count InstallsNone tt);
+        }
+
+    module _ (reached : Bool)
+        (k : HasCountedAt v.start v.words v.log (number_of v.who) row reached seat.view.log) where
+      its_count : HasCountedAt v.start v.words v.log who.number row reached seat.view.log
+      its_count =
+          subst (λ n. HasCountedAt v.start v.words v.log n row reached seat.view.log)
+          (ap number_of c.mine) k
+
+      lawful : Lawful v.start v.words seat.view.log
+      lawful = went_lawful (IsCountAt (number_of v.who) row) v seat.view g
+
+      module _ (earlier : Log) (command : Command) (rows : List ℕ) (below : Applied)
+          (x : HasCounted v.start v.words earlier v.log who.number command (rows ++ row ∷ []) below)
+        where
+          -- where the count came to the limit, the row is due
+          pub counted_due : reached ≡ true → (parent index : ℕ)
+              → HasStood v.start v.words v.log parent index row
+              → HasCounted v.start v.words earlier seat.view.log who.number command rows record {
+                reply = below.reply;
+                due = Some record { parent = parent; index = index; target = row };
+              }
+          counted_due hit parent index stood =
+              counted_more v.start v.words lawful.opens earlier v.log seat.view.log lawful.enabled
+              who.number row reached its_count command rows below x q.resolved
+              record {
+                reply = below.reply;
+                due = Some record { parent = parent; index = index; target = row };
+              }
+              refl
+              (due_here v.start v.words lawful.opens earlier v.log seat.view.log lawful.enabled
+              who.number row reached its_count command rows below x hit parent index stood)
+
+          -- and else what was due before
+          pub counted_as_before : reached ≡ false
+              → HasCounted v.start v.words earlier seat.view.log who.number command rows below
+          counted_as_before miss =
+              counted_more v.start v.words lawful.opens earlier v.log seat.view.log lawful.enabled
+              who.number row reached its_count command rows below x q.resolved below refl
+              (due_before v.start v.words lawful.opens earlier v.log seat.view.log lawful.enabled
+              who.number row reached its_count miss below.due x.due)

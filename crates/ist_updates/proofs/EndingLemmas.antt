@@ -1,0 +1,192 @@
+-- What an update may answer: its yes where it took effect, and its search where there was nothing to
+-- remove. Serves `apply`.
+use Rattle.std.proofs.Common.{◌≡◌, ◌≢◌, ℕ, ◌+◌, ◌≤◌, List, [], ◌∷◌, ◌++◌, length, Some, None, refl, sym, ap, ◌∙◌, subst, arith}
+use Rattle.ist_core.specs.declared.calls.Call.{Call}
+use Rattle.ist_core.specs.declared.commands.Command.{Command}
+use Rattle.ist_core.specs.declared.commands.Command.TheVariants.{Remove}
+use Rattle.ist_core.specs.declared.events.Event.{Event}
+use Rattle.ist_core.specs.declared.pairs.Pair.{Pair}
+use Rattle.ist_core.specs.declared.states.ChangeRow.{ChangeRow}
+use Rattle.ist_core.specs.Changes.{changes_of}
+use Rattle.ist_core.specs.Lawful.{EachEnabled, Lawful, state_of}
+use Rattle.ist_core.specs.Logs.{GoesOn}
+use Rattle.ist_core.specs.Pieces.{Change}
+use Rattle.ist_core.specs.Standing.{entries_by, StandsIn, IsFresh}
+use Rattle.ist_core.specs.StartLayout.{start}
+use Rattle.ist_core.specs.Statuses.{decided_yes}
+use Rattle.ist_core.proofs.FateLemmas.{enabled_before}
+use Rattle.ist_histories.specs.Calls.{MadeNoEntry, HasCalls, CameToCall, IsAdded}
+use Rattle.ist_histories.specs.Loads.{log_at}
+use Rattle.ist_histories.specs.Searching.{SearchIsAdded}
+use Rattle.ist_histories.proofs.CallLemmas.{add_update}
+use Rattle.ist_histories.proofs.EffectLemmas.{took_effect}
+use Rattle.ist_histories.proofs.LoadOnLemmas.{at_prefix}
+use Rattle.ist_histories.proofs.PositionLemmas.{search_added}
+use Rattle.ist_rule.specs.declared.view.View.{View}
+use Rattle.ist_rule.specs.Conditions.{CanEnd}
+use Rattle.ist_rule.specs.Going.{WentOn}
+use Rattle.ist_rule.specs.Standings.{entries_made}
+use Rattle.ist_rule.proofs.LaterLemmas.{goes_on_more}
+use Rattle.ist_rule.proofs.WentOnLemmas.{went_lawful, later_by-goes_on}
+use Rattle.ist_rows.specs.declared.callers.Caller.{Caller}
+use Rattle.ist_rows.specs.Rows.{IsCaller}
+use Rattle.ist_rebuild.specs.Going.{IsQuiet}
+use Rattle.ist_updates.specs.declared.updates.Applied.{Applied}
+use Rattle.ist_updates.specs.Asking.{Updates, IsAsked, MayEnd}
+use Rattle.ist_updates.specs.Trying.{Tries, HasFoundNone}
+use Rattle.ist_updates.specs.Walking.{HasCounted}
+use Rattle.ist_updates.proofs.OneUpdateLemmas.{yes_stays}
+use Rattle.ist_updates.proofs.TriedWalkLemmas.{went_table}
+
+-- what is so of the table, the calls and the stamp of a view is so of those of one that it went on to
+went_calls : (P : Event → Type 0) (v w : View) → WentOn P v w
+    → (Q : List Pair → ℕ → ℕ → List Call → Type 0) → Q v.start v.words v.stamp v.calls
+    → Q w.start w.words w.stamp w.calls
+went_calls P v w g Q h =
+    went_table P v w g (λ p n. Q p n w.stamp w.calls)
+    (subst (λ calls. Q v.start v.words w.stamp calls) (sym (ap (λ x. x.calls) g.same))
+    (subst (λ stamp. Q v.start v.words stamp v.calls) (sym (ap (λ x. x.stamp) g.same)) h))
+
+-- a call that is added to those of a caller that was asked may end there
+added_ends : {P : Event → Type 0} (old new : Caller) (command : Command) (a : IsAsked old command)
+    → WentOn P old.seat.view new.seat.view → IsCaller new → new.number ≡ old.number → IsQuiet new
+    → (call : Call) → call.command ≡ command → call.stamp ≡ old.seat.view.stamp + 1
+    → IsAdded old.seat.view.start old.seat.view.words a.seen new.seat.view.log old.number
+    old.seat.view.stamp old.seat.view.calls call
+    → CanEnd new.seat.view call
+added_ends {P = P} old new command a g c same q call command_is stamp_is added =
+    let v = old.seat.view in
+    let w = new.seat.view in
+    record {
+      number = new.number;
+      mine = c.mine;
+      pending = a.pending;
+      in_call = ap (λ x. x.pending) g.same ∙ a.in_call;
+      command_is = a.command_is ∙ ap (λ x. Some x) (sym command_is);
+      stamp_is = stamp_is ∙ ap (λ n. n + 1) (sym (ap (λ x. x.stamp) g.same));
+      resolved = q.resolved;
+      stand = subst (λ n. StandsIn w.start w.words w.log n (w.calls ++ call ∷ [])) (sym same)
+          (went_calls P v w g (λ p n stamp calls. StandsIn p n w.log old.number (calls ++ call ∷ []))
+          added.has_calls.stand);
+      seen = a.seen;
+      goes_on = goes_on_more a.goes_on (later_by-goes_on g.later);
+      length_is = a.length_is;
+      fresh = went_calls P v w g (λ p n stamp calls. IsFresh p n a.seen stamp call) added.fresh;
+    }
+
+-- ---- an update that took effect
+
+module _ (old new : Caller) (command : Command) (a : IsAsked old command)
+    (g : WentOn Updates old.seat.view new.seat.view) (rows : List ℕ) (done : Applied)
+    (x : HasCounted old.seat.view.start old.seat.view.words old.seat.view.log new.seat.view.log
+    old.number command rows done) where
+  abbrev v : View
+  v = old.seat.view
+
+  abbrev w : View
+  w = new.seat.view
+
+  lawful : Lawful v.start v.words w.log
+  lawful = went_lawful Updates v w g
+
+  before : EachEnabled (start v.start v.words) v.log
+  before = enabled_before (start v.start v.words) v.log w.log (later_by-goes_on g.later)
+      lawful.enabled
+
+  -- it wasn't decided yes when the call began
+  not_yet : (o : ChangeRow) → (state_of v.start v.words a.seen).pieces x.base ≡ Some (Change o)
+      → o.decision ≢ decided_yes
+  not_yet o e said =
+      x.update.since o (yes_stays v.start v.words lawful.opens a.seen v.log before a.goes_on x.base o
+      e said) said
+
+  few : length (entries_by old.number (changes_of v.start v.words w.log))
+      ≤ length (entries_by old.number (changes_of v.start v.words a.seen)) + 1
+  few =
+      let same = ap length (a.none_yet ∙ sym a.had.stand.exactly) in
+      let alone = x.update.alone in
+      omega arith
+
+  came : CameToCall v.start v.words a.seen w.log old.number (v.stamp + 1) command x.update.change
+  came =
+      took_effect v.start v.words lawful.opens a.seen w.log lawful.enabled
+      (goes_on_more a.goes_on (later_by-goes_on g.later)) old.number (v.stamp + 1) x.base
+      x.update.change command x.update.published x.update.decision x.update.owned x.command_is
+      not_yet few
+
+  -- the call may end with its reply
+  pub taken_ends : IsCaller new → new.number ≡ old.number → IsQuiet new
+      → MayEnd new command done.reply
+  taken_ends c same q =
+      let stamp_is : came.call.stamp ≡ v.stamp + 1 = ap (λ (k : Call). k.stamp) came.call_is in
+      let command_is : came.call.command ≡ command = ap (λ (k : Call). k.command) came.call_is in
+      record {
+        call = came.call;
+        command_is = command_is;
+        reply_is = ap (λ (k : Call). k.reply) came.call_is ∙ sym x.reply_is;
+        can = added_ends old new command a g c same q came.call command_is stamp_is
+            (add_update v.start v.words a.seen w.log old.number v.stamp v.calls came.call a.had
+            came.effect came.changes (omega arith));
+      }
+
+-- ---- a remove that found nothing
+
+module _ (old new : Caller) (key : ℕ) (a : IsAsked old (Remove key)) (b : IsAsked new (Remove key))
+    (g : WentOn Tries old.seat.view new.seat.view) (same : new.number ≡ old.number)
+    (began : old.seat.view.loads.since ≡ length old.seat.view.log)
+    (since : new.seat.view.loads.since ≡ old.seat.view.loads.since)
+    (found : HasFoundNone new.seat.view key) where
+  abbrev v2 : View
+  v2 = old.seat.view
+
+  abbrev w2 : View
+  w2 = new.seat.view
+
+  had_there : HasCalls w2.start w2.words a.seen old.number w2.stamp w2.calls
+  had_there =
+      went_calls Tries v2 w2 g (λ p n stamp calls. HasCalls p n a.seen old.number stamp calls) a.had
+
+  -- it made no entry
+  no_entry : MadeNoEntry w2.start w2.words old.number a.seen w2.log
+  no_entry =
+      subst (λ n. entries_by n (changes_of w2.start w2.words w2.log)
+      ≡ entries_made n w2.calls) same b.none_yet
+      ∙ sym had_there.stand.exactly
+
+  -- the search began behind all that was seen
+  behind : GoesOn a.seen (log_at w2.log w2.loads.since)
+  behind =
+      subst (GoesOn a.seen)
+      (sym (ap (log_at w2.log) (since ∙ began)
+      ∙ at_prefix v2.log w2.log (later_by-goes_on g.later)))
+      a.goes_on
+
+  its_search : SearchIsAdded w2.start w2.words a.seen w2.log old.number w2.stamp w2.calls (Remove key)
+      None
+  its_search =
+      let lawful = g.sound.lawful in
+      search_added w2.start w2.words lawful.opens w2.log lawful.enabled a.seen old.number w2.stamp
+      w2.calls had_there no_entry w2.loads.since found.node behind (Remove key) None refl
+      found.searched
+
+  -- the call may end without a value
+  pub nothing_ends : IsCaller new → IsQuiet new → MayEnd new (Remove key) None
+  nothing_ends c q =
+      let k = its_search in
+      let added = went_back (λ p n stamp calls. IsAdded p n a.seen w2.log old.number stamp calls
+      k.call) k.added in
+      record {
+        call = k.call;
+        command_is = k.command_is;
+        reply_is = k.reply_is;
+        can = added_ends old new (Remove key) a g c same q k.call k.command_is
+            (k.stamp_is ∙ ap (λ n. n + 1) (ap (λ x. x.stamp) g.same)) added;
+      }
+    where
+      went_back : (Q : List Pair → ℕ → ℕ → List Call → Type 0)
+          → Q w2.start w2.words w2.stamp w2.calls → Q v2.start v2.words v2.stamp v2.calls
+      went_back Q h =
+          subst (λ p. Q p v2.words v2.stamp v2.calls) (ap (λ x. x.start) g.same)
+          (subst (λ n. Q w2.start n v2.stamp v2.calls) (ap (λ x. x.words) g.same)
+          (subst (λ stamp. Q w2.start w2.words stamp v2.calls) (ap (λ x. x.stamp) g.same)
+          (subst (λ calls. Q w2.start w2.words w2.stamp calls) (ap (λ x. x.calls) g.same) h)))

@@ -1,0 +1,57 @@
+-- A caller that has published the rows of a plan. Serves `install_plan`.
+use Rattle.std.proofs.Common.{◌≡◌, ℕ, ◌∷◌, refl, sym, ◌∙◌}
+use Rattle.ist_core.specs.declared.events.Event.{Event}
+use Rattle.ist_core.specs.declared.events.Event.TheVariants.{Install}
+use Rattle.ist_core.specs.Snapshots.{bases_of}
+use Rattle.ist_rule.specs.declared.view.Who.TheVariants.{Caller as CallerOf}
+use Rattle.ist_rows.specs.declared.callers.Caller.{Caller}
+use Rattle.ist_rows.specs.declared.kinds.Kind.TheVariants as kind
+use Rattle.ist_rows.specs.Building.{HasRefused}
+use Rattle.ist_rows.specs.CallerLaws.{without_rows, IsWithout}
+use Rattle.ist_rows.specs.Rows.{IsCaller, spares_of}
+use Rattle.ist_rows.proofs.CallerLawLemmas.{HasLogged, logged_made, caller_made, refused_made}
+use Rattle.ist_dcss.specs.Installing.{rows_of, IsInstalled}
+use Rattle.ist_updates.specs.declared.plans.Plan.{Plan}
+use Rattle.ist_updates.specs.Changing.{HasGone, HasRows, filling_of, kinds_of}
+use Rattle.ist_updates.proofs.GoneLemmas.{loads_gone}
+
+module _ (old new : Caller) (plan : Plan) (c : IsCaller old) (r : HasRefused old)
+    (has : HasRows old plan)
+    (i : IsInstalled old.seat.view plan.base (filling_of plan) new.seat.view)
+    (number : new.number ≡ old.number)
+    (rows : spares_of new ≡ without_rows (kind.Change ∷ kinds_of plan.fresh) (spares_of old)) where
+  one_caller : (a b : ℕ) → CallerOf a ≡ CallerOf b → a ≡ b
+  one_caller a b e = cc
+
+  abbrev event : Event
+  event = Install i.number plan.base (rows_of (filling_of plan) plan.base)
+
+  -- the caller just before the Install
+  abbrev mid : Caller
+  mid = record old { seat = record old.seat { view = i.before } }
+
+  gone : HasGone (λ e. ⊥) old mid
+  gone = loads_gone (λ e. ⊥) old (record old.seat { view = i.before }) c r i.seen
+
+  logged : HasLogged i.before event i.logged.before new.seat.view
+  logged = logged_made i.before event new.seat.view i.logged
+
+  its : CallerOf i.number ≡ CallerOf old.number
+  its = sym i.mine ∙ c.mine
+
+  without : IsWithout (kind.Change ∷ kinds_of plan.fresh) mid new
+  without = record { number = number; rows = rows }
+
+  -- it is a caller without these rows
+  pub given_caller : IsCaller new
+  given_caller =
+      caller_made mid new (kind.Change ∷ kinds_of plan.fresh) event
+      (bases_of (rows_of (filling_of plan) plan.base)) gone.caller i.logged.before logged its refl
+      has without
+
+  -- whose refused builds are refused still
+  pub given_refused : HasRefused new
+  given_refused =
+      refused_made mid new (kind.Change ∷ kinds_of plan.fresh) event
+      (bases_of (rows_of (filling_of plan) plan.base)) gone.caller i.logged.before logged its refl
+      has without gone.refused

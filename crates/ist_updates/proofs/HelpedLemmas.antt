@@ -1,0 +1,116 @@
+-- A change or a rebuild that stands in the slot, and its help. Serves `help_change` and `help_target`.
+use Rattle.std.proofs.Common.{◌≡◌, ◌≢◌, ℕ, Option, Some, sym, ap, ◌∙◌, subst, arith}
+use Rattle.ist_core.specs.declared.ports.Full.{Full}
+use Rattle.ist_core.specs.Growing.{AllGrow}
+use Rattle.ist_core.specs.Rebuilding.{IsStarted, IsReplaced}
+use Rattle.ist_core.specs.References.{RebuildAt, ref_of}
+use Rattle.ist_core.specs.Slots.{SlotHolds, past_change}
+use Rattle.ist_core.specs.Snapshots.{Snapshot}
+use Rattle.ist_core.specs.Statuses.{decided_yes, undecided}
+use Rattle.ist_core.proofs.GrowingLemmas.{change_there}
+use Rattle.ist_core.proofs.NamingLemmas.{SlotNames, IsRebuildFor, slot_names}
+use Rattle.ist_core.proofs.OrderLemmas.{names}
+use Rattle.ist_rule.specs.declared.view.View.{View}
+use Rattle.ist_rule.specs.Learning.{now}
+use Rattle.ist_rule.specs.Rule.{IsSound}
+use Rattle.ist_rule.proofs.WentOnLemmas.{went_more, went_grow, looked_went}
+use Rattle.ist_settling.proofs.ReadLemmas.{read_started}
+use Rattle.ist_rebuilds.proofs.RebuiltLemmas as rebuilt
+use Rattle.ist_rebuild.specs.Going.{Serves}
+use Rattle.ist_rebuild.specs.Helping.{IsHelpRefused}
+use Rattle.ist_rows.specs.declared.callers.Caller.{Caller}
+use Rattle.ist_updates.specs.Answering.{IsTryRefused}
+use Rattle.ist_updates.specs.Asking.{command_for, IsAsked, Updates}
+use Rattle.ist_updates.specs.Refusals.{IsUpdateRefused, for_rebuild}
+use Rattle.ist_updates.specs.Trying.{BeganSince, IsAtSlot}
+use Rattle.ist_updates.proofs.StepLemmas.{tries_updates, serves_tries}
+use Rattle.ist_updates.proofs.GoneLemmas.{short_behind, short_all}
+
+-- ---- rebuilds
+
+one_two : (n : ℕ) → n ≡ decided_yes → n ≢ undecided
+one_two n e f = let one : ◌≡◌ {A = ℕ} 1 0 = sym e ∙ f in omega arith
+
+-- a started rebuild is started, where rows grow
+started_on : (t u : Snapshot) → AllGrow t.pieces u.pieces → (rebuild : ℕ) → IsStarted t rebuild
+    → IsStarted u rebuild
+started_on t u g rebuild s =
+    let on = change_there t.pieces u.pieces g s.base s.change s.published in
+    record {
+      base = s.base;
+      change = on.0;
+      published = on.1;
+      kind = ap (λ r. r.kind) on.2.others ∙ s.kind;
+      decision = on.2.decided (one_two s.change.decision s.decision) ∙ s.decision;
+      to = ap (λ r. ref_of r.to) on.2.others ∙ s.to;
+    }
+
+-- and a replaced one is replaced
+replaced_on : (t u : Snapshot) → AllGrow t.pieces u.pieces → (rebuild : ℕ) → IsReplaced t rebuild
+    → IsReplaced u rebuild
+replaced_on t u g rebuild s =
+    let on = change_there t.pieces u.pieces g s.base s.change s.published in
+    record {
+      base = s.base;
+      change = on.0;
+      published = on.1;
+      kind = ap (λ r. r.kind) on.2.others ∙ s.kind;
+      decision = on.2.decided (one_two s.change.decision s.decision) ∙ s.decision;
+      from = ap (λ r. ref_of r.from) on.2.others ∙ s.from;
+    }
+
+module _ (v : View) (s : IsSound v) (key node index word rebuild : ℕ)
+    (at : IsAtSlot v key node index word) (is : ref_of word ≡ Some (RebuildAt rebuild)) where
+  -- a rebuild that stands in a slot was started
+  pub slot_started : IsStarted (now v) rebuild
+  slot_started =
+      read_started v.start v.words s.lawful.opens v.log s.lawful.enabled node index rebuild record {
+        word = word;
+        holds = at.holds;
+        reads = ap (past_change (now v).pieces) is;
+      }
+
+  named : IsRebuildFor (now v).pieces node index rebuild
+  named =
+      subst (SlotNames (now v).pieces node index) is
+      (slot_names (now v) node index word
+      (names v.start v.words s.lawful.opens v.log s.lawful.enabled) at.holds)
+
+  -- and wasn't replaced
+  pub slot_unreplaced : ¬ (IsReplaced (now v) rebuild)
+  slot_unreplaced replaced =
+      let n = named in
+      rebuilt.read_unreplaced v.start v.words s.lawful.opens v.log s.lawful.enabled rebuild n.row
+      n.published record {
+        word = word;
+        holds = subst (λ m. SlotHolds (now v) m n.row.index word) (sym n.parent)
+            (subst (λ i. SlotHolds (now v) node i word) (sym n.index) at.holds);
+        reads = ap (past_change (now v).pieces) is;
+      } replaced
+
+  -- for want of words for its help an update is refused
+  pub help_refused : (value : Option ℕ) (words : ℕ) (full : Full) (w : View)
+      → IsHelpRefused v rebuild words full w → (first : View) → BeganSince first v
+      → IsUpdateRefused first key value words full w
+  help_refused value words full w r first began =
+      let went = went_more Serves v r.short.before w r.short.seen
+      (looked_went Serves r.short.before _ _ w r.short.looked) in
+      record {
+        short = short_behind Updates first v words full w began.went
+            (short_all Serves Updates (λ e h. tries_updates e (serves_tries e h)) v words full w
+            r.short);
+        asked = for_rebuild rebuild
+            (started_on (now v) (now w) (went_grow Serves v w went) rebuild slot_started)
+            (λ replaced. slot_unreplaced (replaced_on (now first) (now v)
+            (went_grow Updates first v began.went) rebuild replaced)) r.asked;
+      }
+
+-- ---- a refused try
+
+-- who is asked still, and whose update is refused whenever its search began, was refused
+pub refused_still : (old new : Caller) (key : ℕ) (value : Option ℕ) (words : ℕ) (full : Full)
+    → IsAsked new (command_for key value)
+    → ((first : View) → BeganSince first old.seat.view
+    → IsUpdateRefused first key value words full new.seat.view)
+    → IsTryRefused old key value words full new
+refused_still old new key value words full still cause = record { still = still; cause = cause }

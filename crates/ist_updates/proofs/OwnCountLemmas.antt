@@ -1,0 +1,152 @@
+-- Which Counts a caller has made in a log that goes on. Serves the walk and its Counts.
+use Rattle.std.proofs.Common.{◌≡◌, ◌⊎◌, ℕ, List, ◌∷◌, refl, ap, inl, inr, arith}
+use Rattle.ist_core.specs.declared.events.Event.{Event}
+use Rattle.ist_core.specs.declared.events.Event.TheVariants.{Enter, Reserve, Install, Okay, Decide, Resolve, Count, Mark, Pass, Finish, Root, Draw, Place, Lose}
+use Rattle.ist_core.specs.declared.pairs.Pair.{Pair}
+use Rattle.ist_core.specs.Authors.{GoesOnBy, no_more, one_more}
+use Rattle.ist_core.specs.Logs.{Log, Counts, GoesOn, same_log, one_event}
+use Rattle.ist_rule.specs.declared.view.Who.TheVariants.{Caller as CallerOf}
+use Rattle.ist_rule.specs.Authors.{whose, Later, LaterBy}
+use Rattle.ist_rule.proofs.LaterLemmas.{goes_on_more, goes_on_length}
+use Rattle.ist_outcomes.specs.Counting.{CountsFrom}
+use Rattle.ist_updates.specs.Counting.{CameToLimit, WasCounted}
+use Rattle.ist_updates.specs.Trying.{Tries}
+
+-- the event is no Count of the caller
+abbrev pub CountsNone : ℕ → Event → Type 0
+CountsNone caller event = (node : ℕ) → ¬ (Counts caller node event)
+
+-- a Count of the caller is its own event
+counts_own : (caller node : ℕ) (event : Event) → Counts caller node event
+    → whose event ≡ CallerOf caller
+counts_own caller node (Enter c) h = absurd h
+counts_own caller node (Reserve c base size) h = absurd h
+counts_own caller node (Install c base rows) h = absurd h
+counts_own caller node (Okay c base) h = absurd h
+counts_own caller node (Decide c base said) h = absurd h
+counts_own caller node (Resolve c base) h = absurd h
+counts_own caller node (Count c n) h = ap CallerOf h.0
+counts_own caller node (Mark c n) h = absurd h
+counts_own caller node (Pass c n i word) h = absurd h
+counts_own caller node (Finish c n keys) h = absurd h
+counts_own caller node (Root c rebuild word rows) h = absurd h
+counts_own caller node (Draw c rebuild part) h = absurd h
+counts_own caller node (Place c rebuild i word rows) h = absurd h
+counts_own caller node (Lose c bases) h = absurd h
+
+-- a try counts nothing
+tries_none : (caller : ℕ) (event : Event) → Tries event → CountsNone caller event
+tries_none caller (Enter c) t node h = h
+tries_none caller (Reserve c base size) t node h = h
+tries_none caller (Install c base rows) t node h = h
+tries_none caller (Okay c base) t node h = h
+tries_none caller (Decide c base said) t node h = h
+tries_none caller (Resolve c base) t node h = h
+tries_none caller (Count c n) t node h = t
+tries_none caller (Mark c n) t node h = h
+tries_none caller (Pass c n i word) t node h = h
+tries_none caller (Finish c n keys) t node h = h
+tries_none caller (Root c rebuild word rows) t node h = h
+tries_none caller (Draw c rebuild part) t node h = h
+tries_none caller (Place c rebuild i word rows) t node h = h
+tries_none caller (Lose c bases) t node h = h
+
+-- what others do is no Count of the caller
+pub later_none : {caller : ℕ} {a b : Log} → Later (CallerOf caller) a b
+    → GoesOnBy (CountsNone caller) a b
+later_none no_more = no_more
+later_none {caller = caller} (one_more event l other) =
+    one_more event (later_none l) (λ node h. other (counts_own caller node event h))
+
+-- and no try is one
+pub tried_none : {caller : ℕ} {a b : Log} → LaterBy (CallerOf caller) Tries a b
+    → GoesOnBy (CountsNone caller) a b
+tried_none no_more = no_more
+tried_none {caller = caller} (one_more event l (inl other)) =
+    one_more event (tried_none l) (λ node h. other (counts_own caller node event h))
+tried_none {caller = caller} (one_more event l (inr tries)) =
+    one_more event (tried_none l) (tries_none caller event tries)
+
+-- the earlier log is a prefix
+pub by-goes_on : {P : Event → Type 0} {a b : Log} → GoesOnBy P a b → GoesOn a b
+by-goes_on no_more = same_log
+by-goes_on (one_more event l is) = one_event event (by-goes_on l)
+
+-- ---- Counts from an index on
+
+-- where the caller counted nothing, it counted from each index on
+pub from_none : (caller i : ℕ) (rows : List ℕ) (earlier a b : Log)
+    → GoesOnBy (CountsFrom caller rows i) earlier a → GoesOnBy (CountsNone caller) a b
+    → GoesOnBy (CountsFrom caller rows i) earlier b
+from_none caller i rows earlier a _ f no_more = f
+from_none caller i rows earlier a _ f (one_more {log = log} event l none) =
+    one_more event (from_none caller i rows earlier a log f l) (λ node h. absurd (none node h))
+
+-- each event between is one by which the log went on
+pub event_by : (P : Event → Type 0) (earlier log : Log) → GoesOnBy P earlier log → (event : Event)
+    → (before : Log) → GoesOn earlier before → GoesOn (event ∷ before) log → P event
+event_by P earlier _ no_more event before since until =
+    let longer = goes_on_length until in
+    let low = goes_on_length since in
+    absurd (omega arith)
+event_by P earlier _ (one_more last later p) _ _ since same_log = p
+event_by P earlier _ (one_more {log = log} last later p) event before since (one_event _ sooner) =
+    event_by P earlier log later event before since sooner
+
+-- ---- one Count
+
+-- a Count that stands in the longer log stood before, where the caller counted nothing since
+count_stood : {caller node : ℕ} {at a b : Log} → GoesOnBy (CountsNone caller) a b
+    → GoesOn (Count caller node ∷ at) b → GoesOn (Count caller node ∷ at) a
+count_stood no_more g = g
+count_stood {node = node} (one_more _ l none) same_log = absurd (none node (refl, refl))
+count_stood (one_more event l none) (one_event _ sooner) = count_stood l sooner
+
+-- an event of a log is its last, or stood before that
+pub last_or_sooner : (event last : Event) (a b : Log) → GoesOn (event ∷ a) (last ∷ b)
+    → ((event ≡ last) × (a ≡ b)) ⊎ GoesOn (event ∷ a) b
+last_or_sooner event _ a _ same_log = inl (refl, refl)
+last_or_sooner event _ a _ (one_event _ sooner) = inr sooner
+
+module _ (pairs : List Pair) (words : ℕ) (earlier : Log) (caller : ℕ) where
+  -- a Count that came to the limit stands in a longer log too
+  pub came_on : (a b : Log) → GoesOn a b → (node : ℕ)
+      → CameToLimit pairs words earlier a caller node
+      → CameToLimit pairs words earlier b caller node
+  came_on a b g node c =
+      record {
+        at = c.at;
+        since = c.since;
+        until = goes_on_more c.until g;
+        row = c.row;
+        published = c.published;
+        reached = c.reached;
+      }
+
+  -- and stood before, where the caller counted nothing since
+  pub came_back : (a b : Log) → GoesOnBy (CountsNone caller) a b → (node : ℕ)
+      → CameToLimit pairs words earlier b caller node
+      → CameToLimit pairs words earlier a caller node
+  came_back a b l node c =
+      record {
+        at = c.at;
+        since = c.since;
+        until = count_stood l c.until;
+        row = c.row;
+        published = c.published;
+        reached = c.reached;
+      }
+
+  -- none came to it where the caller counted nothing since the earlier log
+  pub came_none : (log : Log) → GoesOnBy (CountsNone caller) earlier log → (node : ℕ)
+      → ¬ (CameToLimit pairs words earlier log caller node)
+  came_none log l node c =
+      let longer = goes_on_length (count_stood l c.until) in
+      let low = goes_on_length c.since in
+      omega arith
+
+-- what was counted was so in a longer log
+pub counted_on : (earlier a b : Log) (caller node : ℕ) → GoesOn a b
+    → WasCounted earlier a caller node → WasCounted earlier b caller node
+counted_on earlier a b caller node g c =
+    record { at = c.at; since = c.since; until = goes_on_more c.until g }

@@ -1,0 +1,219 @@
+-- Plans whose change fits its kind. Serves `plan_leaf`, `plan_pair` and `plan_clear`.
+use Rattle.std.proofs.Common.{◌≡◌, ◌≢◌, ℕ, ◌<◌, [], List, Some, refl, sym, ap, ◌∙◌, subst, inl, inr}
+use Rattle.ist_core.specs.declared.events.Event.{Event}
+use Rattle.ist_core.specs.declared.lists.Row.{Row}
+use Rattle.ist_core.specs.declared.states.ChangeRow.{ChangeRow}
+use Rattle.ist_core.specs.Arithmetic.{child_count}
+use Rattle.ist_core.specs.Growing.{AllGrow}
+use Rattle.ist_core.specs.Slots.{IsChildFor, of_anchor, of_row}
+use Rattle.ist_core.specs.Snapshots.{Snapshot}
+use Rattle.ist_core.proofs.GrowingLemmas.{inner_there}
+use Rattle.ist_core.specs.Installing.{ComesByKey, FitsKind, a_put, a_pair, a_remove, IsLeafOf, HasRoomFor}
+use Rattle.ist_core.specs.References.{Empty, LeafAt, InnerAt, IsGoodBase, ref_of, word_of}
+use Rattle.ist_core.specs.StartLayout.{start}
+use Rattle.ist_core.specs.Statuses.{put_kind, remove_kind}
+use Rattle.ist_core.proofs.ReferenceLemmas.{ref_of-word_of}
+use Rattle.ist_rule.specs.declared.view.View.{View}
+use Rattle.ist_rule.specs.Going.{WentOn}
+use Rattle.ist_rule.specs.Learning.{now, GoesOnTo}
+use Rattle.ist_rule.specs.Watching.{IsNode}
+use Rattle.ist_rule.proofs.GoingOnLemmas.{goes_on_more}
+use Rattle.ist_rule.proofs.WentOnLemmas.{went_lawful, later_by-goes_on, goes_on_grow}
+use Rattle.ist_rows.specs.declared.callers.Caller.{Caller}
+use Rattle.ist_dcss.specs.Naming.{IsSlot}
+use Rattle.ist_dcss.proofs.FitsLemmas.{fits_later}
+use Rattle.ist_dcss.proofs.InstallLemmas.{slot_on}
+use Rattle.ist_find.specs.Searches.{HasCome}
+use Rattle.ist_find.proofs.LookLemmas.{come_node, come_later}
+use Rattle.ist_histories.specs.Searching.{WasMet}
+use Rattle.ist_histories.proofs.PositionLemmas.{node_met}
+use Rattle.ist_walks.proofs.WalkLemmas.{meeting_comes}
+use Rattle.ist_updates.specs.declared.plans.Aim.{Aim}
+use Rattle.ist_updates.specs.declared.plans.Fresh.TheVariants.{Nothing, Leaf, Pair}
+use Rattle.ist_updates.specs.declared.plans.Way.TheVariants as way
+use Rattle.ist_updates.specs.Changing.{WasAtSlot, IsPlanned, row_for}
+
+-- a child for the key is one still where rows grow
+child_later : (t u : Snapshot) → AllGrow t.pieces u.pieces → (node key i : ℕ)
+    → IsChildFor t node key i → IsChildFor u node key i
+child_later t u g node key i (of_anchor e f) = of_anchor e f
+child_later t u g node key i (of_row r e f) =
+    let on = inner_there t.pieces u.pieces g node r e in
+    of_row on.0 on.1 (f ∙ ap (λ ks. child_count ks key) (sym on.2.keys))
+
+module _ (v : View) (aim : Aim) (at : WasAtSlot v aim) where
+  -- the search came to the node
+  pub slot_come : HasCome v aim.key aim.node at.at.came.0
+  slot_come = come_later at.before v at.seen aim.key aim.node at.at.came.0 at.at.came.1
+
+  -- whose child for the key this is
+  pub slot_child : IsChildFor (now v) aim.node aim.key aim.index
+  slot_child =
+      child_later (now at.before) (now v) (goes_on_grow at.before v at.seen) aim.node aim.key aim.index
+      at.at.child
+
+  -- and was met by it
+  pub slot_met : WasMet v.start v.words v.log aim.key slot_come.last aim.node
+  slot_met =
+      let s = at.seen.sound in
+      node_met v.start v.words s.lawful.opens v.log s.lawful.enabled aim.key v.loads.since
+      slot_come.last aim.node
+      (meeting_comes v.start v.words v.log aim.key v.loads.since slot_come.last aim.node at.at.came.0
+      slot_come.comes)
+
+  -- it is a node
+  pub slot_node : IsNode (now v) aim.node
+  slot_node =
+      come_node v at.seen.sound aim.key slot_come.last aim.node at.at.came.0 slot_come.comes
+
+  -- the slot holds a word
+  pub slot_holds : IsSlot v aim.node aim.index
+  slot_holds = slot_on at.before v at.seen aim.node aim.index aim.word at.at.holds
+
+  -- and so it is behind more loads
+  pub slot_loads : (w : View) → GoesOnTo v w → WasAtSlot w aim
+  slot_loads w g =
+      record {
+        before = at.before;
+        at = at.at;
+        sound = at.sound;
+        seen = goes_on_more at.before v w at.seen g;
+      }
+
+-- a change that fits its kind does so still where the seat went on
+pub fits_went : (P : Event → Type 0) (v w : View) → WentOn P v w → (row : ChangeRow)
+    (fresh : List Row) → FitsKind (start v.start v.words) v.log row fresh
+    → FitsKind (start w.start w.words) w.log row fresh
+fits_went P v w g row fresh f =
+    let lawful = went_lawful P v w g in
+    subst (λ p. FitsKind (start p w.words) w.log row fresh) (sym (ap (λ x. x.start) g.same))
+    (subst (λ n. FitsKind (start v.start n) w.log row fresh) (sym (ap (λ x. x.words) g.same))
+    (fits_later v.start v.words lawful.opens v.log w.log lawful.enabled (later_by-goes_on g.later)
+    row fresh f))
+
+module _ (P : Event → Type 0) (old new : Caller)
+    (g : WentOn P old.seat.view new.seat.view) (aim : Aim)
+    (at : WasAtSlot old.seat.view aim) (base : ℕ)
+    (change : new.change ≡ Some base) where
+  abbrev v : View
+  v = old.seat.view
+
+  -- the change comes to its slot by its key
+  by_key : (kind value to owner : ℕ)
+      → ComesByKey (start v.start v.words) v.log (row_for aim kind value to owner)
+  by_key kind value to owner =
+      record { led = (slot_met v aim at).led; index = slot_child v aim at }
+
+  -- a put of a leaf is planned
+  pub leaf_planned : (value leaf to : ℕ) → HasRoomFor (now v) aim.key aim.word
+      → new.leaf ≡ Some leaf → IsGoodBase leaf → to ≡ word_of (LeafAt leaf) → (row : ChangeRow)
+      → row ≡ row_for aim put_kind value to new.number
+      → IsPlanned new aim (way.Leaf value) record { base = base; row = row; fresh = Leaf leaf }
+  leaf_planned value leaf to room has good to_is row is =
+      subst (λ r. IsPlanned new aim (way.Leaf value) record {
+        base = base;
+        row = r;
+        fresh = Leaf leaf;
+      }) (sym is) record {
+        rows = (change, (has, tt));
+        good = tt;
+        is_for = record {
+          node = refl;
+          index = refl;
+          from = refl;
+          owner = refl;
+          unset = refl;
+          key = refl;
+          update = inl refl;
+          command = refl;
+        };
+        fits = fits_went P v new.seat.view g (row_for aim put_kind value to new.number) _
+            (a_put record {
+              kind = refl;
+              by_key = by_key put_kind value to new.number;
+              from = room;
+              leaf = leaf;
+              to = ap ref_of to_is ∙ ref_of-word_of (LeafAt leaf) good;
+              fresh_are = refl;
+            });
+      }
+
+  -- a put of a pair row is planned
+  pub pair_planned : (value other other_key leaf pair to : ℕ) → ref_of aim.word ≡ Some (LeafAt other)
+      → IsLeafOf (now v) other other_key → other_key ≢ aim.key → new.leaf ≡ Some leaf
+      → new.pair ≡ Some pair → aim.node < pair → IsGoodBase leaf → IsGoodBase other → IsGoodBase pair
+      → to ≡ word_of (InnerAt pair) → (row : ChangeRow)
+      → row ≡ row_for aim put_kind value to new.number
+      → IsPlanned new aim (way.Pair value other other_key) record {
+        base = base;
+        row = row;
+        fresh = Pair pair leaf other other_key;
+      }
+  pair_planned value other other_key leaf pair to from stands differs has_leaf has_pair above
+      leaf_good other_good pair_good to_is row is =
+      subst (λ r. IsPlanned new aim (way.Pair value other other_key) record {
+        base = base;
+        row = r;
+        fresh = Pair pair leaf other other_key;
+      }) (sym is) record {
+        rows = (change, (has_pair, (has_leaf, tt)));
+        good = (leaf_good, other_good);
+        is_for = record {
+          node = refl;
+          index = refl;
+          from = refl;
+          owner = refl;
+          unset = refl;
+          key = refl;
+          update = inl refl;
+          command = refl;
+        };
+        fits = fits_went P v new.seat.view g (row_for aim put_kind value to new.number) _
+            (a_pair record {
+              kind = refl;
+              by_key = by_key put_kind value to new.number;
+              other = other;
+              other_key = other_key;
+              from = from;
+              stands = stands;
+              differs = differs;
+              pair = pair;
+              leaf = leaf;
+              to = ap ref_of to_is ∙ ref_of-word_of (InnerAt pair) pair_good;
+              above = above;
+              fresh_are = refl;
+            });
+      }
+
+  -- a remove is planned
+  pub clear_planned : (leaf : ℕ) → ref_of aim.word ≡ Some (LeafAt leaf)
+      → IsLeafOf (now v) leaf aim.key → (row : ChangeRow)
+      → row ≡ row_for aim remove_kind 0 0 new.number
+      → IsPlanned new aim way.Clear record { base = base; row = row; fresh = Nothing }
+  clear_planned leaf from stands row is =
+      subst (λ r. IsPlanned new aim way.Clear record { base = base; row = r; fresh = Nothing })
+      (sym is) record {
+        rows = (change, tt);
+        good = tt;
+        is_for = record {
+          node = refl;
+          index = refl;
+          from = refl;
+          owner = refl;
+          unset = refl;
+          key = refl;
+          update = inr refl;
+          command = refl;
+        };
+        fits = fits_went P v new.seat.view g (row_for aim remove_kind 0 0 new.number) []
+            (a_remove record {
+              kind = refl;
+              by_key = by_key remove_kind 0 0 new.number;
+              leaf = leaf;
+              from = from;
+              stands = stands;
+              to = ref_of-word_of Empty tt;
+              value = refl;
+              fresh_are = refl;
+            });
+      }

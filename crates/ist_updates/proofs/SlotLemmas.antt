@@ -1,0 +1,248 @@
+-- A slot that is changed: what its change asks for, and what came of it, step by step. Serves
+-- `change_slot`.
+use Rattle.std.proofs.Common.{◌≡◌, ◌≢◌, ◌⊎◌, ℕ, nat_lt, true, false, if◌then◌else◌, length, Some, refl, sym, ap, ◌∙◌, subst, inl, inr, ⊎_elim}
+use Rattle.ist_core.specs.declared.events.Event.TheVariants.{Install}
+use Rattle.ist_core.specs.declared.states.ChangeRow.{ChangeRow}
+use Rattle.ist_core.specs.Changes.{reply_of, value_at}
+use Rattle.ist_core.specs.Installing.{IsUnrefused, pair_row, pair_over}
+use Rattle.ist_core.specs.Links.{Linked, WasLinked}
+use Rattle.ist_core.specs.Logs.{Log, GoesOn, same_log, one_event, Ever}
+use Rattle.ist_core.specs.Lawful.{EachEnabled, Lawful, state_of}
+use Rattle.ist_core.proofs.FateLemmas.{enabled_before}
+use Rattle.ist_core.specs.Pieces.{Change, words_of}
+use Rattle.ist_core.specs.References.{ref_of}
+use Rattle.ist_core.specs.Snapshots.{Snapshot, HoldsRow, HoldsRows}
+use Rattle.ist_core.specs.StartLayout.{start}
+use Rattle.ist_core.specs.Statuses.{undecided}
+use Rattle.ist_core.specs.Slots.{SlotHolds}
+use Rattle.ist_core.proofs.FreezingLemmas.{same_change}
+use Rattle.ist_core.proofs.GrowingLemmas.{change_there}
+use Rattle.ist_links.proofs.ChangeLemmas.{undecided_unresolved}
+use Rattle.ist_rule.specs.declared.view.View.{View}
+use Rattle.ist_rule.specs.declared.view.Who.TheVariants.{Caller as CallerOf}
+use Rattle.ist_rule.specs.Authors.{whose}
+use Rattle.ist_rule.specs.Conditions.{IsResolved, StoredAll}
+use Rattle.ist_rule.specs.Going.{WentOn}
+use Rattle.ist_rule.specs.Learning.{now}
+use Rattle.ist_rule.specs.Rule.{IsSound}
+use Rattle.ist_rule.proofs.WentOnLemmas.{later_by-goes_on, went_grow, went_lawful, went_now}
+use Rattle.ist_rows.specs.declared.callers.Caller.{Caller}
+use Rattle.ist_rows.specs.declared.kinds.Kind.TheVariants as kind
+use Rattle.ist_rows.specs.Building.{HasRefused}
+use Rattle.ist_rows.specs.Rows.{IsCaller}
+use Rattle.ist_dcss.specs.Installing.{IsInstallable, rows_of}
+use Rattle.ist_dcss.proofs.SlotPlaceLemmas.{slot_later}
+use Rattle.ist_outcomes.proofs.BetweenLemmas.{event_by}
+use Rattle.ist_settling.specs.Owning.{HasChange, WasInstalled}
+use Rattle.ist_settling.proofs.OwnLemmas.{change_since}
+use Rattle.ist_updates.specs.declared.plans.Aim.{Aim}
+use Rattle.ist_updates.specs.declared.plans.Fresh.{Fresh}
+use Rattle.ist_updates.specs.declared.plans.Fresh.TheVariants.{Nothing, Leaf, Pair}
+use Rattle.ist_updates.specs.declared.plans.Plan.{Plan}
+use Rattle.ist_updates.specs.declared.plans.Way.{Way}
+use Rattle.ist_updates.specs.Asking.{IsAsked}
+use Rattle.ist_updates.specs.Changing.{WasAtSlot, HasGone, Prepares, HasRows, IsPlanFor, IsPlanned, IsWay, command_by, filling_of, fresh_rows}
+use Rattle.ist_updates.specs.Filling.{with_own}
+use Rattle.ist_updates.specs.Trying.{HasTaken}
+use Rattle.ist_updates.proofs.AskedLemmas.{asked_gone}
+use Rattle.ist_updates.proofs.StepLemmas.{prepares_none}
+use Rattle.ist_updates.proofs.SinceLemmas.{taken_since}
+use Rattle.ist_updates.proofs.StandingLemmas.{planned_reply}
+use Rattle.ist_updates.proofs.GoneLemmas.{own_went, gone_more}
+use Rattle.ist_updates.proofs.PlanLemmas.{slot_met, slot_holds, fits_went}
+
+-- a caller that filled its rows has gone on so
+pub filled_gone : (old new : Caller) → HasRefused old → IsCaller new → IsSound new.seat.view
+    → new ≡ with_own old new.seat.view.own → HasGone Prepares old new
+filled_gone old new refused c s same =
+    record {
+      caller = c;
+      number = ap (λ (x : Caller). x.number) same;
+      refused = subst HasRefused (sym same) refused;
+      went = own_went Prepares old.seat.view new.seat.view s
+          (ap (λ (x : Caller). x.seat.view) same);
+    }
+
+-- ---- what an Install asks
+
+-- what was once so was once so
+ever_on : (first : Snapshot) (P : Snapshot → Type 0) (a b : Log) → GoesOn a b
+    → Ever first P a → Ever first P b
+ever_on first P a _ same_log e = e
+ever_on first P a _ (one_event {log = log} event g) e = inr (ever_on first P a log g e)
+
+-- where a caller prepared alone, none of its changes on a node was decided no still
+pub unrefused_on : (v w : View) (number node : ℕ) → v.who ≡ CallerOf number → IsResolved v number
+    → WentOn Prepares v w → IsUnrefused (now v) number node → IsUnrefused (now w) number node
+unrefused_on v w number node mine resolved g h base change there own at refused =
+    by_origin (change_since v.start v.words v.log w.log (later_by-goes_on g.later) lawful.enabled base
+    change here)
+  where
+    lawful : Lawful v.start v.words w.log
+    lawful = went_lawful Prepares v w g
+
+    before : EachEnabled (start v.start v.words) v.log
+    before =
+        enabled_before (start v.start v.words) v.log w.log (later_by-goes_on g.later) lawful.enabled
+
+    here : (state_of v.start v.words w.log).pieces base ≡ Some (Change change)
+    here = subst (λ t. t.pieces base ≡ Some (Change change)) (went_now Prepares v w g) there
+
+    by_origin : HasChange (now v) base ⊎ WasInstalled v.log w.log change.owner base → ⊥
+    by_origin (inl old) =
+        let on = change_there (now v).pieces (now w).pieces (went_grow Prepares v w g) base old.0 old.1
+        in
+        let same = same_change ((now w).pieces base) on.0 change on.1 there in
+        let owner = ap (λ c. c.owner) (sym on.2.others) ∙ ap (λ c. c.owner) same ∙ own in
+        let decided : old.0.decision ≢ undecided =
+        λ none. undecided_unresolved v.start v.words lawful.opens v.log before base old.0
+        old.1 none (resolved base old.0 old.1 owner) in
+        h base old.0 old.1 owner
+        (ap (λ c. c.node) (sym on.2.others) ∙ ap (λ c. c.node) same ∙ at)
+        (sym (on.2.decided decided) ∙ ap (λ c. c.decision) same ∙ refused)
+    by_origin (inr i) =
+        ⊎_elim (λ other. other (ap CallerOf own ∙ sym mine)) (λ none. none)
+        (event_by (λ event. (whose event ≢ v.who) ⊎ Prepares event) v.log w.log g.later
+        (Install change.owner base i.rows) i.at i.since i.until)
+
+-- a pair row has its seven words
+pair_words_are : (key leaf other_key other : ℕ)
+    → length (words_of (pair_row key leaf other_key other)) ≡ 7
+pair_words_are key leaf other_key other =
+    elim (nat_lt other_key key) as (λ v.
+    length (words_of (if v then pair_over key other leaf else pair_over other_key leaf other)) ≡ 7) [
+      | true ↦ refl
+      | false ↦ refl
+    ]
+
+-- a caller that has the rows of a plan holds them
+rows_held : (who : Caller) → IsCaller who → (base : ℕ) (row : ChangeRow) (fresh : Fresh)
+    → HasRows who record { base = base; row = row; fresh = fresh }
+    → HoldsRows (now who.seat.view) who.number
+    (rows_of record { change = row; fresh = fresh_rows row fresh } base)
+rows_held who c base row Nothing h = (c.rows kind.Change base h.0, tt)
+rows_held who c base row (Leaf leaf) h = (
+  c.rows kind.Change base h.0,
+  (c.rows kind.Leaf leaf h.1.0, tt),
+)
+rows_held who c base row (Pair pair leaf other other_key) h = (
+  c.rows kind.Change base h.0,
+  (
+    subst (HoldsRow (now who.seat.view) who.number pair)
+        (sym (pair_words_are row.key leaf other_key other)) (c.rows kind.Pair pair h.1.0),
+    (c.rows kind.Leaf leaf h.1.1.0, tt),
+  ),
+)
+
+module _ (old mid new : Caller) (aim : Aim) (x : Way) (plan : Plan)
+    (a : IsAsked old (command_by aim.key x)) (at : WasAtSlot old.seat.view aim)
+    (h : HasGone Prepares old mid) (planned : IsPlanned mid aim x plan)
+    (f : HasGone Prepares mid new) (same : new ≡ with_own mid new.seat.view.own)
+    (all : HasGone Prepares old new) where
+  abbrev v : View
+  v = old.seat.view
+
+  abbrev w : View
+  w = new.seat.view
+
+  -- the caller is asked still
+  pub prepared_asked : IsAsked new (command_by aim.key x)
+  prepared_asked = asked_gone Prepares old new (command_by aim.key x) a all prepares_none
+
+  -- it has the rows still
+  pub prepared_rows : HasRows new plan
+  prepared_rows = subst (λ (y : Caller). HasRows y plan) (sym same) planned.rows
+
+  linked : WasLinked (start w.start w.words) w.log plan.row.node
+  linked =
+      subst (λ (y : View). WasLinked (start y.start y.words) w.log plan.row.node)
+      (sym all.went.same)
+      (subst (WasLinked (start v.start v.words) w.log) (sym planned.is_for.node)
+      (ever_on (start v.start v.words) (λ t. Linked t aim.node) v.log w.log
+      (later_by-goes_on all.went.later) (slot_met v aim at).linked))
+
+  slot : (word : ℕ) × SlotHolds (now w) plan.row.node plan.row.index word
+  slot =
+      let s = slot_holds v aim at in
+      let it = slot_later (now v) (now w) (went_grow Prepares v w all.went) aim.node aim.index s.word
+      s.holds in (
+        it.0,
+        subst (λ n. SlotHolds (now w) n plan.row.index it.0) (sym planned.is_for.node)
+            (subst (λ i. SlotHolds (now w) aim.node i it.0) (sym planned.is_for.index) it.1),
+      )
+
+  -- the change may be installed
+  pub prepared_installable : IsUnrefused (now v) old.number aim.node
+      → StoredAll w (rows_of (filling_of plan) plan.base)
+      → IsInstallable w plan.base (filling_of plan)
+  prepared_installable unrefused stored =
+      let asked = prepared_asked in
+      record {
+        number = new.number;
+        mine = all.caller.mine;
+        held = rows_held new all.caller plan.base plan.row plan.fresh prepared_rows;
+        stored = stored;
+        owned = planned.is_for.owner ∙ sym f.number;
+        unset = planned.is_for.unset;
+        word = slot.0;
+        slot = slot.1;
+        linked = linked;
+        unrefused = subst (IsUnrefused (now w) new.number) (sym planned.is_for.node)
+            (subst (λ n. IsUnrefused (now w) n aim.node) (sym all.number)
+            (unrefused_on v w old.number aim.node a.caller.mine a.resolved all.went unrefused));
+        fits = fits_went Prepares mid.seat.view w f.went plan.row _ planned.fits;
+        allowed = record {
+          pending = asked.pending;
+          in_call = asked.in_call;
+          resolved = asked.resolved;
+          command = λ _. planned.is_for.command ∙ sym asked.command_is;
+          none_yet = λ _. asked.none_yet;
+        };
+      }
+
+-- ---- both together
+
+-- the caller has prepared the plan: it may be installed
+pub record IsPrepared (old new : Caller) (aim : Aim) (x : Way) (plan : Plan) : Type 0 where
+  pub gone : HasGone Prepares old new
+  pub asked : IsAsked new (command_by aim.key x)
+  pub rows : HasRows new plan
+  pub installable : IsInstallable new.seat.view plan.base (filling_of plan)
+  pub is_for : IsPlanFor new.number aim x plan
+
+pub prepared : (old first mid new : Caller) (aim : Aim) (x : Way) (plan : Plan)
+    → IsAsked old (command_by aim.key x) → HasGone Prepares old first
+    → WasAtSlot first.seat.view aim → IsUnrefused (now first.seat.view) first.number aim.node
+    → HasGone Prepares first mid → IsPlanned mid aim x plan → IsCaller new → IsSound new.seat.view
+    → new ≡ with_own mid new.seat.view.own
+    → StoredAll new.seat.view (rows_of (filling_of plan) plan.base)
+    → IsPrepared old new aim x plan
+prepared old first mid new aim x plan a o at unrefused h planned c s same stored =
+    let b = asked_gone Prepares old first (command_by aim.key x) a o prepares_none in
+    let f = filled_gone mid new h.refused c s same in
+    let all = gone_more Prepares first mid new h f in
+    record {
+      gone = gone_more Prepares old first new o all;
+      asked = prepared_asked first mid new aim x plan b at h planned f same all;
+      rows = prepared_rows first mid new aim x plan b at h planned f same all;
+      installable = prepared_installable first mid new aim x plan b at h planned f same all unrefused
+          stored;
+      is_for = subst (λ n. IsPlanFor n aim x plan) (sym f.number) planned.is_for;
+    }
+
+-- where it took effect then, it took effect since
+pub prepared_taken : (old new : Caller) (aim : Aim) (x : Way) (plan : Plan)
+    → IsAsked old (command_by aim.key x) → IsPrepared old new aim x plan
+    → IsWay old.seat.view aim.key aim.word x → (w : View)
+    → HasTaken new.seat.view w new.number (command_by aim.key x) plan.row.node
+    (reply_of (now new.seat.view).pieces plan.row)
+    → HasTaken old.seat.view w old.number (command_by aim.key x) aim.node
+    (value_at (now old.seat.view).pieces (ref_of aim.word) aim.key)
+prepared_taken old new aim x plan a p room w t =
+    let told = reply_of (now new.seat.view).pieces plan.row in
+    taken_since old new (command_by aim.key x) a p.asked p.gone w aim.node told
+    (value_at (now old.seat.view).pieces (ref_of aim.word) aim.key)
+    (planned_reply old.seat.view new.seat.view
+    (went_grow Prepares old.seat.view new.seat.view p.gone.went) aim.key aim.word x room plan.row
+    p.is_for.from p.is_for.key)
+    (subst (λ n. HasTaken new.seat.view w new.number (command_by aim.key x) n told) p.is_for.node t)

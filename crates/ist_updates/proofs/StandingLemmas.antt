@@ -1,0 +1,112 @@
+-- What stands in the slot of an update, and the reply that it gives. Serves `carry_out` and
+-- `change_slot`.
+use Rattle.std.proofs.Common.{◌≡◌, ℕ, List, Option, Some, refl, sym, ap, ap₂, ◌∙◌, subst, inl, inr, arith}
+use Rattle.ist_core.specs.declared.states.ChangeRow.{ChangeRow}
+use Rattle.ist_core.specs.declared.states.LeafRow.{LeafRow}
+use Rattle.ist_core.specs.Changes.{reply_of, value_in, value_at}
+use Rattle.ist_core.specs.Growing.{AllGrow}
+use Rattle.ist_core.specs.Installing.{FitsKind, a_put, a_pair, a_remove, a_start, a_finish, HasRoomFor, nothing, same_key, IsLeafOf}
+use Rattle.ist_core.specs.declared.lists.Row.{Row}
+use Rattle.ist_core.specs.Logs.{Log, state}
+use Rattle.ist_core.specs.Pieces.{Leaf}
+use Rattle.ist_core.specs.Rebuilding.{IsUpdate}
+use Rattle.ist_core.specs.References.{Ref, Empty, LeafAt, ref_of}
+use Rattle.ist_core.specs.Snapshots.{Snapshot}
+use Rattle.ist_core.specs.Statuses.{start_kind, finish_kind}
+use Rattle.ist_core.proofs.GrowingLemmas.{leaf_there}
+use Rattle.ist_rule.specs.declared.view.View.{View}
+use Rattle.ist_rule.specs.Learning.{now}
+use Rattle.ist_updates.specs.declared.plans.Fresh.TheVariants.{Leaf}
+use Rattle.ist_updates.specs.declared.plans.Way.{Way}
+use Rattle.ist_updates.specs.declared.plans.Way.TheVariants as way
+use Rattle.ist_updates.specs.Changing.{IsWay}
+
+-- ---- what stays
+
+-- what a leaf gives a key stays
+value_stays : (t u : Snapshot) → AllGrow t.pieces u.pieces → (key leaf : ℕ) (row : LeafRow) (ref : Option Ref)
+    → ref ≡ Some (LeafAt leaf) → t.pieces leaf ≡ Some (Leaf row)
+    → value_at t.pieces ref key ≡ value_at u.pieces ref key
+value_stays t u g key leaf row ref is there =
+    subst (λ r. value_at t.pieces r key ≡ value_at u.pieces r key) (sym is)
+    (ap (λ o. value_in o key) (there ∙ sym (leaf_there t.pieces u.pieces g leaf row there)))
+
+-- what stands where an update is to come: nothing, or a leaf
+pub data StandsFor (t : Snapshot) (word : ℕ) : Type 0 where
+  nothing_there : ref_of word ≡ Some Empty → StandsFor t word
+  leaf_there_is : (leaf : ℕ) (row : LeafRow) → ref_of word ≡ Some (LeafAt leaf)
+      → t.pieces leaf ≡ Some (Leaf row) → StandsFor t word
+
+pub room_stands : (t : Snapshot) (key word : ℕ) → HasRoomFor t key word → StandsFor t word
+room_stands t key word (nothing e) = nothing_there e
+room_stands t key word (same_key leaf e l) = leaf_there_is leaf l.row e l.published
+
+pub no_start : {k : ℕ} → k ≡ start_kind → IsUpdate k → ⊥
+no_start e (inl f) = omega arith
+no_start e (inr f) = omega arith
+
+no_finish : {k : ℕ} → k ≡ finish_kind → IsUpdate k → ⊥
+no_finish e (inl f) = omega arith
+no_finish e (inr f) = omega arith
+
+pub fits_stands : (first : Snapshot) (log : Log) (row : ChangeRow) (fresh : List Row)
+    → FitsKind first log row fresh → IsUpdate row.kind → StandsFor (state first log) row.from
+fits_stands first log row fresh (a_put h) update =
+    room_stands (state first log) row.key row.from h.from
+fits_stands first log row fresh (a_pair h) update =
+    leaf_there_is h.other h.stands.row h.from h.stands.published
+fits_stands first log row fresh (a_remove h) update =
+    leaf_there_is h.leaf h.stands.row h.from h.stands.published
+fits_stands first log row fresh (a_start h) update = absurd (no_start h.kind update)
+fits_stands first log row fresh (a_finish h) update = absurd (no_finish h.kind update)
+
+-- so the reply to it stays
+pub reply_stays : (t u : Snapshot) → AllGrow t.pieces u.pieces → (key word : ℕ) → StandsFor t word
+    → value_at t.pieces (ref_of word) key ≡ value_at u.pieces (ref_of word) key
+reply_stays t u g key word (nothing_there e) =
+    subst (λ r. value_at t.pieces r key ≡ value_at u.pieces r key) (sym e) refl
+reply_stays t u g key word (leaf_there_is leaf row e there) =
+    value_stays t u g key leaf row (ref_of word) e there
+
+-- ---- what stands in the slot
+
+-- a leaf of a key stays one
+leaf_on : (t u : Snapshot) → AllGrow t.pieces u.pieces → (base key : ℕ) → IsLeafOf t base key
+    → IsLeafOf u base key
+leaf_on t u g base key l =
+    record {
+      row = l.row;
+      published = leaf_there t.pieces u.pieces g base l.row l.published;
+      key_is = l.key_is;
+    }
+
+room_on : (t u : Snapshot) → AllGrow t.pieces u.pieces → (key word : ℕ) → HasRoomFor t key word
+    → HasRoomFor u key word
+room_on t u g key word (nothing e) = nothing e
+room_on t u g key word (same_key leaf e l) = same_key leaf e (leaf_on t u g leaf key l)
+
+-- what leaves room leaves it still
+pub way_on : (v w : View) → AllGrow (now v).pieces (now w).pieces → (key word : ℕ) (x : Way)
+    → IsWay v key word x → IsWay w key word x
+way_on v w g key word (way.Leaf value) h = room_on (now v) (now w) g key word h
+way_on v w g key word (way.Pair value other other_key) h = (
+  h.0,
+  leaf_on (now v) (now w) g other other_key h.1,
+  h.2,
+)
+way_on v w g key word way.Clear h = (h.0, h.1, leaf_on (now v) (now w) g h.0 key h.2)
+
+-- nothing stands there, or a leaf
+pub way_stands : (v : View) (key word : ℕ) (x : Way) → IsWay v key word x → StandsFor (now v) word
+way_stands v key word (way.Leaf value) h = room_stands (now v) key word h
+way_stands v key word (way.Pair value other other_key) h =
+    leaf_there_is other h.1.row h.0 h.1.published
+way_stands v key word way.Clear h = leaf_there_is h.0 h.2.row h.1 h.2.published
+
+-- the reply to the change is what the word of the slot gives the key
+pub planned_reply : (v w : View) → AllGrow (now v).pieces (now w).pieces → (key word : ℕ) (x : Way)
+    → IsWay v key word x → (row : ChangeRow) → row.from ≡ word → row.key ≡ key
+    → value_at (now v).pieces (ref_of word) key ≡ reply_of (now w).pieces row
+planned_reply v w g key word x h row from key_is =
+    reply_stays (now v) (now w) g key word (way_stands v key word x h)
+    ∙ ap₂ (λ a b. value_at (now w).pieces (ref_of a) b) (sym from) (sym key_is)

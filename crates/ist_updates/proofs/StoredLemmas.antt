@@ -1,0 +1,220 @@
+-- Words that a caller has stored one behind another into a row. Serves `filling`.
+use Rattle.std.proofs.Common.{◌≡◌, ◌≢◌, ℕ, zero, suc, ◌+◌, ◌<◌, ◌≤◌, List, [], ◌∷◌, ◌++◌, nat_lt, true, false, if◌then◌else◌, length, take, get_or, Some, refl, sym, ap, ◌∙◌, subst, ⊎_elim, arith}
+use Rattle.std.proofs.lemmas.List.{take_more, length-take-le}
+use Rattle.ist_core.specs.declared.lists.HeldRow.{HeldRow}
+use Rattle.ist_core.specs.declared.states.ChangeRow.{ChangeRow}
+use Rattle.ist_core.specs.Elements.{Among}
+use Rattle.ist_core.specs.Installing.{new_leaf, pair_row, pair_over}
+use Rattle.ist_core.specs.Pieces.{words_of}
+use Rattle.ist_core.specs.Snapshots.{bases_of}
+use Rattle.ist_core.proofs.PlaceLemmas.{placed, claimed_apart}
+use Rattle.ist_rule.specs.declared.view.OwnWord.{OwnWord}
+use Rattle.ist_rule.specs.declared.view.View.{View}
+use Rattle.ist_rule.specs.Learning.{now, storing}
+use Rattle.ist_rule.specs.Rule.{IsSound, own_at}
+use Rattle.ist_rule.proofs.StoreLemmas.{own_here, own_else}
+use Rattle.ist_rows.specs.declared.callers.Caller.{Caller}
+use Rattle.ist_rows.specs.declared.kinds.Kind.{Kind}
+use Rattle.ist_rows.specs.declared.kinds.Kind.TheVariants.{Leaf, Pair, Change}
+use Rattle.ist_rows.specs.CallerLaws.{AreBasesOf}
+use Rattle.ist_rows.specs.Kinds.{kind_words}
+use Rattle.ist_rows.specs.Rows.{IsCaller, row_of, spares_of}
+use Rattle.ist_rule.specs.Conditions.{StoredAll}
+use Rattle.ist_updates.specs.declared.plans.Fresh.{Fresh}
+use Rattle.ist_updates.specs.declared.plans.Fresh.TheVariants.{Nothing, Leaf as LeafRow, Pair as PairRow}
+use Rattle.ist_updates.specs.Changing.{fresh_rows, kinds_of}
+use Rattle.ist_updates.specs.Filling.{storing_all, with_own, filled_with, StandAt, KeepsOthers}
+use Rattle.ist_updates.proofs.PairLemmas.{sound_now}
+
+-- one word more behind the others
+storing_all-more : (own : List OwnWord) (place : ℕ) (words : List ℕ) (word : ℕ)
+    → storing_all own place (words ++ word ∷ [])
+    ≡ record { place = place + length words; word = word } ∷ storing_all own place words
+storing_all-more own place [] word =
+    ap {B = List OwnWord} (λ p. record { place = p; word = word } ∷ own)
+    (let same : place ≡ place + 0 = omega arith in same)
+storing_all-more own place (x ∷ xs) word =
+    storing_all-more (record { place = place; word = x } ∷ own) (place + 1) xs word
+    ∙ ap {B = List OwnWord}
+    (λ p. record { place = p; word = word }
+    ∷ storing_all (record { place = place; word = x } ∷ own) (place + 1) xs)
+    (let same : place + 1 + length xs ≡ place + length (x ∷ xs) = omega arith in same)
+
+-- a word elsewhere is as it was
+pub stored_else : (own : List OwnWord) (place : ℕ) (words : List ℕ) (other : ℕ)
+    → ((k : ℕ) → k < length words → place + k ≢ other)
+    → own_at (storing_all own place words) other ≡ own_at own other
+stored_else own place [] other out = refl
+stored_else own place (word ∷ words) other out =
+    stored_else (record { place = place; word = word } ∷ own) (place + 1) words other
+    (λ k less e. out (suc k) (omega arith)
+    (let same : place + suc k ≡ place + 1 + k = omega arith in same ∙ e))
+    ∙ own_else own place word other
+    (λ e. out 0 (omega arith) (let same : place + 0 ≡ place = omega arith in same ∙ e))
+
+-- the words that were stored are there
+pub stored_at : (own : List OwnWord) (place : ℕ) (words : List ℕ)
+    → StandAt (storing_all own place words) place words
+stored_at own place [] k less = absurd (omega arith)
+stored_at own place (word ∷ words) zero less =
+    ap Some (sym (stored_else (record { place = place; word = word } ∷ own) (place + 1) words
+    (place + 0) (λ k low e. let far : place + 1 + k ≢ place + 0 = omega arith in far e)
+    ∙ ap (own_at (record { place = place; word = word } ∷ own))
+    (let same : place + 0 ≡ place = omega arith in same)
+    ∙ own_here own place word))
+stored_at own place (word ∷ words) (suc k) less =
+    stored_at (record { place = place; word = word } ∷ own) (place + 1) words k (omega arith)
+    ∙ ap (λ p. Some (own_at (storing_all (record { place = place; word = word } ∷ own) (place + 1)
+    words) p))
+    (let same : place + 1 + k ≡ place + suc k = omega arith in same)
+
+-- a caller that has stored the first words, and then the next, has stored one more
+pub stored_step : (old who new : Caller) (base at i : ℕ) (words : List ℕ) → i < length words
+    → at ≡ i → who ≡ filled_with old base (take i words)
+    → new ≡ record who {
+      seat = record who.seat { view = storing who.seat.view (base + at) (get_or words i 0) };
+    }
+    → new ≡ filled_with old base (take (i + 1) words)
+stored_step old who new base at i words less at_is was is =
+    let x : ℕ = get_or words i 0 in
+    let before : List OwnWord = storing_all old.seat.view.own base (take i words) in
+    let place : base + at ≡ base + length (take i words) =
+    let all : length (take i words) ≡ i = length-take-le i words (omega arith) in omega arith in
+    let owns : record { place = base + at; word = x } ∷ before
+    ≡ storing_all old.seat.view.own base (take (i + 1) words) =
+    ap {B = List OwnWord} (λ p. record { place = p; word = x } ∷ before) place
+    ∙ sym (storing_all-more old.seat.view.own base (take i words) x)
+    ∙ ap (storing_all old.seat.view.own base) (sym (take_more words i 0 less)) in
+    is
+    ∙ ap {B = Caller} (λ (c : Caller). record c {
+      seat = record c.seat { view = storing c.seat.view (base + at) x };
+    }) was
+    ∙ ap {B = Caller} (with_own old) owns
+
+-- ---- rows
+
+-- rows of kinds of other sizes lie at other bases
+pub kinds_apart : (who : Caller) → IsSound who.seat.view → IsCaller who → (k j : Kind) (a b : ℕ)
+    → row_of k (spares_of who) ≡ Some a → row_of j (spares_of who) ≡ Some b
+    → kind_words k ≢ kind_words j → a ≢ b
+kinds_apart who s c k j a b first second differ same =
+    differ (ap (λ (h : HeldRow). h.size) ((sound_now who.seat.view s).once
+    record { caller = who.number; base = a; size = kind_words k }
+    record { caller = who.number; base = b; size = kind_words j } (c.rows k a first)
+    (c.rows j b second) same))
+
+-- what the filling of a row comes to
+pub record HasFilledRow (old new : Caller) (base : ℕ) (words : List ℕ) : Type 0 where
+  pub same : new ≡ with_own old new.seat.view.own
+  pub stands : StandAt new.seat.view.own base words
+  pub others : KeepsOthers (λ at. at ≡ base) old new
+
+pub row_filled : (old new : Caller) (kind : Kind) (base : ℕ) (words : List ℕ) → IsSound old.seat.view
+    → IsCaller old → row_of kind (spares_of old) ≡ Some base → length words ≤ kind_words kind
+    → new ≡ filled_with old base words → HasFilledRow old new base words
+row_filled old new kind base words s c held within is =
+    let own : new.seat.view.own ≡ storing_all old.seat.view.own base words =
+    ap (λ (x : Caller). x.seat.view.own) is in
+    record {
+      same = is ∙ ap {B = Caller} (with_own old) (sym own);
+      stands = subst (λ o. StandAt o base words) (sym own)
+          (stored_at old.seat.view.own base words);
+      others = λ h mine i out k less.
+          ap (λ o. own_at o (h.base + k)) own
+          ∙ stored_else old.seat.view.own base words (h.base + k) (away h i out k less);
+    }
+  where
+    v : View
+    v = old.seat.view
+
+    away : (h : HeldRow) → Among h (now v).held → ¬ (h.base ≡ base) → (k : ℕ) → k < h.size → (j : ℕ)
+        → j < length words → base + j ≢ h.base + k
+    away h i out k less j low =
+        let set = placed v.start v.words v.log s.lawful.enabled in
+        ⊎_elim (λ e. absurd (out (sym e.0)))
+        (λ a. ⊎_elim (λ (x : base + kind_words kind ≤ h.base). (let g : base + j ≢ h.base + k = omega arith in g))
+        (λ (x : h.base + h.size ≤ base). (let g : base + j ≢ h.base + k = omega arith in g)) a.1)
+        (claimed_apart v.start v.words v.log base (kind_words kind) h.base h.size s.lawful.enabled
+        (set.held record { caller = old.number; base = base; size = kind_words kind }
+        (c.rows kind base held))
+        (set.held h i))
+
+-- words of another row stand still
+pub stand_kept : (old new : Caller) (base : ℕ) → KeepsOthers (λ at. at ≡ base) old new
+    → (h : HeldRow) → h.caller ≡ old.number → Among h (now old.seat.view).held → h.base ≢ base
+    → (words : List ℕ) → length words ≤ h.size → StandAt old.seat.view.own h.base words
+    → StandAt new.seat.view.own h.base words
+stand_kept old new base kept h mine i out words low stand k less =
+    let more : k < h.size = omega arith in
+    stand k less ∙ ap Some (sym (kept h mine i out k more))
+
+-- what a row of a kind is where other words are its caller's own
+held_as : (old mid : Caller) (kind : Kind) (base : ℕ) → mid ≡ with_own old mid.seat.view.own
+    → row_of kind (spares_of old) ≡ Some base → row_of kind (spares_of mid) ≡ Some base
+held_as old mid kind base same e = ap (λ (x : Caller). row_of kind (spares_of x)) same ∙ e
+
+-- a pair row has its seven words
+pair_length : (key leaf other_key other : ℕ)
+    → length (words_of (pair_row key leaf other_key other)) ≤ 7
+pair_length key leaf other_key other =
+    elim (nat_lt other_key key) as (λ v.
+    length (words_of (if v then pair_over key other leaf else pair_over other_key leaf other)) ≤ 7) [
+      | true ↦ omega arith
+      | false ↦ omega arith
+    ]
+
+module _ (old mid new : Caller) (s : IsSound old.seat.view) (c : IsCaller old) (d : IsCaller mid)
+    (same : mid ≡ with_own old mid.seat.view.own) where
+  -- the words of a row of another kind stand still
+  other_stands : (kind that : Kind) (base other : ℕ) → row_of kind (spares_of old) ≡ Some base
+      → row_of that (spares_of old) ≡ Some other → kind_words that ≢ kind_words kind
+      → KeepsOthers (λ at. at ≡ base) mid new → (words : List ℕ) → length words ≤ kind_words that
+      → StandAt mid.seat.view.own other words → StandAt new.seat.view.own other words
+  other_stands kind that base other first second differ kept words low stands =
+      stand_kept mid new base kept
+      record { caller = mid.number; base = other; size = kind_words that } refl
+      (d.rows that other (held_as old mid that other same second))
+      (kinds_apart old s c that kind other base second first differ) words low stands
+
+  -- the words of a pair row and its leaf stand
+  pub pair_stored : (row : ChangeRow) (base leaf other other_key : ℕ) → old.pair ≡ Some base
+      → old.leaf ≡ Some leaf → KeepsOthers (λ at. at ≡ base) mid new
+      → StandAt mid.seat.view.own leaf (words_of (new_leaf row))
+      → StandAt new.seat.view.own base (words_of (pair_row row.key leaf other_key other))
+      → StoredAll new.seat.view (fresh_rows row (PairRow base leaf other other_key))
+  pair_stored row base leaf other other_key has_pair has_leaf kept leaf_stands pair_stands = (
+    pair_stands,
+    (
+      other_stands Pair Leaf base leaf has_pair has_leaf (omega arith) kept (words_of (new_leaf row))
+          (omega arith) leaf_stands,
+      tt,
+    ),
+  )
+
+  -- the fresh rows stand still while the change's row is filled
+  pub fresh_kept : (row : ChangeRow) (base : ℕ) (fresh : Fresh) → old.change ≡ Some base
+      → AreBasesOf (kinds_of fresh) (spares_of old) (bases_of (fresh_rows row fresh))
+      → KeepsOthers (λ at. at ≡ base) mid new → StoredAll mid.seat.view (fresh_rows row fresh)
+      → StoredAll new.seat.view (fresh_rows row fresh)
+  fresh_kept row base Nothing has rows kept stored = tt
+  fresh_kept row base (LeafRow leaf) has rows kept stored = (
+    other_stands Change Leaf base leaf has rows.0 (omega arith) kept (words_of (new_leaf row))
+        (omega arith) stored.0,
+    tt,
+  )
+  fresh_kept row base (PairRow pair leaf other other_key) has rows kept stored = (
+    other_stands Change Pair base pair has rows.0 (omega arith) kept
+        (words_of (pair_row row.key leaf other_key other))
+        (pair_length row.key leaf other_key other) stored.0,
+    (
+      other_stands Change Leaf base leaf has rows.1.0 (omega arith) kept (words_of (new_leaf row))
+          (omega arith) stored.1.0,
+      tt,
+    ),
+  )
+
+-- other own words twice
+pub own_twice : (old mid new : Caller) → mid ≡ with_own old mid.seat.view.own
+    → new ≡ with_own mid new.seat.view.own → new ≡ with_own old new.seat.view.own
+own_twice old mid new a b =
+    b ∙ ap {B = Caller} (λ (c : Caller). with_own c new.seat.view.own) a

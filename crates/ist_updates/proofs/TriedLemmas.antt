@@ -1,0 +1,262 @@
+-- What a try tells: that nothing of the key was found, or that it was, and why the update is refused.
+-- Serves `try_empty`, `put_at` and `remove_at`.
+use Rattle.std.proofs.Common.{◌≡◌, ◌≢◌, ◌⊎◌, ℕ, ◌+◌, ◌≤◌, Bool, true, false, length, Result, Ok, Err, IfOk, IfErr, Option, Some, None, refl, sym, ◌∙◌, subst, ⊎_elim}
+use Rattle.std.proofs.Math.Nat.{le_trans}
+use Rattle.ist_core.specs.declared.loads.Load.{Load}
+use Rattle.ist_core.specs.declared.ports.Full.{Full}
+use Rattle.ist_core.specs.declared.states.LeafRow.{LeafRow}
+use Rattle.ist_core.specs.Logs.{GoesOn}
+use Rattle.ist_core.specs.Pieces.{Leaf}
+use Rattle.ist_core.specs.References.{Empty, LeafAt, ref_of}
+use Rattle.ist_core.specs.RowLayout.{leaf_words, pair_words, change_words, next_place}
+use Rattle.ist_core.specs.Shown.{shown_row}
+use Rattle.ist_core.specs.StartLayout.{start}
+use Rattle.ist_core.proofs.ShownLemmas.{one_word}
+use Rattle.ist_rule.specs.declared.view.View.{View}
+use Rattle.ist_rule.specs.Learning.{now, GoesOnTo}
+use Rattle.ist_rule.proofs.GoingOnLemmas.{goes_on_same}
+use Rattle.ist_rule.proofs.WentOnLemmas.{later_by-goes_on, goes_on_went, went_more, went_lawful, looked_went}
+use Rattle.ist_histories.specs.Loads.{IsLoad, log_at}
+use Rattle.ist_histories.specs.Searching.{Searched, of_nothing, of_other, of_key}
+use Rattle.ist_histories.proofs.ChangeLemmas.{changes_rise}
+use Rattle.ist_histories.proofs.LoadOnLemmas.{at_prefix, at_rises, end_on}
+use Rattle.ist_histories.proofs.PositionLemmas.{search_position}
+use Rattle.ist_find.specs.Searches.{SeesLeaf, Names}
+use Rattle.ist_find.proofs.ReadLemmas.{leaf_on}
+use Rattle.ist_find.specs.Reads.{HasLooked, TellsValue}
+use Rattle.ist_find.proofs.LoadLemmas.{goes_length, shown_load}
+use Rattle.ist_find.proofs.LookLemmas.{word_looked}
+use Rattle.ist_find.proofs.SearchLemmas.{has_found}
+use Rattle.ist_rebuild.specs.Going.{IsShortOf}
+use Rattle.ist_updates.specs.declared.plans.Aim.{Aim}
+use Rattle.ist_rule.specs.Faces.{SeatFace}
+use Rattle.ist_rows.specs.declared.callers.Caller.{Caller}
+use Rattle.ist_updates.specs.declared.updates.Tried.{Tried}
+use Rattle.ist_updates.specs.declared.updates.Tried.TheVariants.{Took, Nothing, Again}
+use Rattle.ist_updates.specs.Answering.{IsTried, IsTryRefused}
+use Rattle.ist_updates.specs.Asking.{command_for, IsAsked, Updates}
+use Rattle.ist_updates.specs.Changing.{WasAtSlot, Prepares}
+use Rattle.ist_updates.specs.Refusals.{IsUpdateRefused, for_leaf, for_pair, for_put, for_remove}
+use Rattle.ist_updates.specs.Trying.{BeganSince, HasTaken, HasFoundNone}
+use Rattle.ist_updates.proofs.AskedLemmas.{asked_gone}
+use Rattle.ist_updates.proofs.GoneLemmas.{short_behind, short_all, loads_gone}
+use Rattle.ist_updates.proofs.StepLemmas.{prepares_none, prepares_updates}
+use Rattle.ist_updates.proofs.SinceLemmas.{taken_since}
+
+-- ---- what a leaf tells
+
+module _ (v : View) (aim : Aim) (at : WasAtSlot v aim) where
+  abbrev b : View
+  b = at.before
+
+  -- nothing in the slot gives the key no value
+  pub found_nothing : ref_of aim.word ≡ Some Empty → HasFoundNone v aim.key
+  found_nothing is =
+      let looked = word_looked b b (goes_on_same b at.sound) aim.key aim.node aim.index aim.word Empty
+      at.at.came.0 at.at.came.1 at.at.child at.at.holds is (λ base e. cc) (λ base e. cc) in
+      let tells : TellsValue b v aim.key Empty None =
+      record { seen = at.seen; has = λ least low. of_nothing } in
+      record {
+        node = aim.node;
+        searched = (has_found b v aim.key aim.node aim.index at.at.came.0 Empty None looked
+            tells).searched;
+      }
+
+  module _ (base : ℕ) (row : LeafRow) (is : ref_of aim.word ≡ Some (LeafAt base))
+      (there : (now v).pieces base ≡ Some (Leaf row)) where
+    looked : HasLooked b aim.key aim.node aim.index at.at.came.0 (LeafAt base)
+    looked =
+        word_looked b b (goes_on_same b at.sound) aim.key aim.node aim.index aim.word (LeafAt base)
+        at.at.came.0 at.at.came.1 at.at.child at.at.holds is (λ base e. cc) (λ base e. cc)
+
+    -- the words of the leaf may be loaded
+    abbrev key_load : Load
+    key_load = record { place = base + 0; word = row.key; length = length v.log }
+
+    abbrev value_load : Load
+    value_load = record { place = base + 1; word = row.value; length = length v.log }
+
+    key_loaded : (least : ℕ) → least ≤ length b.log
+        → IsLoad v.start v.words v.log (base + 0) least key_load
+    key_loaded least low =
+        shown_load v.start v.words v.log (base + 0) row.key least
+        (λ x shown. one_word v.start v.words v.log at.seen.sound.lawful.enabled (base + 0) row.key x
+        (shown_row base (Leaf row) 0 there refl) shown)
+        (le_trans low (goes_length b v at.seen))
+
+    value_loaded : (least : ℕ) → least ≤ length b.log
+        → IsLoad v.start v.words v.log (base + 1) least value_load
+    value_loaded least low =
+        shown_load v.start v.words v.log (base + 1) row.value least
+        (λ x shown. one_word v.start v.words v.log at.seen.sound.lawful.enabled (base + 1) row.value x
+        (shown_row base (Leaf row) 1 there refl) shown)
+        (le_trans low (goes_length b v at.seen))
+
+    -- so a leaf of another key gives none
+    pub found_other : row.key ≢ aim.key → HasFoundNone v aim.key
+    found_other differs =
+        let tells : TellsValue b v aim.key (LeafAt base) None =
+        record {
+          seen = at.seen;
+          has = λ least low. of_other key_load (key_loaded least low) differs;
+        } in
+        record {
+          node = aim.node;
+          searched = (has_found b v aim.key aim.node aim.index at.at.came.0 (LeafAt base) None looked
+              tells).searched;
+        }
+
+    -- and a leaf of the key its value
+    pub found_key : row.key ≡ aim.key
+        → Searched v.start v.words v.log aim.key v.loads.since aim.node (Some row.value)
+    found_key same =
+        let tells : TellsValue b v aim.key (LeafAt base) (Some row.value) =
+        record {
+          seen = at.seen;
+          has = λ least low. of_key key_load value_load (key_loaded least low) same
+              (value_loaded least low);
+        } in
+        (has_found b v aim.key aim.node aim.index at.at.came.0 (LeafAt base) (Some row.value) looked
+        tells).searched
+
+-- ---- for want of words
+
+module _ (first v w : View) (words : ℕ) (full : Full) (began : BeganSince first v)
+    (short : IsShortOf Prepares v words full w) where
+  short_since : IsShortOf Updates first words full w
+  short_since =
+      short_behind Updates first v words full w began.went
+      (short_all Prepares Updates prepares_updates v words full w short)
+
+  -- a put is refused
+  pub put_refused : (key value : ℕ) → (full.asked ≡ leaf_words) ⊎ ((full.asked ≡ pair_words)
+      ⊎ (full.asked ≡ change_words)) → IsUpdateRefused first key (Some value) words full w
+  put_refused key value asked =
+      record {
+        short = short_since;
+        asked = ⊎_elim (λ e. for_leaf e) (λ k. ⊎_elim (λ e. for_pair e) (λ e. for_put e) k) asked;
+      }
+
+  -- so is a remove of a key that was found
+  pub remove_refused : (key node found : ℕ) → full.asked ≡ change_words
+      → Searched v.start v.words v.log key v.loads.since node (Some found)
+      → IsUpdateRefused first key None words full w
+  remove_refused key node found asked searched =
+      let went = went_more Updates first short_since.before w short_since.seen
+      (looked_went Updates short_since.before next_place full.next w short_since.looked) in
+      let lawful = went_lawful Updates first w went in
+      let last = went_more Prepares v short.before w short.seen
+      (looked_went Prepares short.before next_place full.next w short.looked) in
+      let on = later_by-goes_on last.later in
+      let here = subst (λ (y : View). Searched y.start y.words v.log key v.loads.since node
+      (Some found)) began.went.same searched in
+      let there = end_on first.start first.words v.log w.log on key v.loads.since node (Some found)
+      here in
+      let position = search_position first.start first.words lawful.opens w.log lawful.enabled key
+      v.loads.since node (Some found) there in
+      let since : GoesOn first.log (log_at w.log v.loads.since) =
+      subst (λ l. GoesOn l (log_at w.log v.loads.since))
+      (at_prefix first.log w.log (later_by-goes_on went.later))
+      (at_rises w.log (length first.log) v.loads.since began.since) in
+      record {
+        short = short_since;
+        asked = for_remove found record {
+          position = position.position;
+          from = le_trans (changes_rise (start first.start first.words) first.log
+              (log_at w.log v.loads.since) since) position.from;
+          to = position.to;
+          value_is = position.value_is;
+        } asked;
+      }
+
+-- ---- answers
+
+-- what was answered of a change that was decided so
+pub answered : (old new : Caller) (key : ℕ) (value : Option ℕ) (node : ℕ) (told reply : Option ℕ)
+    (taken : Bool) (tried : Tried) → (taken ≡ true → tried ≡ Took reply)
+    → (taken ≡ false → tried ≡ Again) → told ≡ reply
+    → (taken ≡ true → HasTaken old.seat.view new.seat.view old.number (command_for key value) node told)
+    → (taken ≡ false → IsAsked new (command_for key value)) → IsTried old key value node new tried
+answered old new key value node told reply true tried took again same got lost =
+    subst (IsTried old key value node new) (sym (took refl))
+    (subst (HasTaken old.seat.view new.seat.view old.number (command_for key value) node) same
+    (got refl))
+answered old new key value node told reply false tried took again same got lost =
+    subst (IsTried old key value node new) (sym (again refl)) (lost refl)
+
+-- the leaf that the word of the slot names is published
+pub slot_leaf : (v : View) (aim : Aim) → WasAtSlot v aim → (base : ℕ)
+    → ref_of aim.word ≡ Some (LeafAt base) → SeesLeaf v base
+slot_leaf v aim at base is = leaf_on at.before v at.seen base (subst (Names at.before) is at.at.names)
+
+module _ (old : Caller) (seat : SeatFace) (key : ℕ) (value : Option ℕ)
+    (a : IsAsked old (command_for key value)) (g : GoesOnTo old.seat.view seat.view) where
+  abbrev mid : Caller
+  mid = record old { seat = seat }
+
+  -- loads leave the caller asked
+  pub loads_asked : IsAsked mid (command_for key value)
+  loads_asked =
+      asked_gone Prepares old mid (command_for key value) a
+      (loads_gone Prepares old seat a.caller a.refused g) prepares_none
+
+  -- what came of a try behind loads came of one that made them first
+  pub tried_behind : (node : ℕ) (new : Caller) (tried : Tried) → IsTried mid key value node new tried
+      → IsTried old key value node new tried
+  tried_behind node new (Took reply) t =
+      taken_since old mid (command_for key value) a loads_asked
+      (loads_gone Prepares old seat a.caller a.refused g) new.seat.view node reply reply refl t
+  tried_behind node new Nothing t = (t.0, t.1, t.2, t.3 ∙ g.since)
+  tried_behind node new Again t = t
+
+  pub refused_loads : (words : ℕ) (full : Full) (new : Caller)
+      → IsTryRefused mid key value words full new → IsTryRefused old key value words full new
+  refused_loads words full new r =
+      record {
+        still = r.still;
+        cause = λ first began. r.cause first record {
+          went = went_more Updates first old.seat.view seat.view began.went
+              (goes_on_went Updates old.seat.view seat.view g);
+          since = subst (λ n. length first.log ≤ n) (sym g.since) began.since;
+        };
+      }
+
+  pub ok_behind : (node : ℕ) (new : Caller) (r : Result Tried Full)
+      → IfOk r (λ t. IsTried mid key value node new t) → IfOk r (λ t. IsTried old key value node new t)
+  ok_behind node new (Ok t) h = tried_behind node new t h
+  ok_behind node new (Err full) h = tt
+
+  pub err_behind : (words : ℕ) (new : Caller) (r : Result Tried Full)
+      → IfErr r (λ full. IsTryRefused mid key value words full new)
+      → IfErr r (λ full. IsTryRefused old key value words full new)
+  err_behind words new (Ok t) h = tt
+  err_behind words new (Err full) h = refused_loads words full new h
+
+-- ---- what an answer tells
+
+-- the clauses on each answer follow from what came of the try
+module _ (old new : Caller) (key : ℕ) (value : Option ℕ) (node : ℕ) (r : Result Tried Full)
+    (h : IfOk r (λ t. IsTried old key value node new t)) where
+  pub told_took : (reply : Option ℕ) → r ≡ Ok (Took reply)
+      → HasTaken old.seat.view new.seat.view old.number (command_for key value) node reply
+  told_took reply e = subst (λ x. IfOk x (λ t. IsTried old key value node new t)) e h
+
+  pub told_nothing : r ≡ Ok Nothing → (value ≡ None) × HasFoundNone new.seat.view key
+      × IsAsked new (command_for key value) × (new.seat.view.loads.since ≡ old.seat.view.loads.since)
+  told_nothing e = subst (λ x. IfOk x (λ t. IsTried old key value node new t)) e h
+
+  pub told_again : r ≡ Ok Again → IsAsked new (command_for key value)
+  told_again e = subst (λ x. IfOk x (λ t. IsTried old key value node new t)) e h
+
+pub told_full : (old new : Caller) (key : ℕ) (value : Option ℕ) (words : ℕ) (r : Result Tried Full)
+    → IfErr r (λ full. IsTryRefused old key value words full new)
+    → IfErr r (λ full. (first : View) → BeganSince first old.seat.view
+    → IsUpdateRefused first key value words full new.seat.view)
+told_full old new key value words (Ok t) h = tt
+told_full old new key value words (Err full) h = h.cause
+
+pub told_still : (old new : Caller) (key : ℕ) (value : Option ℕ) (words : ℕ) (r : Result Tried Full)
+    → IfErr r (λ full. IsTryRefused old key value words full new)
+    → IfErr r (λ full. IsAsked new (command_for key value))
+told_still old new key value words (Ok t) h = tt
+told_still old new key value words (Err full) h = h.still

@@ -1,0 +1,194 @@
+-- A walk by one step down, the walk from there, and a Count on the way back. Serves `descend`.
+use Rattle.std.proofs.Common.{◌≡◌, ℕ, ◌≤◌, List, [], ◌∷◌, ◌++◌, length, Option, Some, Result, Ok, Err, sym, ap, ◌∙◌, subst}
+use Rattle.ist_core.specs.declared.commands.Command.{Command}
+use Rattle.ist_core.specs.declared.events.Event.{Event}
+use Rattle.ist_core.specs.declared.pairs.Pair.{Pair}
+use Rattle.ist_core.specs.declared.ports.Full.{Full}
+use Rattle.ist_core.specs.Deciding.{CanCount}
+use Rattle.ist_core.specs.Links.{Linked, WasLinked}
+use Rattle.ist_core.specs.Logs.{Log}
+use Rattle.ist_core.specs.References.{InnerAt, ref_of}
+use Rattle.ist_core.specs.Slots.{SlotHolds}
+use Rattle.ist_core.specs.StartLayout.{start}
+use Rattle.ist_core.proofs.ReferenceLemmas.{word_of-ref_of}
+use Rattle.ist_rule.specs.declared.view.View.{View}
+use Rattle.ist_rule.specs.Faces.{SeatFace}
+use Rattle.ist_rule.specs.Going.{WentOn}
+use Rattle.ist_rule.specs.Learning.{now, GoesOnTo}
+use Rattle.ist_rule.proofs.WentOnLemmas.{went_same, went_more, goes_on_went, later_by-goes_on}
+use Rattle.ist_histories.proofs.PositionLemmas.{node_met}
+use Rattle.ist_stability.proofs.LaterLemmas.{ever_later}
+use Rattle.ist_walks.proofs.WalkLemmas.{meeting_comes}
+use Rattle.ist_rows.specs.declared.callers.Caller.{Caller}
+use Rattle.ist_find.specs.Searches.{HasCome, Came}
+use Rattle.ist_updates.specs.declared.updates.Applied.{Applied}
+use Rattle.ist_updates.specs.declared.walking.Walked.{Walked}
+use Rattle.ist_updates.specs.declared.walking.Walked.TheVariants.{Took, Nothing, Again}
+use Rattle.ist_updates.specs.Asking.{Updates, command_for, IsAsked}
+use Rattle.ist_updates.specs.Refusals.{IsUpdateRefused}
+use Rattle.ist_updates.specs.Trying.{Tries, BeganSince}
+use Rattle.ist_updates.specs.Walking.{HasStood, HasCounted, HasTriedSince, IsAskedStill, IsNotThere, HasWalked}
+use Rattle.ist_updates.proofs.NextRowLemmas.{may_count_next}
+use Rattle.ist_updates.proofs.TriedWalkLemmas.{went_table}
+
+-- a seat that went down by a load
+module _ (old : Caller) (seat : SeatFace) (g : GoesOnTo old.seat.view seat.view) where
+  abbrev v : View
+  v = old.seat.view
+
+  abbrev w : View
+  w = seat.view
+
+  abbrev there : Caller
+  there = record old { seat = seat }
+
+  -- what is so of its table was so of that before
+  back : (Q : List Pair → ℕ → Type 0) → Q w.start w.words → Q v.start v.words
+  back Q h =
+      subst (λ p. Q p v.words) (ap (λ x. x.start) g.same)
+      (subst (Q w.start) (ap (λ x. x.words) g.same) h)
+
+  -- what it came to from there, it came to from before
+  pub went_before : (P : Event → Type 0) (u : View) → WentOn P w u → WentOn P v u
+  went_before P u h = went_more P v w u (goes_on_went P v w g) h
+
+  pub still_before : (new : Caller) (command : Command) → IsAskedStill there new command
+      → IsAskedStill old new command
+  still_before new command h =
+      record { went = went_before Tries new.seat.view h.went; asked = h.asked }
+
+  pub not_there_before : (u : View) (key : ℕ) (value : Option ℕ) → IsNotThere w u key value
+      → IsNotThere v u key value
+  not_there_before u key value h =
+      record { remove = h.remove; found = h.found; since = h.since ∙ g.since }
+
+  pub refused_before : (R : View → Type 0) → ((first : View) → BeganSince first w → R first)
+      → (first : View) → BeganSince first v → R first
+  refused_before R h first b =
+      h first record {
+        went = went_more Updates first v w b.went (goes_on_went Updates v w g);
+        since = subst (λ n. length first.log ≤ n) (sym g.since) b.since;
+      }
+
+  tried_there : (first : View) → HasTriedSince first v old.number → HasTriedSince first w old.number
+  tried_there first h =
+      record {
+        went = went_more Tries first v w h.went (goes_on_went Tries v w g);
+        none_yet = h.none_yet;
+      }
+
+  -- a walk that ends at this node
+  pub walked_here : (key : ℕ) (value : Option ℕ) (node words : ℕ) (result : Result Walked Full)
+      (new : Caller) → ((rows : List ℕ) → HasCome v key node rows → HasCome w key node rows)
+      → HasWalked there key value node words result new
+      → HasWalked old key value node words result new
+  walked_here key value node words (Ok (Took done)) new stays h =
+      λ first rows since come.
+      back (λ p n. HasCounted p n first.log new.seat.view.log old.number (command_for key value) rows
+      done) (h first rows (tried_there first since) (stays rows come))
+  walked_here key value node words (Ok Nothing) new stays h = (
+    still_before new (command_for key value) h.0,
+    not_there_before new.seat.view key value h.1,
+  )
+  walked_here key value node words (Ok Again) new stays h =
+      still_before new (command_for key value) h
+  walked_here key value node words (Err full) new stays h = (
+    still_before new (command_for key value) h.0,
+    refused_before (λ first. IsUpdateRefused first key value words full new.seat.view) h.1,
+  )
+
+  -- a walk that took no effect from a row below took none from this node
+  pub refused_below : (key : ℕ) (value : Option ℕ) (node row words : ℕ) (full : Full) (new : Caller)
+      → HasWalked there key value row words (Err full) new
+      → HasWalked old key value node words (Err full) new
+  refused_below key value node row words full new h = (
+    still_before new (command_for key value) h.0,
+    refused_before (λ first. IsUpdateRefused first key value words full new.seat.view) h.1,
+  )
+
+  pub nothing_below : (key : ℕ) (value : Option ℕ) (node row words : ℕ) (new : Caller)
+      → HasWalked there key value row words (Ok Nothing) new
+      → HasWalked old key value node words (Ok Nothing) new
+  nothing_below key value node row words new h = (
+    still_before new (command_for key value) h.0,
+    not_there_before new.seat.view key value h.1,
+  )
+
+  pub again_below : (key : ℕ) (value : Option ℕ) (node row words : ℕ) (new : Caller)
+      → HasWalked there key value row words (Ok Again) new
+      → HasWalked old key value node words (Ok Again) new
+  again_below key value node row words new h = still_before new (command_for key value) h
+
+  -- a walk that went on from a row below
+  module _ (key : ℕ) (value : Option ℕ) (node index word row : ℕ)
+      (a : IsAsked there (command_for key value)) (came : Came v key node)
+      (down : (rows : List ℕ) → HasCome v key node rows → HasCome w key row (rows ++ row ∷ []))
+      (stays : (rows : List ℕ) → HasCome v key node rows → HasCome w key node rows)
+      (holds : SlotHolds (now w) node index word) (is : ref_of word ≡ Some (InnerAt row)) where
+    module _ (words : ℕ) (below : Applied) (second : Caller)
+        (number_is : second.number ≡ old.number) (went : WentOn Updates w second.seat.view)
+        (h : HasWalked there key value row words (Ok (Took below)) second) where
+      abbrev u : View
+      u = second.seat.view
+
+      -- what was counted below, by the table and the number of the caller behind it
+      counted_there : (first : View) (rows : List ℕ) → HasTriedSince first w old.number
+          → HasCome w key row rows
+          → HasCounted u.start u.words first.log u.log second.number (command_for key value) rows below
+      counted_there first rows since come =
+          subst (λ n. HasCounted u.start u.words first.log u.log n (command_for key value) rows below)
+          (sym number_is)
+          (went_table Updates w u went (λ p n. HasCounted p n first.log u.log old.number
+          (command_for key value) rows below) (h first rows since come))
+
+      -- the row may be counted at
+      pub may_count_there : CanCount (start u.start u.words) u.log second.number row
+      may_count_there =
+          let lawful = went.sound.lawful in
+          may_count_next u.start u.words lawful.opens w.log u.log lawful.enabled second.number
+          (command_for key value) came.0 row below
+          (counted_there w (came.0 ++ row ∷ [])
+          record { went = went_same Tries w g.sound; none_yet = a.none_yet } (down came.0 came.1))
+
+      -- it stood in the slot of the node
+      pub stood_there : HasStood u.start u.words u.log node index row
+      stood_there =
+          went_table Updates w u went (λ p n. HasStood p n u.log node index row)
+          record {
+            prefix = w.log;
+            goes_on = later_by-goes_on went.later;
+            stood = subst (SlotHolds (now w) node index)
+                (sym (word_of-ref_of word (InnerAt row) is).same_word) holds;
+            linked = ever_later (start w.start w.words) (λ t. Linked t node)
+                (later_by-goes_on went.later) linked;
+          }
+        where
+          linked : WasLinked (start w.start w.words) w.log node
+          linked =
+              let here = stays came.0 came.1 in
+              let lawful = g.sound.lawful in
+              (node_met w.start w.words lawful.opens w.log lawful.enabled key w.loads.since here.last
+              node (meeting_comes w.start w.words w.log key w.loads.since here.last node came.0
+              here.comes)).linked
+
+      -- and with the Count there the update was counted at one row more
+      pub counted_here : (done : Applied) (last : Log)
+          → ((earlier : Log) (command : Command) (rows : List ℕ)
+          → HasCounted u.start u.words earlier u.log second.number command (rows ++ row ∷ []) below
+          → HasCounted u.start u.words earlier last second.number command rows done)
+          → (first : View) (rows : List ℕ) → HasTriedSince first v old.number
+          → HasCome v key node rows
+          → HasCounted v.start v.words first.log last old.number (command_for key value) rows done
+      counted_here done last more first rows since come =
+          let x = more first.log (command_for key value) rows
+          (counted_there first (rows ++ row ∷ []) (tried_there first since) (down rows come)) in
+          back (λ p n. HasCounted p n first.log last old.number (command_for key value) rows done)
+          (back_there (λ p n. HasCounted p n first.log last old.number (command_for key value) rows
+          done)
+          (subst (λ n. HasCounted u.start u.words first.log last n (command_for key value) rows done)
+          number_is x))
+        where
+          back_there : (Q : List Pair → ℕ → Type 0) → Q u.start u.words → Q w.start w.words
+          back_there Q y =
+              subst (λ p. Q p w.words) (ap (λ x. x.start) went.same)
+              (subst (Q u.start) (ap (λ x. x.words) went.same) y)

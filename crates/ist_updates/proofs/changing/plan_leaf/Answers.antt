@@ -1,0 +1,46 @@
+use Rattle.std.proofs.Common.{ap, ◌∙◌, inr, rules, arith}
+use Rattle.ist_rows.specs.declared.kinds.Kind.TheVariants as kind
+use Rattle.ist_rows.specs.Rows.{Spares}
+use Rattle.ist_updates.specs.Changing.{Prepares}
+use Rattle.ist_updates.specs.declared.plans.Way.TheVariants as way
+use Rattle.ist_updates.proofs.GoneLemmas.{gone_more, way_refused}
+use Rattle.ist_updates.proofs.PairLemmas.{row_good}
+use Rattle.ist_updates.proofs.PlanLemmas.{leaf_planned}
+use Rattle.ist_updates.proofs.changing.plan_leaf.Goals as goal
+
+-- the change's row was refused
+pub returns-in_err-base-clause-gone : goal.returns-in_err-base-clause-gone
+returns-in_err-base-clause-gone g c =
+    gone_more Prepares _ _ _ c.in_ok-leaf.ensures.gone c.in_err-base.ensures.gone
+
+pub returns-in_err-base-clause-full : goal.returns-in_err-base-clause-full
+returns-in_err-base-clause-full g c =
+    let full = way_refused _ _ _ _ _ (way.Leaf c.args.value) c.in_ok-leaf.ensures.gone.went
+    c.in_err-base.ensures.full (λ e. inr (inr e)) in
+    search rules
+
+-- the leaf lies at a good base
+pub to_word-to-requires : goal.to_word-to-requires
+to_word-to-requires g c =
+    let gone = c.in_ok-leaf.ensures.gone in
+    record {
+      good = row_good _ gone.went.sound gone.caller kind.Leaf c.in_ok-leaf.leaf
+          c.in_ok-leaf.ensures.held (omega arith);
+    }
+
+pub returns-clause-gone : goal.returns-clause-gone
+returns-clause-gone g c =
+    gone_more Prepares _ _ _ c.in_ok-leaf.ensures.gone c.in_ok-base.ensures.gone
+
+-- the plan is one for the slot
+pub returns-clause-planned : goal.returns-clause-planned
+returns-clause-planned g c =
+    let both = gone_more Prepares _ _ _ c.in_ok-leaf.ensures.gone c.in_ok-base.ensures.gone in
+    let gone = c.in_ok-leaf.ensures.gone in
+    leaf_planned Prepares c.args.who.now c.take-2.new.who both.went c.args.aim c.requires.at_slot
+    c.in_ok-base.base c.in_ok-base.ensures.held c.args.value c.in_ok-leaf.leaf c.to_word-to.result
+    c.requires.room
+    (ap (λ (s : Spares). s.leaf) c.in_ok-base.ensures.rows ∙ c.in_ok-leaf.ensures.held)
+    (row_good _ gone.went.sound gone.caller kind.Leaf c.in_ok-leaf.leaf
+    c.in_ok-leaf.ensures.held (omega arith))
+    c.to_word-to.ensures.value _ c.change_for-row.ensures.value

@@ -1,0 +1,23 @@
+use Rattle.ist_rule.specs.Faces.{word_count_of}
+use Rattle.ist_updates.proofs.TakeLemmas.{taken}
+use Rattle.ist_updates.proofs.changing.take.Goals as goal
+
+-- the caller has gone so, with the row or refused
+pub returns : goal.returns
+returns g c =
+    let it = taken _ _ c.args.kind (word_count_of c.args.table.now) c.requires.caller
+    c.requires.refused c.know.ensures.sound _ record {
+      caller = c.reserve-taken.ensures.caller;
+      number = c.reserve-taken.ensures.number;
+      held = c.reserve-taken.ensures.held;
+      fresh = c.reserve-taken.ensures.reserved;
+      full = c.reserve-taken.ensures.full;
+    } in
+    record {
+      same_table = c.reserve-taken.ensures.same_table;
+      gone = it.gone;
+      held = it.held;
+      rows = it.rows;
+      high = it.high;
+      full = it.full;
+    }

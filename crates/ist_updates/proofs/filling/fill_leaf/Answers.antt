@@ -1,0 +1,18 @@
+use Rattle.std.proofs.Common.{[], ◌∷◌, arith}
+use Rattle.ist_rows.specs.declared.kinds.Kind.TheVariants.{Leaf}
+use Rattle.ist_updates.proofs.StoredLemmas.{row_filled}
+use Rattle.ist_updates.proofs.filling.fill_leaf.Goals as goal
+
+-- the words are stored in the row alone
+pub returns : goal.returns
+returns c =
+    let it = row_filled _ _ Leaf c.args.base (c.args.row.key ∷ c.args.row.value ∷ [])
+    c.know.ensures.sound c.requires.caller c.requires.row
+    (omega arith) c.fill_row.ensures.stored in
+    record {
+      same_table = c.fill_row.ensures.same_table;
+      caller = c.fill_row.ensures.caller;
+      same = it.same;
+      stands = it.stands;
+      others = it.others;
+    }

@@ -1,0 +1,10 @@
+use Rattle.std.proofs.Common.{◌≡◌, take}
+use Rattle.ist_rows.specs.Rows.{IsCaller}
+use Rattle.ist_updates.specs.Filling.{filled_with}
+use Rattle.ist_updates.proofs.filling.fill_row.Given as goal
+
+-- the words so far were stored, and nothing else was done
+abbrev pub invariant-loop-word : goal.invariant-loop-word
+invariant-loop-word l =
+    (l.at ≡ l.word-index) × (l.who ≡ filled_with l.initial.who l.base (take l.word-index l.words))
+    × IsCaller l.who

@@ -1,0 +1,59 @@
+use Rattle.std.proofs.Common.{rules}
+use Rattle.ist_rule.proofs.WentOnLemmas.{went_all}
+use Rattle.ist_rebuild.specs.Going.{Serves}
+use Rattle.ist_updates.specs.Trying.{Tries}
+use Rattle.ist_updates.proofs.AskedLemmas.{asked_served}
+use Rattle.ist_updates.proofs.StepLemmas.{serves_tries}
+use Rattle.ist_updates.proofs.HelpedLemmas.{slot_started, help_refused, refused_still}
+use Rattle.ist_updates.proofs.trying.help_target.Goals as goal
+
+-- the rebuild was started
+pub help_rebuild-requires-clause-started : goal.help_rebuild-requires-clause-started
+help_rebuild-requires-clause-started g c =
+    slot_started _ c.know.ensures.sound c.args.aim.key c.args.aim.node c.args.aim.index
+    c.args.aim.word c.args.base c.requires.at_slot c.requires.rebuild
+
+pub returns-in_err-help_rebuild-clause-gone : goal.returns-in_err-help_rebuild-clause-gone
+returns-in_err-help_rebuild-clause-gone g c =
+    let h = c.in_err-help_rebuild.ensures in
+    record {
+      caller = h.caller;
+      number = h.number;
+      refused = h.refused;
+      went = went_all Serves Tries serves_tries _ _ h.went;
+    }
+
+pub returns-clause-gone : goal.returns-clause-gone
+returns-clause-gone g c =
+    let h = c.help_rebuild.ensures in
+    record {
+      caller = h.caller;
+      number = h.number;
+      refused = h.refused;
+      went = went_all Serves Tries serves_tries _ _ h.went;
+    }
+
+-- the caller is asked still
+pub returns-clause-tried : goal.returns-clause-tried
+returns-clause-tried g c =
+    let h = c.help_rebuild.ensures in
+    asked_served _ _ _ c.requires.asked record {
+      caller = h.caller;
+      number = h.number;
+      refused = h.refused;
+      went = h.went;
+    } h.quiet.resolved
+
+pub returns-in_err-help_rebuild-clause-full : goal.returns-in_err-help_rebuild-clause-full
+returns-in_err-help_rebuild-clause-full g c =
+    let h = c.in_err-help_rebuild.ensures in
+    let full = refused_still c.args.who.now c.help_rebuild.new.who c.args.aim.key c.args.value _ _
+    (asked_served c.args.who.now c.help_rebuild.new.who _ c.requires.asked record {
+      caller = h.caller;
+      number = h.number;
+      refused = h.refused;
+      went = h.went;
+    } h.quiet.resolved)
+    (help_refused _ c.know.ensures.sound c.args.aim.key c.args.aim.node c.args.aim.index
+    c.args.aim.word c.args.base c.requires.at_slot c.requires.rebuild c.args.value _ _ _ h.full) in
+    search rules

@@ -1,0 +1,28 @@
+use Rattle.ist_rule.specs.Faces.{word_count_of}
+use Rattle.ist_updates.proofs.TriedLemmas.{told_took, told_nothing, told_again, told_full, told_still}
+use Rattle.ist_updates.proofs.trying.try_slot.Goals as goal
+
+-- each clause by what came of the try
+pub returns : goal.returns
+returns g c =
+    let t = c.try_word.ensures in
+    record {
+      same_table = t.same_table;
+      caller = t.gone.caller;
+      number = t.gone.number;
+      refused = t.gone.refused;
+      quiet = t.quiet;
+      went = t.gone.went;
+      took = told_took c.args.who.now c.try_word.new.who c.args.key c.args.value c.args.node
+          c.try_word.result t.tried;
+      nothing = λ e. (let it = told_nothing c.args.who.now c.try_word.new.who c.args.key c.args.value
+          c.args.node c.try_word.result t.tried e in (it.0, it.1, it.2));
+      since = λ e. (told_nothing c.args.who.now c.try_word.new.who c.args.key c.args.value
+          c.args.node c.try_word.result t.tried e).3;
+      again = told_again c.args.who.now c.try_word.new.who c.args.key c.args.value c.args.node
+          c.try_word.result t.tried;
+      full = told_full c.args.who.now c.try_word.new.who c.args.key c.args.value
+          (word_count_of c.args.table.now) c.try_word.result t.full;
+      still = told_still c.args.who.now c.try_word.new.who c.args.key c.args.value
+          (word_count_of c.args.table.now) c.try_word.result t.full;
+    }

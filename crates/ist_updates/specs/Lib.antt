@@ -1,0 +1,10 @@
+-- what the public contracts rest on, in the order to read them
+pub mod Asking
+pub mod Counting
+pub mod Refusals
+-- what the functions inside this crate promise each other
+pub mod Trying
+pub mod Walking
+pub mod Changing
+pub mod Filling
+pub mod Answering

@@ -1,0 +1,362 @@
+//! Changing a slot: rows are reserved and filled, and the change is installed and helped.
+ghost use Rattle.std.specs.Prelude.{◌≡◌, ◌<◌, ◌≤◌, ◌⊎◌, ◌∷◌, ℕ, true, false, Some, Ok, IfOk, IfErr};
+ghost use Rattle.ist_core.specs.declared.commands.Command.{Command};
+ghost use Rattle.ist_core.specs.Changes.{command_of, reply_of, value_at};
+ghost use Rattle.ist_core.specs.Rebuilding.{IsUpdate};
+ghost use Rattle.ist_core.specs.References.{ref_of};
+ghost use Rattle.ist_rule.specs.Faces.{word_count_of};
+ghost use Rattle.ist_rule.specs.Learning.{now, GoesOnTo};
+ghost use Rattle.ist_rule.specs.Watching.{IsNode};
+ghost use Rattle.ist_rows.specs.Building.{HasRefused};
+ghost use Rattle.ist_rows.specs.CallerLaws.{without_rows};
+ghost use Rattle.ist_rows.specs.declared.kinds.Kind.TheVariants as kind;
+ghost use Rattle.ist_rows.specs.Kinds.{kind_words};
+ghost use Rattle.ist_rows.specs.Rows.{IsCaller, spares_of, row_of, with_row};
+ghost use Rattle.ist_dcss.specs.Installing.{Filling, IsInstallable, IsInstalled};
+ghost use Rattle.ist_rebuild.specs.Going.{IsQuiet, IsShortOf};
+ghost use Rattle.ist_updates.specs.Asking.{IsAsked};
+ghost use Rattle.ist_updates.specs.Changing.{WasAtSlot, HasGone, Prepares, HasRows};
+ghost use Rattle.ist_updates.specs.Changing.{IsWay, IsWayRefused, IsPlanned, row_for};
+ghost use Rattle.ist_updates.specs.Changing.{command_by, filling_of, kinds_of};
+ghost use Rattle.ist_updates.specs.declared.plans.Way.TheVariants as way;
+ghost use Rattle.ist_updates.specs.Trying.{Tries, HasTaken};
+
+use crate::filling::fill_rows;
+use crate::plans::{Aim, Fresh, Plan, Way};
+use ist_core::{ChangeRow, Full};
+use ist_dcss::{Decision, Installed, help, install, is_open};
+use ist_layout::{EMPTY_WORD, PUT_KIND, REMOVE_KIND, Ref, UNDECIDED};
+use ist_rows::{Caller, Kind, drop_pair, reserve};
+use ist_rule::{TreeTable, know};
+use std::sync::Wait;
+
+// ---- rows
+
+// The row of this kind that the caller holds, or a fresh one.
+fn take<R: Wait>(table: &TreeTable, rt: &R, who: &mut Caller, kind: Kind) -> Result<u32, Full>
+    requires same_table { who.old.seat.table ≡ table.now.table }
+    requires caller { IsCaller who.old }
+    requires refused { HasRefused who.old }
+    ensures same_table { who.new.seat.table ≡ table.now.table }
+    ensures gone { HasGone Prepares who.old who.new }
+    ensures held { IfOk result (λ base. row_of kind (spares_of who.new) ≡ Some base) }
+    ensures rows { IfOk result (λ base.
+        spares_of who.new ≡ with_row kind base (spares_of who.old)) }
+    ensures high { IfOk result (λ base. (row_of kind (spares_of who.old) ≡ Some base)
+        ⊎ ((now who.old.seat.view).next ≤ base)) }
+    ensures full { IfErr result (λ full. (full.asked ≡ kind_words kind)
+        × IsShortOf Prepares who.old.seat.view (word_count_of table.now) full who.new.seat.view) }
+{
+    know(&who.seat);
+    // Reserve, where the caller holds none. Meets another caller's.
+    let taken = reserve(table, rt, who, kind);
+    know(&who.seat);
+    taken
+}
+
+// Whether there is a pair row, and it lies below the node.
+fn is_below(pair: Option<u32>, node: u32) -> bool
+    ensures yes { result ≡ true → (base : ℕ) × (pair ≡ Some base) × (base < node) }
+    ensures no { result ≡ false → (base : ℕ) → pair ≡ Some base → node ≤ base }
+{
+    match pair {
+        Some(base) => base < node,
+        None => false,
+    }
+}
+
+// Gives up the pair row that the caller holds, where it lies below the node.
+fn drop_below(table: &TreeTable, who: &mut Caller, node: u32)
+    requires same_table { who.old.seat.table ≡ table.now.table }
+    requires caller { IsCaller who.old }
+    requires refused { HasRefused who.old }
+    requires node { IsNode (now who.old.seat.view) node }
+    ensures same_table { who.new.seat.table ≡ table.now.table }
+    ensures gone { HasGone Prepares who.old who.new }
+    ensures others { (who.new.leaf ≡ who.old.leaf) × (who.new.change ≡ who.old.change) }
+    ensures above { (base : ℕ) → who.new.pair ≡ Some base → node < base }
+{
+    know(&who.seat);
+    if !is_below(who.pair, node) {
+        return;
+    }
+    // Lose. Meets no other's step: the row is its caller's alone.
+    drop_pair(table, who, node);
+}
+
+// A pair row above the node: the one that the caller holds, or a fresh one.
+fn take_pair<R: Wait>(table: &TreeTable, rt: &R, who: &mut Caller, node: u32) -> Result<u32, Full>
+    requires same_table { who.old.seat.table ≡ table.now.table }
+    requires caller { IsCaller who.old }
+    requires refused { HasRefused who.old }
+    requires node { IsNode (now who.old.seat.view) node }
+    ensures same_table { who.new.seat.table ≡ table.now.table }
+    ensures gone { HasGone Prepares who.old who.new }
+    ensures held { IfOk result (λ base. who.new.pair ≡ Some base) }
+    ensures others { IfOk result (λ base.
+        (who.new.leaf ≡ who.old.leaf) × (who.new.change ≡ who.old.change)) }
+    ensures above { IfOk result (λ base. node < base) }
+    ensures full { IfErr result (λ full. (full.asked ≡ kind_words kind.Pair)
+        × IsShortOf Prepares who.old.seat.view (word_count_of table.now) full who.new.seat.view) }
+{
+    know(&who.seat);
+    drop_below(table, who, node);
+    let base = take(table, rt, who, Kind::Pair)?;
+    Ok(base)
+}
+
+// ---- plans
+
+// The change that puts a word into the slot.
+fn change_for(aim: Aim, kind: u64, value: u64, to: u64, owner: u32) -> ChangeRow
+    ensures value { result ≡ row_for aim kind value to owner }
+{
+    ChangeRow {
+        decision: UNDECIDED,
+        kind,
+        node: u64::from(aim.node),
+        index: aim.index,
+        from: aim.word,
+        to,
+        owner: u64::from(owner),
+        key: aim.key,
+        value,
+    }
+}
+
+// A plan to put a leaf where nothing stands, or a leaf of the key.
+fn plan_leaf<R: Wait>(
+    table: &TreeTable,
+    rt: &R,
+    who: &mut Caller,
+    aim: Aim,
+    value: u64,
+) -> Result<Plan, Full>
+    requires same_table { who.old.seat.table ≡ table.now.table }
+    requires caller { IsCaller who.old }
+    requires refused { HasRefused who.old }
+    requires at_slot { WasAtSlot who.old.seat.view aim }
+    requires room { IsWay who.old.seat.view aim.key aim.word (way.Leaf value) }
+    ensures same_table { who.new.seat.table ≡ table.now.table }
+    ensures gone { HasGone Prepares who.old who.new }
+    ensures planned { IfOk result (λ plan. IsPlanned who.new aim (way.Leaf value) plan) }
+    ensures full { IfErr result (λ full. IsWayRefused who.old.seat.view (way.Leaf value)
+        (word_count_of table.now) full who.new.seat.view) }
+{
+    know(&who.seat);
+    let leaf = take(table, rt, who, Kind::Leaf)?;
+    let base = take(table, rt, who, Kind::Change)?;
+    know(&who.seat);
+    let to = Ref::Leaf { base: leaf }.to_word();
+    let row = change_for(aim, PUT_KIND, value, to, who.number);
+    let fresh = Fresh::Leaf { base: leaf };
+    Ok(Plan { base, row, fresh })
+}
+
+// A plan to put a pair row where a leaf of another key stands.
+fn plan_pair<R: Wait>(
+    table: &TreeTable,
+    rt: &R,
+    who: &mut Caller,
+    aim: Aim,
+    value: u64,
+    other: u32,
+    other_key: u64,
+) -> Result<Plan, Full>
+    requires same_table { who.old.seat.table ≡ table.now.table }
+    requires caller { IsCaller who.old }
+    requires refused { HasRefused who.old }
+    requires at_slot { WasAtSlot who.old.seat.view aim }
+    requires room { IsWay who.old.seat.view aim.key aim.word (way.Pair value other other_key) }
+    ensures same_table { who.new.seat.table ≡ table.now.table }
+    ensures gone { HasGone Prepares who.old who.new }
+    ensures planned { IfOk result (λ plan.
+        IsPlanned who.new aim (way.Pair value other other_key) plan) }
+    ensures full { let w = way.Pair value other other_key in IfErr result (λ full.
+        IsWayRefused who.old.seat.view w (word_count_of table.now) full who.new.seat.view) }
+{
+    know(&who.seat);
+    let leaf = take(table, rt, who, Kind::Leaf)?;
+    know(&who.seat);
+    let pair = take_pair(table, rt, who, aim.node)?;
+    let base = take(table, rt, who, Kind::Change)?;
+    know(&who.seat);
+    let to = Ref::Inner { base: pair }.to_word();
+    let row = change_for(aim, PUT_KIND, value, to, who.number);
+    let fresh = Fresh::Pair {
+        base: pair,
+        leaf,
+        other,
+        other_key,
+    };
+    Ok(Plan { base, row, fresh })
+}
+
+// A plan to take the leaf of the key away.
+fn plan_clear<R: Wait>(table: &TreeTable, rt: &R, who: &mut Caller, aim: Aim) -> Result<Plan, Full>
+    requires same_table { who.old.seat.table ≡ table.now.table }
+    requires caller { IsCaller who.old }
+    requires refused { HasRefused who.old }
+    requires at_slot { WasAtSlot who.old.seat.view aim }
+    requires room { IsWay who.old.seat.view aim.key aim.word way.Clear }
+    ensures same_table { who.new.seat.table ≡ table.now.table }
+    ensures gone { HasGone Prepares who.old who.new }
+    ensures planned { IfOk result (λ plan. IsPlanned who.new aim way.Clear plan) }
+    ensures full { IfErr result (λ full. IsWayRefused who.old.seat.view way.Clear
+        (word_count_of table.now) full who.new.seat.view) }
+{
+    know(&who.seat);
+    let base = take(table, rt, who, Kind::Change)?;
+    know(&who.seat);
+    let row = change_for(aim, REMOVE_KIND, 0, EMPTY_WORD, who.number);
+    let fresh = Fresh::Nothing;
+    Ok(Plan { base, row, fresh })
+}
+
+// Reserves the rows that it takes, and says how they are to be filled.
+fn plan_for<R: Wait>(
+    table: &TreeTable,
+    rt: &R,
+    who: &mut Caller,
+    aim: Aim,
+    way: Way,
+) -> Result<Plan, Full>
+    requires same_table { who.old.seat.table ≡ table.now.table }
+    requires caller { IsCaller who.old }
+    requires refused { HasRefused who.old }
+    requires at_slot { WasAtSlot who.old.seat.view aim }
+    requires room { IsWay who.old.seat.view aim.key aim.word way }
+    ensures same_table { who.new.seat.table ≡ table.now.table }
+    ensures gone { HasGone Prepares who.old who.new }
+    ensures planned { IfOk result (λ plan. IsPlanned who.new aim way plan) }
+    ensures full { IfErr result (λ full. IsWayRefused who.old.seat.view way
+        (word_count_of table.now) full who.new.seat.view) }
+{
+    match way {
+        Way::Leaf { value } => plan_leaf(table, rt, who, aim, value),
+        Way::Pair {
+            value,
+            other,
+            other_key,
+        } => plan_pair(table, rt, who, aim, value, other, other_key),
+        Way::Clear => plan_clear(table, rt, who, aim),
+    }
+}
+
+// ---- the change
+
+// The caller holds the rows of the plan no more.
+fn give_away(who: &mut Caller, fresh: Fresh)
+    ensures same { (who.new.seat ≡ who.old.seat) × (who.new.number ≡ who.old.number) }
+    ensures rows { let kinds = kind.Change ∷ kinds_of fresh in
+        spares_of who.new ≡ without_rows kinds (spares_of who.old) }
+{
+    match fresh {
+        Fresh::Nothing => {}
+        Fresh::Leaf { base: _ } => who.leaf = None,
+        Fresh::Pair {
+            base: _,
+            leaf: _,
+            other: _,
+            other_key: _,
+        } => {
+            who.leaf = None;
+            who.pair = None;
+        }
+    }
+    who.change = None;
+}
+
+// Installs the change of the plan. Where it stands in its slot the caller holds the rows no more.
+fn install_plan(table: &TreeTable, who: &mut Caller, plan: Plan) -> bool
+    ghost filling: { Filling }
+    requires same_table { who.old.seat.table ≡ table.now.table }
+    requires caller { IsCaller who.old }
+    requires refused { HasRefused who.old }
+    requires rows { HasRows who.old plan }
+    requires may_install { IsInstallable who.old.seat.view plan.base filling }
+    requires filled { filling ≡ filling_of plan }
+    ensures same_table { who.new.seat.table ≡ table.now.table }
+    ensures caller { IsCaller who.new }
+    ensures number { who.new.number ≡ who.old.number }
+    ensures refused { HasRefused who.new }
+    ensures yes { result ≡ true
+        → IsInstalled who.old.seat.view plan.base filling who.new.seat.view }
+    ensures no { result ≡ false → GoesOnTo who.old.seat.view who.new.seat.view }
+{
+    // Install, where the slot holds the word still. Meets another caller's, and what a helper left
+    // there.
+    match install(table, &mut who.seat, plan.base) {
+        Installed::Yes => {
+            give_away(who, plan.fresh);
+            true
+        }
+        Installed::Other(_) => false,
+    }
+}
+
+// Installs the change of the plan and helps it; answers whether it took effect.
+fn carry_out(table: &TreeTable, who: &mut Caller, plan: Plan) -> bool
+    requires same_table { who.old.seat.table ≡ table.now.table }
+    requires caller { IsCaller who.old }
+    requires refused { HasRefused who.old }
+    requires rows { HasRows who.old plan }
+    requires update { IsUpdate plan.row.kind }
+    requires may_install { IsInstallable who.old.seat.view plan.base (filling_of plan) }
+    ensures same_table { who.new.seat.table ≡ table.now.table }
+    ensures gone { HasGone Tries who.old who.new }
+    ensures quiet { IsQuiet who.new }
+    ensures took { result ≡ true → (command : Command) → command_of plan.row ≡ Some command
+        → let v = who.old.seat.view in HasTaken v who.new.seat.view who.old.number command
+        plan.row.node (reply_of (now v).pieces plan.row) }
+    ensures lost { result ≡ false → (command : Command) → IsAsked who.old command
+        → IsAsked who.new command }
+{
+    know(&who.seat);
+    if !install_plan(table, who, plan) {
+        return false;
+    }
+    know(&who.seat);
+    // Okay, Decide and Resolve. Meets another helper's, and a mark of the node.
+    match help(table, &mut who.seat, plan.base) {
+        Decision::Yes => true,
+        Decision::No => false,
+    }
+}
+
+/// Puts so into the slot, where its node is open and it holds the word still.
+///
+/// Answers whether it took effect. `Full` comes where a row for it was wanting.
+pub(crate) fn change_slot<R: Wait>(
+    table: &TreeTable,
+    rt: &R,
+    who: &mut Caller,
+    aim: Aim,
+    way: Way,
+) -> Result<bool, Full>
+    requires same_table { who.old.seat.table ≡ table.now.table }
+    requires asked { IsAsked who.old (command_by aim.key way) }
+    requires at_slot { WasAtSlot who.old.seat.view aim }
+    requires room { IsWay who.old.seat.view aim.key aim.word way }
+    ensures same_table { who.new.seat.table ≡ table.now.table }
+    ensures gone { HasGone Tries who.old who.new }
+    ensures quiet { IsQuiet who.new }
+    ensures took { result ≡ Ok true → let v = who.old.seat.view in
+        let reply = value_at (now v).pieces (ref_of aim.word) aim.key in
+        HasTaken v who.new.seat.view who.old.number (command_by aim.key way) aim.node reply }
+    ensures lost { result ≡ Ok false → IsAsked who.new (command_by aim.key way) }
+    ensures still { IfErr result (λ full. IsAsked who.new (command_by aim.key way)) }
+    ensures full { IfErr result (λ full. IsWayRefused who.old.seat.view way
+        (word_count_of table.now) full who.new.seat.view) }
+{
+    know(&who.seat);
+    // A load. Meets a mark of the node.
+    if !is_open(table, &mut who.seat, aim.node) {
+        return Ok(false);
+    }
+    let plan = plan_for(table, rt, who, aim, way)?;
+    know(&who.seat);
+    fill_rows(table, who, plan);
+    know(&who.seat);
+    Ok(carry_out(table, who, plan))
+}

@@ -1,0 +1,80 @@
+//! Counting an update at the rows of its way.
+ghost use Rattle.std.specs.Prelude.{◌≡◌, ℕ, List, [], ◌∷◌, ◌++◌};
+ghost use Rattle.ist_core.specs.declared.commands.Command.{Command};
+ghost use Rattle.ist_core.specs.Deciding.{CanCount};
+ghost use Rattle.ist_core.specs.Logs.{Log};
+ghost use Rattle.ist_core.specs.StartLayout.{start};
+ghost use Rattle.ist_rule.specs.Going.{WentOn};
+ghost use Rattle.ist_rule.specs.Watching.{number_of};
+ghost use Rattle.ist_rows.specs.Building.{HasRefused};
+ghost use Rattle.ist_rows.specs.Rows.{IsCaller};
+ghost use Rattle.ist_rebuild.specs.Going.{IsQuiet};
+ghost use Rattle.ist_updates.specs.Asking.{Updates};
+ghost use Rattle.ist_updates.specs.Walking.{MayCount, IsCountAt, HasCountedAt, HasStood, HasCounted};
+
+use crate::updates::{Applied, Due};
+use ist_layout::{INNER_COUNT_OFFSET, INNER_SIZE_OFFSET};
+use ist_math::limit;
+use ist_rows::Caller;
+use ist_rule::{TreeSeat, TreeTable, add, know, load};
+
+// Counts the caller's update at the row, and answers whether the count came to the row's limit by it.
+fn count_at(table: &TreeTable, seat: &mut TreeSeat, row: u32) -> bool
+    requires same_table { seat.old.table ≡ table.now.table }
+    requires may_count { MayCount seat.old.view row }
+    ensures same_table { seat.new.table ≡ seat.old.table }
+    ensures went { WentOn (IsCountAt (number_of seat.old.view.who) row) seat.old.view
+        seat.new.view }
+    ensures counted { let v = seat.old.view in HasCountedAt v.start v.words v.log
+        (number_of v.who) row result seat.new.view.log }
+{
+    know(seat);
+    let place = u64::from(row) + INNER_COUNT_OFFSET;
+    // Count. Meets the Counts of other callers at the row.
+    let found = add(table, seat, place);
+    let size = load(table, seat, u64::from(row) + INNER_SIZE_OFFSET);
+    found + 1 >= limit(size)
+}
+
+/// Counts at a row an update that was counted at each row below it, and tells the topmost row that is
+/// due by that: this one, which stood in the slot of its parent, or the one that was due before.
+pub(crate) fn count_update(
+    table: &TreeTable,
+    who: &mut Caller,
+    parent: u32,
+    index: u64,
+    row: u32,
+    below: Applied,
+) -> Applied
+    requires same_table { who.old.seat.table ≡ table.now.table }
+    requires caller { IsCaller who.old }
+    requires refused { HasRefused who.old }
+    requires quiet { IsQuiet who.old }
+    requires can { let v = who.old.seat.view in
+        CanCount (start v.start v.words) v.log who.old.number row }
+    requires stood { let v = who.old.seat.view in
+        HasStood v.start v.words v.log parent index row }
+    ensures same_table { who.new.seat.table ≡ table.now.table }
+    ensures caller { IsCaller who.new }
+    ensures number { who.new.number ≡ who.old.number }
+    ensures refused { HasRefused who.new }
+    ensures quiet { IsQuiet who.new }
+    ensures went { WentOn Updates who.old.seat.view who.new.seat.view }
+    ensures counted { let v = who.old.seat.view in
+        (earlier : Log) (command : Command) (rows : List ℕ)
+        → HasCounted v.start v.words earlier v.log who.old.number command (rows ++ row ∷ []) below
+        → HasCounted v.start v.words earlier who.new.seat.view.log who.old.number command rows
+        result }
+{
+    if count_at(table, &mut who.seat, row) {
+        return Applied {
+            reply: below.reply,
+            due: Some(Due {
+                parent,
+                index,
+                target: row,
+            }),
+        };
+    }
+    below
+}

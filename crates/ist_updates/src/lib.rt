@@ -1,0 +1,19 @@
+//! One put or remove of a caller, from the anchor down to its slot and back: it takes effect once, and
+//! is counted at each row of its way.
+//!
+//! Read `specs/Asking.antt`, `specs/Counting.antt` and `specs/Refusals.antt`, then `applying.rt`. Stands
+//! on `ist_find`, `ist_rebuild`, `ist_dcss`, `ist_rows` and `ist_rule`, and on the crates of laws below
+//! them.
+#![tactic(auto)]
+
+mod applying;
+mod changing;
+mod counting;
+mod filling;
+mod plans;
+mod trying;
+mod updates;
+mod walking;
+
+pub use applying::apply;
+pub use updates::{Applied, Due};
