@@ -1,5 +1,5 @@
 -- The words of a tree whose passes were all taken back. Serves `close`.
-use Rattle.std.proofs.Common.{◌≡◌, ℕ, ◌<◌, List, map, length, Some, refl, sym, ap, ◌∙◌, subst, arith}
+use Rattle.std.proofs.Common.{◌≡◌, ℕ, ◌<◌, Bool, false, List, map, length, Some, refl, sym, ap, ◌∙◌, subst, arith}
 use Rattle.ist_core.specs.declared.states.ChangeRow.{ChangeRow}
 use Rattle.ist_core.specs.Elements.{Each}
 use Rattle.ist_core.specs.Images.{IsImage}
@@ -8,7 +8,7 @@ use Rattle.ist_core.specs.Deciding.{AllResolved}
 use Rattle.ist_core.specs.Logs.{Log}
 use Rattle.ist_core.specs.Pieces.{Change}
 use Rattle.ist_core.specs.Lawful.{Lawful, state_of}
-use Rattle.ist_core.specs.Resting.{AllStandIn}
+use Rattle.ist_core.specs.Resting.{AllStandIn, IsSettled}
 use Rattle.ist_core.specs.Standing.{StandsIn}
 use Rattle.ist_core.proofs.ElementLemmas.{each-among}
 use Rattle.ist_core.proofs.RoomLemmas.{words_same}
@@ -22,9 +22,11 @@ use Rattle.ist_rule.specs.Rule.{IsTakenBack}
 use Rattle.ist_rule.specs.Seating.{IsLast}
 use Rattle.ist_rule.specs.Standings.{StandsInPrefix}
 use Rattle.ist_rule.proofs.LaterLemmas.{later-goes_on, goes_on_more}
+use Rattle.ist_settling.proofs.SettledLemmas.{settled}
 use Rattle.ist_tree.specs.Faces.{MakerFace}
 use Rattle.ist_tree.specs.Closing.{calls_numbered, calls_taken, ClosesWith}
-use Rattle.ist_tree.specs.Insides.{taken_pass, maker_face, IsMaker}
+use Rattle.ist_tree.specs.Insides.{taken_pass, maker_face, IsMakerWith, HasSettled}
+use Rattle.ist_tree.proofs.SettlingLemmas.{settled_later}
 use Rattle.ist_tree.proofs.TakenLemmas.{all_below, each_number, numbers_long, IsNumbered, numbered_is, lists_long, lists_stand, each_get}
 
 -- what is so of the last log, in a table of so many words
@@ -35,25 +37,26 @@ record EndsIn (m : MakerFace) (image : List ℕ) (log : Log) (words : ℕ) : Typ
   pub callers : (state_of m.tree.start words log).callers ≡ length (calls_taken m)
   pub stand : AllStandIn m.tree.start words log 0 (calls_taken m)
   pub owners : Each (λ (e : Entry). e.owner < m.made) (changes_of m.tree.start words log)
+  pub settled : m.refused ≡ false → IsSettled (state_of m.tree.start words log)
 
 -- the last words of a table whose maker took all passes back
-module _ (seat : SeatFace) (image : List ℕ) (is : IsMaker seat.view)
+module _ (seat : SeatFace) (image : List ℕ) (refused : Bool) (is : IsMakerWith seat.view refused)
     (all_back : length (map taken_pass seat.view.taken) ≡ seat.view.made)
     (last : IsLast seat.view image) where
   abbrev v : View
   v = seat.view
 
   abbrev m : MakerFace
-  m = maker_face seat
+  m = maker_face seat refused
 
   -- it has as many callers as passes were made
   made_is : v.made ≡ (state_of v.start v.words last.log).callers
-  made_is = (last.is_true.made is.maker).0
+  made_is = (last.is_true.made is.maker.maker).0
 
   -- each of them was taken back
   numbered : (number : ℕ) → number < v.made → IsNumbered number v.taken
   numbered number lt =
-      let given = is.given in
+      let given = is.maker.given in
       let long = numbers_long v.taken in
       numbered_is number v.taken
       (all_below v.made (map (λ (t : Taken). t.number) v.taken) last.well_made.taken_once
@@ -86,6 +89,19 @@ module _ (seat : SeatFace) (image : List ℕ) (is : IsMaker seat.view)
       let made = made_is in
       omega arith
 
+  -- all of its own is settled, where none met a refused rebuild
+  own_settled : refused ≡ false → (number : ℕ) → number < v.made
+      → HasSettled v.start v.words last.log number
+  own_settled unrefused number lt =
+      let it = numbered number lt in
+      let t = it.taken in
+      let back = each-among (IsTakenBack v.start v.words last.log) t v.taken last.is_true.taken
+      it.among in
+      let old = each-among (λ (x : Taken). HasSettled v.start v.words x.log x.number) t v.taken
+      (is.settled unrefused) it.among in
+      subst (HasSettled v.start v.words last.log) it.number_is
+      (settled_later v.start v.words t.log last.log last.lawful t.number back.later old)
+
   ends_here : EndsIn m image last.log v.words
   ends_here =
       record {
@@ -106,10 +122,18 @@ module _ (seat : SeatFace) (image : List ℕ) (is : IsMaker seat.view)
             let low = known u.0 u.1.change u.1.published in
             let own = same_owner e _ (sym at ∙ u.1.entry) in
             omega arith));
+        settled = λ unrefused.
+            settled v.start v.words last.lawful.opens last.log last.lawful.enabled
+            (λ number lt. (own_settled unrefused number (below number lt)).starts)
+            (λ number lt. (own_settled unrefused number (below number lt)).due);
       }
     where
       same_owner : (a b : Entry) → Some a ≡ Some b → a.owner ≡ b.owner
       same_owner a b e = ap (λ (x : Entry). x.owner) (let s : a ≡ b = cc in s)
+
+      below : (number : ℕ) → number < (state_of v.start v.words last.log).callers
+          → number < v.made
+      below number lt = subst (λ n. number < n) (sym made_is) lt
 
   -- the words are as many as the table has
   pub image_long : length image ≡ v.words
@@ -133,4 +157,5 @@ module _ (seat : SeatFace) (image : List ℕ) (is : IsMaker seat.view)
         calls_are = refl;
         goes_on = later-goes_on last.later;
         owners = e.owners;
+        settled = e.settled;
       }

@@ -5,6 +5,7 @@ use Rattle.std.specs.FinMap as fin
 use Rattle.ist_core.specs.declared.calls.Call.{Call}
 use Rattle.ist_core.specs.declared.commands.Command.TheVariants.{Get}
 use Rattle.ist_core.specs.declared.pairs.Pair.{Pair}
+use Rattle.ist_core.specs.declared.ports.Full.{Full}
 use Rattle.ist_core.specs.Logs.{Log, GoesOn}
 use Rattle.ist_core.specs.Lawful.{Lawful, state_of}
 use Rattle.ist_core.specs.Standing.{IsFresh}
@@ -27,9 +28,9 @@ use Rattle.ist_rows.specs.declared.callers.Caller.{Caller}
 use Rattle.ist_find.specs.Searches.{HasSearched, HasFewLoads}
 use Rattle.ist_tree.specs.Faces.{PassFace}
 use Rattle.ist_tree.specs.Calls.{HasSeenMore, AddsCall, row_loads, HasLoadedFew}
-use Rattle.ist_tree.specs.Insides.{face_as, pass_face, IsPass}
+use Rattle.ist_tree.specs.Insides.{face_as, pass_face, IsPass, IsPassWith}
 use Rattle.ist_tree.proofs.BetweenLemmas.{has_its_calls}
-use Rattle.ist_tree.proofs.GoingLemmas.{IsLaterView, lawful_behind, pass_later}
+use Rattle.ist_tree.proofs.GoingLemmas.{IsLaterView, lawful_behind, pass_with_later}
 use Rattle.ist_tree.proofs.LoadingLemmas.{chain_on, costs_rise}
 use Rattle.ist_tree.proofs.PositionLemmas.{found_call}
 use Rattle.ist_tree.proofs.FindingLemmas.{changes_rise, map_at_on, searched_view, get_call, its_fresh, may_end, found_is}
@@ -39,7 +40,7 @@ pub may_begin : (who : Caller) → IsPass who → CanBegin who.seat.view
 may_begin who p = record { number = who.number; mine = p.caller.mine; in_none = p.in_none }
 
 -- a position in a log is one in a log that goes on, and for an earlier beginning
-position_later : (pairs : List Pair) (words : ℕ) (seen began log longer : Log) (key : ℕ)
+pub position_later : (pairs : List Pair) (words : ℕ) (seen began log longer : Log) (key : ℕ)
     (value : Option ℕ) → GoesOn seen began → GoesOn log longer
     → HasPosition pairs words began log key value → HasPosition pairs words seen longer key value
 position_later pairs words seen began log longer key value g on h =
@@ -56,13 +57,13 @@ position_later pairs words seen began log longer key value g on h =
     }
 
 -- what a find comes to, for a pass that contracts saw so
-pub record FindEnds (old : PassFace) (who : Caller) (seat : SeatFace) (key : ℕ)
-    (value : Option ℕ) : Type 0 where
-  pub pass : IsPass (record who { seat = seat })
-  pub seen : HasSeenMore old (face_as seat who.number)
-  pub added : AddsCall old (face_as seat who.number) (Get key) value
+pub record FindEnds (old : PassFace) (who : Caller) (refused : Option Full) (seat : SeatFace)
+    (key : ℕ) (value : Option ℕ) : Type 0 where
+  pub pass : IsPassWith (record who { seat = seat }) refused
+  pub seen : HasSeenMore old (face_as seat who.number refused)
+  pub added : AddsCall old (face_as seat who.number refused) (Get key) value
   pub position : HasPosition old.tree.start old.tree.words old.seen seat.view.log key value
-  pub loads : HasLoadedFew old (face_as seat who.number) key
+  pub loads : HasLoadedFew old (face_as seat who.number refused) key
 
 -- the view behind a find
 abbrev pub ended_view : View → Log → Log → Call → Loads → ℕ → View
@@ -127,7 +128,8 @@ module _ (who : Caller) (key : ℕ) (value : Option ℕ) (b w : View) (s : IsSou
       its_position v.log (later-goes_on before)
 
   -- and ended it
-  module _ (seat : SeatFace) (same_table : seat.table ≡ who.seat.table)
+  module _ (seat : SeatFace) (refused : Option Full) (all : IsPassWith who refused)
+      (same_table : seat.table ≡ who.seat.table)
       (ended : Turned w (ending w (found_call w value)) seat.view) where
     abbrev x : View
     x = seat.view
@@ -154,11 +156,12 @@ module _ (who : Caller) (key : ℕ) (value : Option ℕ) (b w : View) (s : IsSou
         }
 
     -- it is a pass still
-    pub ended_pass : IsPass (record who { seat = seat })
-    ended_pass = pass_later who seat p later_view (ap (λ (y : View). y.pending) x_is)
+    pub ended_pass : IsPassWith (record who { seat = seat }) refused
+    ended_pass =
+        pass_with_later who seat refused all later_view (ap (λ (y : View). y.pending) x_is)
 
     -- which has seen more
-    pub has_seen_more : HasSeenMore (pass_face who) (face_as seat who.number)
+    pub has_seen_more : HasSeenMore (pass_face who refused) (face_as seat who.number refused)
     has_seen_more =
         record {
           tree = tree_same;
@@ -167,7 +170,7 @@ module _ (who : Caller) (key : ℕ) (value : Option ℕ) (b w : View) (s : IsSou
           stamp = let up = ap (λ (y : View). y.stamp) x_is in omega arith;
         }
       where
-        tree_same : (face_as seat who.number).tree ≡ (pass_face who).tree
+        tree_same : (face_as seat who.number refused).tree ≡ (pass_face who refused).tree
         tree_same = ap₂ (λ t (y : View). record { table = t; start = y.start; words = y.words })
             same_table x_is
 
@@ -178,7 +181,7 @@ module _ (who : Caller) (key : ℕ) (value : Option ℕ) (b w : View) (s : IsSou
         (ap (λ (y : View). y.pending) x_is))
 
     -- and has one call more
-    pub adds_call : AddsCall (pass_face who) (face_as seat who.number) (Get key) value
+    pub adds_call : AddsCall (pass_face who refused) (face_as seat who.number refused) (Get key) value
     adds_call =
         record {
           call = call;
@@ -207,7 +210,7 @@ module _ (who : Caller) (key : ℕ) (value : Option ℕ) (b w : View) (s : IsSou
 
     -- and few loads were made
     pub has_loaded_few : (node : ℕ) → HasFewLoads b w key node
-        → HasLoadedFew (pass_face who) (face_as seat who.number) key
+        → HasLoadedFew (pass_face who refused) (face_as seat who.number refused) key
     has_loaded_few node few =
         let now_lawful = lawful_behind v x later_view in
         let chain = subst (λ (y : View). IsChainOf y.start y.words w.log node few.rows) w_is few.chain
@@ -217,8 +220,8 @@ module _ (who : Caller) (key : ℕ) (value : Option ℕ) (b w : View) (s : IsSou
         let rise = costs_rise (state_of v.start v.words w.log) (state_of v.start v.words x.log)
         (grow_between v.start v.words w.log x.log now_lawful.enabled longer) key few.rows in
         let first = ap (λ (y : View). y.loaded) begun.view in
-        subst (λ (y : View). HasLoadedFew (pass_face who)
-        (face_as record { table = seat.table; view = y } who.number) key) (sym x_is)
+        subst (λ (y : View). HasLoadedFew (pass_face who refused)
+        (face_as record { table = seat.table; view = y } who.number refused) key) (sym x_is)
         record {
           node = node;
           rows = few.rows;
@@ -227,10 +230,10 @@ module _ (who : Caller) (key : ℕ) (value : Option ℕ) (b w : View) (s : IsSou
         }
 
     -- all of this together, for a pass that contracts saw so
-    pub find_ends : (old : PassFace) → pass_face who ≡ old → (node : ℕ) → HasFewLoads b w key node
-        → FindEnds old who seat key value
+    pub find_ends : (old : PassFace) → pass_face who refused ≡ old → (node : ℕ) → HasFewLoads b w key node
+        → FindEnds old who refused seat key value
     find_ends old view node few =
-        subst (λ (o : PassFace). FindEnds o who seat key value) view
+        subst (λ (o : PassFace). FindEnds o who refused seat key value) view
         record {
           pass = ended_pass;
           seen = has_seen_more;

@@ -1,6 +1,7 @@
 -- A pass goes on while others make events. Serves `find` and `meet`.
-use Rattle.std.proofs.Common.{◌≡◌, ◌==◌, not, None, map, filter, sym, ap, ap₂, ◌∙◌, subst}
+use Rattle.std.proofs.Common.{◌≡◌, ◌==◌, not, Option, None, map, filter, sym, ap, ap₂, ◌∙◌, subst}
 use Rattle.ist_core.specs.declared.lists.HeldRow.{HeldRow}
+use Rattle.ist_core.specs.declared.ports.Full.{Full}
 use Rattle.ist_core.specs.Snapshots.{Snapshot}
 use Rattle.ist_core.specs.Lawful.{Lawful, state_of}
 use Rattle.ist_rule.specs.declared.view.View.{View}
@@ -10,13 +11,14 @@ use Rattle.ist_rule.specs.Faces.{SeatFace}
 use Rattle.ist_rule.specs.Rule.{IsSound}
 use Rattle.ist_rule.specs.Learning.{now}
 use Rattle.ist_rows.specs.declared.callers.Caller.{Caller}
-use Rattle.ist_rows.specs.Rows.{spares_of, is_spare}
-use Rattle.ist_rows.specs.Building.{AreStuck}
+use Rattle.ist_rows.specs.Rows.{spares_of, is_spare, IsCaller}
+use Rattle.ist_rows.specs.Building.{AreStuck, HasRefused}
 use Rattle.ist_rows.proofs.BuildingLemmas.{all_stuck_on}
 use Rattle.ist_rows.proofs.CallerLemmas.{IsCallerIn, caller_later, comes_behind}
 use Rattle.ist_rows.proofs.HeldListLemmas.{held_by_later}
 use Rattle.ist_tree.specs.Faces.{TreeFace, PassFace}
-use Rattle.ist_tree.specs.Insides.{pass_face, IsPass}
+use Rattle.ist_tree.specs.Insides.{pass_face, IsPass, IsPassWith, HasSettled}
+use Rattle.ist_tree.proofs.SettlingLemmas.{settled_later}
 
 -- the second view is a later one of the same seat, of whose caller there was no event since
 pub record IsLaterView (v w : View) : Type 0 where
@@ -32,19 +34,23 @@ lawful_behind v w l =
     subst (λ p. Lawful p v.words w.log) l.start_is
     (subst (λ n. Lawful w.start n w.log) l.words_is l.sound.lawful)
 
--- a caller in no call is a pass still
-pub pass_later : (who : Caller) (seat : SeatFace) → IsPass who
-    → IsLaterView who.seat.view seat.view → seat.view.pending ≡ None
-    → IsPass (record who { seat = seat })
-pass_later who seat p l none =
+-- a caller whose refused builds are told
+pub record IsCallerWith (who : Caller) : Type 0 where
+  pub caller : IsCaller who
+  pub refused : HasRefused who
+
+-- is one still
+pub caller_on : (who : Caller) (seat : SeatFace) → IsCaller who → HasRefused who
+    → IsLaterView who.seat.view seat.view → IsCallerWith (record who { seat = seat })
+caller_on who seat c refused l =
     let v = who.seat.view in
     let w = seat.view in
     let lawful = lawful_behind v w l in
     let later : Later (CallerOf who.number) v.log w.log =
-    subst (λ x. Later x v.log w.log) p.caller.mine l.later in
+    subst (λ x. Later x v.log w.log) c.mine l.later in
     let it = caller_later v.start v.words v.log w.log who.number (spares_of who) lawful later record {
-      rows = p.caller.rows;
-      builds = p.caller.builds;
+      rows = c.rows;
+      builds = c.builds;
     } in
     let now_is : state_of v.start v.words w.log ≡ now w =
     ap₂ (λ q n. state_of q n w.log) (sym l.start_is) (sym l.words_is) in
@@ -56,10 +62,10 @@ pass_later who seat p l none =
     (map (λ (h : HeldRow). h.size) (filter (λ (h : HeldRow). not (is_spare (spares_of who) h.base)) held)))
     (sym (held_by_later v.start v.words who.number v.log w.log lawful.enabled later))
     (all_stuck_on (now v) (state_of v.start v.words w.log)
-    (comes_behind v.start v.words who.number v.log w.log lawful later) _ p.refused) in
+    (comes_behind v.start v.words who.number v.log w.log lawful later) _ refused) in
     record {
       caller = record {
-        mine = l.who_is ∙ p.caller.mine;
+        mine = l.who_is ∙ c.mine;
         rows = there.rows;
         builds = there.builds;
       };
@@ -67,13 +73,36 @@ pass_later who seat p l none =
           (map (λ (h : HeldRow). h.size)
           (filter (λ (h : HeldRow). not (is_spare (spares_of who) h.base))
           (filter (λ (h : HeldRow). h.caller == who.number) t.held)))) now_is stuck;
-      in_none = none;
+    }
+
+-- a caller in no call is a pass still
+pub pass_later : (who : Caller) (seat : SeatFace) → IsPass who
+    → IsLaterView who.seat.view seat.view → seat.view.pending ≡ None
+    → IsPass (record who { seat = seat })
+pass_later who seat p l none =
+    let it = caller_on who seat p.caller p.refused l in
+    record { caller = it.caller; refused = it.refused; in_none = none }
+
+-- and what it has settled is so still
+pub pass_with_later : (who : Caller) (seat : SeatFace) (refused : Option Full)
+    → IsPassWith who refused → IsLaterView who.seat.view seat.view → seat.view.pending ≡ None
+    → IsPassWith (record who { seat = seat }) refused
+pass_with_later who seat refused p l none =
+    let v = who.seat.view in
+    let w = seat.view in
+    record {
+      pass = pass_later who seat p.pass l none;
+      settled = λ unrefused.
+          subst (λ pairs. HasSettled pairs w.words w.log who.number) (sym l.start_is)
+          (subst (λ words. HasSettled v.start words w.log who.number) (sym l.words_is)
+          (settled_later v.start v.words v.log w.log (lawful_behind v w l) who.number
+          (subst (λ x. Later x v.log w.log) p.pass.caller.mine l.later) (p.settled unrefused)));
     }
 
 -- ---- one table
 
 -- the seat of a pass is of the table of its tree
-pub table_is : (who : Caller) (p : PassFace) (t u : TreeFace) → pass_face who ≡ p → p.tree ≡ t
-    → u ≡ t → who.seat.table ≡ u.table
-table_is who p t u view same tree =
+pub table_is : (who : Caller) (refused : Option Full) (p : PassFace) (t u : TreeFace)
+    → pass_face who refused ≡ p → p.tree ≡ t → u ≡ t → who.seat.table ≡ u.table
+table_is who refused p t u view same tree =
     ap (λ (x : PassFace). x.tree.table) view ∙ ap (λ (x : TreeFace). x.table) (same ∙ sym tree)

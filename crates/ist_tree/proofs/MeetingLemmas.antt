@@ -1,5 +1,6 @@
 -- A pass meets a note. Serves `meet`.
-use Rattle.std.proofs.Common.{◌≡◌, ℕ, max, [], ◌∷◌, None, refl, sym, ap, ap₂, ◌∙◌, subst, arith}
+use Rattle.std.proofs.Common.{◌≡◌, ℕ, max, [], ◌∷◌, Option, None, refl, sym, ap, ap₂, ◌∙◌, subst, arith}
+use Rattle.ist_core.specs.declared.ports.Full.{Full}
 use Rattle.ist_core.specs.Logs.{same_log}
 use Rattle.ist_core.specs.Lawful.{Lawful}
 use Rattle.ist_core.specs.Standing.{StandsIn}
@@ -17,17 +18,18 @@ use Rattle.ist_rule.proofs.LaterLemmas.{later-goes_on}
 use Rattle.ist_rows.specs.declared.callers.Caller.{Caller}
 use Rattle.ist_tree.specs.Faces.{TreeFace, PassFace, calls_in, HasItsCalls}
 use Rattle.ist_tree.specs.Calls.{HasSeenMore, HasLearnt, WeavesWith}
-use Rattle.ist_tree.specs.Insides.{tree_of, face_as, pass_face, note_face, noted_number, IsPass, IsNote}
+use Rattle.ist_tree.specs.Insides.{tree_of, face_as, pass_face, note_face, noted_number, IsPassWith, IsNote}
 use Rattle.ist_tree.proofs.BetweenLemmas.{has_its_calls}
-use Rattle.ist_tree.proofs.GoingLemmas.{IsLaterView, pass_later}
+use Rattle.ist_tree.proofs.GoingLemmas.{IsLaterView, pass_with_later}
 
 -- what a meeting comes to, for a pass and a note that contracts saw so
-pub record MeetEnds (old note : PassFace) (who : Caller) (seat : SeatFace) : Type 0 where
-  pub pass : IsPass (record who { seat = seat })
-  pub seen : HasSeenMore old (face_as seat who.number)
+pub record MeetEnds (old note : PassFace) (who : Caller) (refused : Option Full) (seat : SeatFace)
+    : Type 0 where
+  pub pass : IsPassWith (record who { seat = seat }) refused
+  pub seen : HasSeenMore old (face_as seat who.number refused)
   pub calls : seat.view.calls ≡ old.calls
-  pub learnt : HasLearnt (face_as seat who.number) note
-  pub woven : WeavesWith (face_as seat who.number) note
+  pub learnt : HasLearnt (face_as seat who.number refused) note
+  pub woven : WeavesWith (face_as seat who.number refused) note
 
 -- two passes of one tree of which each has its calls are woven where one has seen what the other had
 weaves : (p other : PassFace) → Lawful p.tree.start p.tree.words p.seen → HasItsCalls p
@@ -56,7 +58,8 @@ weaves p other lawful mine theirs learnt =
     )
 
 -- the seat took in a note
-module _ (who : Caller) (n seat : SeatFace) (p : IsPass who) (note : IsNote n.view) (word : ℕ)
+module _ (who : Caller) (n seat : SeatFace) (refused : Option Full)
+    (p : IsPassWith who refused) (note : IsNote n.view) (word : ℕ)
     (same_table : seat.table ≡ who.seat.table)
     (l : Looked (joined who.seat.view n.view) 0 word seat.view)
     (later : Later who.seat.view.who who.seat.view.log seat.view.log)
@@ -86,9 +89,9 @@ module _ (who : Caller) (n seat : SeatFace) (p : IsPass who) (note : IsNote n.vi
       ap₂ (λ t (y : View). record { table = t; start = y.start; words = y.words }) same_table x_is
 
   none : x.pending ≡ None
-  none = ap (λ (y : View). y.pending) x_is ∙ p.in_none
+  none = ap (λ (y : View). y.pending) x_is ∙ p.pass.in_none
 
-  learns : HasLearnt (face_as seat who.number) (note_face n)
+  learns : HasLearnt (face_as seat who.number refused) (note_face n)
   learns =
       let up : x.stamp ≡ max v.stamp n.view.stamp = ap (λ (y : View). y.stamp) x_is in
       record {
@@ -97,19 +100,19 @@ module _ (who : Caller) (n seat : SeatFace) (p : IsPass who) (note : IsNote n.vi
         stamp = omega arith;
       }
 
-  mine : HasItsCalls (face_as seat who.number)
-  mine = has_its_calls x who.number l.sound (later_view.who_is ∙ p.caller.mine) none
+  mine : HasItsCalls (face_as seat who.number refused)
+  mine = has_its_calls x who.number l.sound (later_view.who_is ∙ p.pass.caller.mine) none
 
   theirs : HasItsCalls (note_face n)
   theirs =
       subst (λ number. HasCalls n.view.start n.view.words n.view.log number n.view.stamp n.view.calls)
       (sym (ap noted_number note.of_pass)) note.calls
 
-  meet_here : MeetEnds (pass_face who) (note_face n) who seat
+  meet_here : MeetEnds (pass_face who refused) (note_face n) who refused seat
   meet_here =
       let up : x.stamp ≡ max v.stamp n.view.stamp = ap (λ (y : View). y.stamp) x_is in
       record {
-        pass = pass_later who seat p later_view none;
+        pass = pass_with_later who seat refused p later_view none;
         seen = record {
           tree = tree_same;
           number = refl;
@@ -118,12 +121,12 @@ module _ (who : Caller) (n seat : SeatFace) (p : IsPass who) (note : IsNote n.vi
         };
         calls = ap (λ (y : View). y.calls) x_is;
         learnt = learns;
-        woven = weaves (face_as seat who.number) (note_face n) l.sound.lawful mine theirs learns;
+        woven = weaves (face_as seat who.number refused) (note_face n) l.sound.lawful mine theirs learns;
       }
 
   -- all of this together
-  pub meet_ends : (old other : PassFace) → pass_face who ≡ old → note_face n ≡ other
-      → MeetEnds old other who seat
+  pub meet_ends : (old other : PassFace) → pass_face who refused ≡ old → note_face n ≡ other
+      → MeetEnds old other who refused seat
   meet_ends old other as_old as_other =
-      subst (λ (o : PassFace). MeetEnds o other who seat) as_old
-      (subst (λ (o : PassFace). MeetEnds (pass_face who) o who seat) as_other meet_here)
+      subst (λ (o : PassFace). MeetEnds o other who refused seat) as_old
+      (subst (λ (o : PassFace). MeetEnds (pass_face who refused) o who refused seat) as_other meet_here)

@@ -1,21 +1,26 @@
 -- New passes and notes. Serves `pass` and `note`.
-use Rattle.std.proofs.Common.{◌≡◌, ℕ, ◌&&◌, not, false, if◌then◌else◌, List, [], map, filter, Some, None, refl, sym, ap, ◌∙◌, subst, nat_lt}
+use Rattle.std.proofs.Common.{◌≡◌, ℕ, ◌&&◌, ◌||◌, not, Bool, true, false, if◌then◌else◌, List, [], ◌∷◌, map, filter, is_some, Option, Some, None, refl, sym, ap, ◌∙◌, subst, nat_lt}
 use Rattle.ist_core.specs.declared.lists.HeldRow.{HeldRow}
+use Rattle.ist_core.specs.declared.ports.Full.{Full}
+use Rattle.ist_core.specs.Elements.{Each}
 use Rattle.ist_core.specs.Logs.{GoesOn, one_event}
 use Rattle.ist_core.specs.declared.events.Event.TheVariants.{Enter}
+use Rattle.ist_rule.specs.declared.view.Taken.{Taken}
 use Rattle.ist_rule.specs.declared.view.View.{View}
 use Rattle.ist_rule.specs.declared.view.Who.{Who}
-use Rattle.ist_rule.specs.declared.view.Who.TheVariants.{Caller as CallerOf, Note}
+use Rattle.ist_rule.specs.declared.view.Who.TheVariants.{Maker, Caller as CallerOf, Note}
+use Rattle.ist_rule.specs.Authors.{IsIdleIn}
 use Rattle.ist_rule.specs.Rule.{IsSound}
-use Rattle.ist_rule.specs.Learning.{now}
-use Rattle.ist_rule.specs.Seating.{awaits_seat, is_maker, noted_by, plain, split_right}
+use Rattle.ist_rule.specs.Learning.{now, Looked}
+use Rattle.ist_rule.specs.Seating.{awaits_seat, is_maker, joined, noted_by, plain, split_right, with_taken}
 use Rattle.ist_rule.proofs.LaterLemmas.{later-goes_on}
 use Rattle.ist_rows.specs.declared.callers.Caller.{Caller}
 use Rattle.ist_rows.specs.Rows.{spares_of, is_spare, held_by, IsCaller}
 use Rattle.ist_rows.specs.Building.{AreStuck, none_stuck}
 use Rattle.ist_rows.specs.Entering.{HasEntered}
-use Rattle.ist_tree.specs.Insides.{IsPass, IsNote}
+use Rattle.ist_tree.specs.Insides.{IsPass, IsPassWith, IsMakerWith, HasSettled, IsNote}
 use Rattle.ist_tree.proofs.BetweenLemmas.{has_its_calls}
+use Rattle.ist_tree.proofs.SettlingLemmas.{idle_settled}
 
 -- a caller that holds no row has no build that goes on
 pub new_pass : (who : Caller) → IsCaller who → held_by (now who.seat.view) who.number ≡ []
@@ -30,12 +35,73 @@ new_pass who c holds none =
       in_none = none;
     }
 
+-- and none that it started or made due
+pub new_pass_with : (who : Caller) → IsCaller who → held_by (now who.seat.view) who.number ≡ []
+    → who.seat.view.pending ≡ None → IsSound who.seat.view
+    → IsIdleIn (CallerOf who.number) who.seat.view.log → IsPassWith who None
+new_pass_with who c holds none s idle =
+    record {
+      pass = new_pass who c holds none;
+      settled = λ unrefused.
+          idle_settled who.seat.view.start who.seat.view.words who.seat.view.log s.lawful who.number
+          idle;
+    }
+
 -- the maker that entered a caller has seen what it had seen
 pub entered_goes_on : (v : View) (number : ℕ) (w : View) → HasEntered v number w
     → GoesOn v.log w.log
 entered_goes_on v number w h =
     subst (GoesOn v.log) (sym (ap (λ (x : View). x.log) h.view))
     (one_event (Enter number) (later-goes_on h.later))
+
+-- and keeps the passes that it took back
+pub entered_maker : (v : View) (number : ℕ) (w : View) (refused : Bool) → HasEntered v number w
+    → w.who ≡ Maker → w.given ≡ w.made → IsMakerWith v refused → IsMakerWith w refused
+entered_maker v number w refused h maker given m =
+    record {
+      maker = record { maker = maker; given = given };
+      settled = λ unrefused.
+          subst (λ (x : View). Each (λ (t : Taken). HasSettled x.start x.words t.log t.number) x.taken)
+          (sym h.view) (m.settled unrefused);
+    }
+
+-- ---- passes that come back
+
+-- a pass that met no refused rebuild, or none is kept of
+none_refused : (a : Bool) (r : Option Full) → (a || is_some r) ≡ false → (a ≡ false) × (r ≡ None)
+none_refused false None e = (refl, refl)
+none_refused false (Some full) e = absurd (cc)
+none_refused true r e = absurd (cc)
+
+-- the maker that took it back keeps that all of its own is settled
+pub taken_back : (v w x : View) (number word : ℕ) (before : Bool) (refused : Option Full)
+    → IsMakerWith v before → w.who ≡ CallerOf number
+    → (refused ≡ None → HasSettled w.start w.words w.log number)
+    → w.start ≡ v.start → w.words ≡ v.words → Looked (joined v w) 0 word x
+    → IsMakerWith x (before || is_some refused)
+taken_back v w x number word before refused m mine its start_is words_is l =
+    let who_is = ap (λ (y : View). y.who) l.view in
+    let taken_is : x.taken
+    ≡ record { number = number; calls = w.calls; log = w.log } ∷ v.taken =
+    ap (λ (y : View). y.taken) l.view ∙ ap (λ k. with_taken k w.calls w.log v.taken) mine in
+    record {
+      maker = record {
+        maker = who_is ∙ m.maker.maker;
+        given = ap (λ (y : View). y.given) l.view ∙ m.maker.given
+            ∙ sym (ap (λ (y : View). y.made) l.view);
+      };
+      settled = λ unrefused.
+          let both = none_refused before refused unrefused in
+          subst (λ (y : View). Each (λ (t : Taken). HasSettled y.start y.words t.log t.number) x.taken)
+          (sym l.view)
+          (subst (Each (λ (t : Taken). HasSettled v.start v.words t.log t.number)) (sym taken_is) (
+            subst (λ pairs. HasSettled pairs v.words w.log number) start_is
+                (subst (λ words. HasSettled w.start words w.log number) words_is (its both.1)),
+            m.settled both.0,
+          ));
+    }
+
+-- ---- notes
 
 -- no caller waits for its seat in the view of one
 awaits_none : (v : View) (number : ℕ) → v.who ≡ CallerOf number → awaits_seat v ≡ false

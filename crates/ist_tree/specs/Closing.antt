@@ -1,12 +1,13 @@
 -- A tree that is closed: what its words stand for.
-use Rattle.std.specs.Prelude.{◌≡◌, ℕ, ◌+◌, ◌<◌, ◌==◌, if◌then◌else◌, List, [], ◌∷◌, map, length, zero, suc}
+use Rattle.std.specs.Prelude.{◌≡◌, ℕ, ◌+◌, ◌<◌, ◌==◌, false, if◌then◌else◌, List, [], ◌∷◌, map, length, zero, suc}
 use Rattle.ist_core.specs.declared.calls.Call.{Call}
 use Rattle.ist_core.specs.Elements.{Each}
 use Rattle.ist_core.specs.Logs.{GoesOn}
 use Rattle.ist_core.specs.Changes.{changes_of}
 use Rattle.ist_core.specs.Histories.{PassCalls}
 use Rattle.ist_core.specs.Replies.{Answered}
-use Rattle.ist_core.specs.Resting.{StandsFor, told_by_call}
+use Rattle.ist_core.specs.Lawful.{state_of}
+use Rattle.ist_core.specs.Resting.{StandsFor, IsSettled, told_by_call}
 use Rattle.ist_tree.specs.Faces.{MakerFace}
 
 -- the calls of the pass with this number, if it is one of these
@@ -31,10 +32,11 @@ told_to m = map (map told_by_call) (calls_taken m)
 
 -- the words stand for the opening pairs and the calls of each pass by its number; and the changes of
 -- the final log, which goes on from what the maker had seen, are the changing calls of these passes
--- and no others
+-- and no others. Where no pass had met a refused rebuild, its state is settled
 pub record ClosesWith (m : MakerFace) (words : List ℕ) : Type 0 where
   pub stands : StandsFor words m.tree.start (told_to m)
   pub calls_are : stands.calls ≡ calls_taken m
   pub goes_on : GoesOn m.seen stands.log
   pub owners : Each (λ entry. entry.owner < m.made)
       (changes_of m.tree.start (length words) stands.log)
+  pub settled : m.refused ≡ false → IsSettled (state_of m.tree.start (length words) stands.log)

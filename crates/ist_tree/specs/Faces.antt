@@ -1,11 +1,13 @@
 -- A tree, its passes, notes and maker, as contracts see them.
-use Rattle.std.specs.Prelude.{ℕ, List}
+use Rattle.std.specs.Prelude.{ℕ, Bool, List, Option, None}
 use Rattle.atomic_table.specs.Seated.{TableId}
 use Rattle.ist_core.specs.declared.calls.Call.{Call}
 use Rattle.ist_core.specs.declared.pairs.Pair.{Pair}
+use Rattle.ist_core.specs.declared.ports.Full.{Full}
 use Rattle.ist_core.specs.Logs.{Log}
 use Rattle.ist_core.specs.Changes.{Entry, changes_of}
 use Rattle.ist_core.specs.Histories.{PassCalls}
+use Rattle.ist_core.specs.Replies.{Refused}
 use Rattle.ist_histories.specs.Calls.{HasCalls}
 
 -- a tree: which one it is, the pairs that it was opened with, and how many words it has
@@ -15,7 +17,8 @@ pub record TreeFace : Type 0 where
   pub words : ℕ
 
 -- a pass, or what a note keeps of one: its tree and its number, the log that it has seen, its stamp,
--- and the calls that it was answered, the oldest first. `loaded` counts its loads
+-- and the calls that it was answered, the oldest first. `loaded` counts its loads, and `refused` is
+-- the first refusal of a rebuild that one of its calls met behind its own change
 pub record PassFace : Type 0 where
   pub tree : TreeFace
   pub number : ℕ
@@ -23,15 +26,22 @@ pub record PassFace : Type 0 where
   pub stamp : ℕ
   pub calls : List Call
   pub loaded : ℕ
+  pub refused : Option Full
 
 -- a maker: its tree, how many passes it made, the log that it has seen, its stamp, and the passes
--- that it took back, the last first
+-- that it took back, the last first. `refused` tells that one of these had met a refused rebuild
 pub record MakerFace : Type 0 where
   pub tree : TreeFace
   pub made : ℕ
   pub seen : Log
   pub stamp : ℕ
   pub taken : List PassCalls
+  pub refused : Bool
+
+-- a port: its pass, and what it was refused last, if it was
+pub record PortFace : Type 0 where
+  pub pass : PassFace
+  pub refused : Option Refused
 
 -- the changes of the map that a pass has seen, the oldest first
 abbrev pub changes_seen : PassFace → List Entry
@@ -45,6 +55,6 @@ calls_in p = record { number = p.number; calls = p.calls }
 abbrev pub HasItsCalls : PassFace → Type 0
 HasItsCalls p = HasCalls p.tree.start p.tree.words p.seen p.number p.stamp p.calls
 
--- what a note of a pass keeps: all that the pass knew, but none of its loads
+-- what a note of a pass keeps: all that the pass knew, but none of its loads and refusals
 abbrev pub noted : PassFace → PassFace
-noted p = record p { loaded = 0 }
+noted p = record p { loaded = 0; refused = None }

@@ -1,7 +1,17 @@
 -- What the tokens of a tree are inside: which seat each has, and what of it contracts see.
-use Rattle.std.specs.Prelude.{◌≡◌, ℕ, map, Some, None}
+use Rattle.std.specs.Prelude.{◌≡◌, ℕ, Bool, false, List, map, Option, Some, None, IfSome}
+use Rattle.ist_core.specs.declared.commands.Command.{Command}
+use Rattle.ist_core.specs.declared.pairs.Pair.{Pair}
+use Rattle.ist_core.specs.declared.ports.Full.{Full}
+use Rattle.ist_core.specs.Deciding.{AllResolvedOf}
+use Rattle.ist_core.specs.Elements.{Each}
 use Rattle.ist_core.specs.Histories.{PassCalls}
+use Rattle.ist_core.specs.Lawful.{state_of}
+use Rattle.ist_core.specs.Logs.{Log}
+use Rattle.ist_core.specs.Replies.{Refused, refusal}
+use Rattle.ist_core.specs.StartLayout.{start}
 use Rattle.ist_histories.specs.Calls.{HasCalls}
+use Rattle.ist_settling.specs.Settling.{StartsAreDone, DueRowsAreClosed}
 use Rattle.ist_rule.specs.declared.view.View.{View}
 use Rattle.ist_rule.specs.declared.view.Taken.{Taken}
 use Rattle.ist_rule.specs.declared.view.Who.{Who}
@@ -11,14 +21,15 @@ use Rattle.ist_rows.specs.declared.callers.Caller.{Caller}
 use Rattle.ist_rows.specs.Rows.{IsCaller}
 use Rattle.ist_rows.specs.Building.{HasRefused}
 use Rattle.ist_tree.specs.Faces.{TreeFace, PassFace, MakerFace}
+use Rattle.ist_tree.specs.Refusals.{WasRefused}
 
 -- the tree that a seat is of
 abbrev pub tree_of : SeatFace → TreeFace
 tree_of s = record { table = s.table; start = s.view.start; words = s.view.words }
 
--- what a seat knows as that of the pass with this number
-abbrev pub face_as : SeatFace → ℕ → PassFace
-face_as s number =
+-- what a seat knows as that of the pass with this number, which met this refusal
+abbrev pub face_as : SeatFace → ℕ → Option Full → PassFace
+face_as s number refused =
     record {
       tree = tree_of s;
       number = number;
@@ -26,11 +37,23 @@ face_as s number =
       stamp = s.view.stamp;
       calls = s.view.calls;
       loaded = s.view.loaded;
+      refused = refused;
     }
 
--- what a caller knows as a pass
-abbrev pub pass_face : Caller → PassFace
+-- what a caller knows as a pass, which met this refusal
+abbrev pub pass_face : Caller → Option Full → PassFace
 pass_face who = face_as who.seat who.number
+
+-- ---- what is settled
+
+-- of the caller's own: each change is resolved, each start that was decided yes is done, and each row
+-- that it made due has a row on its chain that isn't open
+pub record HasSettled (pairs : List Pair) (words : ℕ) (log : Log) (number : ℕ) : Type 0 where
+  pub resolved : AllResolvedOf (state_of pairs words log) log number
+  pub starts : StartsAreDone (state_of pairs words log) number
+  pub due : DueRowsAreClosed (start pairs words) log number
+
+-- ---- passes and notes
 
 -- the caller may be that of a pass: it is in no call, and each build that it holds rows of was
 -- refused
@@ -39,6 +62,12 @@ pub record IsPass (who : Caller) : Type 0 where
   pub refused : HasRefused who
   pub in_none : who.seat.view.pending ≡ None
 
+-- and where it met no refused rebuild, all of its own is settled
+pub record IsPassWith (who : Caller) (refused : Option Full) : Type 0 where
+  pub pass : IsPass who
+  pub settled : refused ≡ None
+      → HasSettled who.seat.view.start who.seat.view.words who.seat.view.log who.number
+
 -- the number of the pass of which a seat is a note
 abbrev pub noted_number : Who → ℕ
 noted_number (Note (Some number)) = number
@@ -46,7 +75,7 @@ noted_number _ = 0
 
 -- what a note's seat keeps of its pass
 abbrev pub note_face : SeatFace → PassFace
-note_face s = face_as s (noted_number s.view.who)
+note_face s = face_as s (noted_number s.view.who) None
 
 -- the seat is a note of a pass, in no call, and the calls that it keeps stand in its log
 pub record IsNote (v : View) : Type 0 where
@@ -59,18 +88,36 @@ pub record IsNote (v : View) : Type 0 where
 abbrev pub taken_pass : Taken → PassCalls
 taken_pass t = record { number = t.number; calls = t.calls }
 
--- what a maker's seat knows
-abbrev pub maker_face : SeatFace → MakerFace
-maker_face s =
+-- what a maker's seat knows, and whether a pass that it took back had met a refused rebuild
+abbrev pub maker_face : SeatFace → Bool → MakerFace
+maker_face s refused =
     record {
       tree = tree_of s;
       made = s.view.made;
       seen = s.view.log;
       stamp = s.view.stamp;
       taken = map taken_pass s.view.taken;
+      refused = refused;
     }
 
 -- the seat is the maker's, and each caller that it entered has its seat
 pub record IsMaker (v : View) : Type 0 where
   pub maker : v.who ≡ Maker
   pub given : v.given ≡ v.made
+
+-- and where no pass that was taken back had met a refused rebuild, all of the own of each was settled
+pub record IsMakerWith (v : View) (refused : Bool) : Type 0 where
+  pub maker : IsMaker v
+  pub settled : refused ≡ false
+      → Each (λ t. HasSettled v.start v.words t.log t.number) v.taken
+
+-- ---- ports
+
+-- the command that was refused, with its numbers
+abbrev pub refusal_in : Command × Full → Refused
+refusal_in said = refusal said.0 said.1
+
+-- the port's pass is of its tree, and its last refusal is one of this pass
+pub record IsPort (tree : TreeFace) (pass : PassFace) (refused : Option Refused) : Type 0 where
+  pub same_tree : pass.tree ≡ tree
+  pub cause : IfSome refused (WasRefused pass)

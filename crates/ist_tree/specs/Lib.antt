@@ -2,6 +2,10 @@
 pub mod Faces
 pub mod Opening
 pub mod Calls
+pub mod Refusals
+pub mod DueRows
 pub mod Closing
 -- what the tokens of a tree are inside
 pub mod Insides
+-- what the functions inside this crate promise each other
+pub mod Working

@@ -1,5 +1,5 @@
 -- A tree that is opened, and why one isn't.
-use Rattle.std.specs.Prelude.{◌≡◌, ℕ, ◌+◌, ◌<◌, ◌≤◌, List, [], length}
+use Rattle.std.specs.Prelude.{◌≡◌, ℕ, ◌+◌, ◌<◌, ◌≤◌, false, List, [], length}
 use Rattle.ist_core.specs.declared.pairs.Pair.{Pair}
 use Rattle.ist_core.specs.RowLayout.{first_row}
 use Rattle.ist_core.specs.Shapes.{ideal_words}
@@ -23,6 +23,7 @@ pub record IsNewTree (words : ℕ) (pairs : List Pair) (tree : TreeFace) (maker 
   pub seen : maker.seen ≡ []
   pub stamp : maker.stamp ≡ 0
   pub taken : maker.taken ≡ []
+  pub unrefused : maker.refused ≡ false
 
 -- the fault is `Small`, with both numbers, where there are too few words, and `Memory` only where
 -- there are enough

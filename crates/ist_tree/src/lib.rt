@@ -1,15 +1,20 @@
 //! The tree: an ordered map that threads share, each by a pass of its own, without a lock.
 //!
 //! Read `README.md`, then `specs/Faces.antt` and `specs/Calls.antt`, then `trees.rt`. Stands on
-//! `ist_rule`, `ist_rows`, `ist_find` and `ist_rest`, and on the crates of laws below them.
+//! `ist_rule`, `ist_rows`, `ist_find`, `ist_updates`, `ist_rebuild` and `ist_rest`, and on the crates of
+//! laws below them.
 #![tactic(auto)]
 
 mod faults;
 mod passes;
+mod ports;
+mod rebuilding;
 mod trees;
+mod updating;
 
 pub use faults::OpenFault;
 pub use passes::{Maker, Note, Pass};
+pub use ports::TreePort;
 pub use trees::Tree;
 
 #[cfg(test)]

@@ -1,47 +1,51 @@
 //! The tokens by which threads share a tree: the maker of passes, a pass, a note.
 ghost use Rattle.std.specs.Prelude.{◌≡◌};
 
+use ist_core::Full;
 use ist_rows::Caller;
 use ist_rule::TreeSeat;
 use std::marker::Model;
 
 /// The one that makes passes, takes them back, and closes the tree.
 ///
-/// Contracts see its tree, how many passes it made, what it has seen, and the calls of each pass
-/// that it took back.
+/// Contracts see its tree, how many passes it made, what it has seen, the calls of each pass that it
+/// took back, and whether one of these had met a refused rebuild.
 #[derive(Drop)]
 pub struct Maker {
     pub(crate) seat: TreeSeat,
+    pub(crate) refused: bool,
 }
 
 impl Model for Maker {
     ghost use Rattle.ist_tree.specs.Faces.{MakerFace};
-    ghost use Rattle.ist_tree.specs.Insides.{maker_face, IsMaker};
+    ghost use Rattle.ist_tree.specs.Insides.{maker_face, IsMakerWith};
 
     ghost Value = { MakerFace };
 
-    ghost view = { λ m. maker_face m.seat };
+    ghost view = { λ m. maker_face m.seat m.refused };
 
-    ghost invariant = { λ m. IsMaker m.seat.view };
+    ghost invariant = { λ m. IsMakerWith m.seat.view m.refused };
 }
 
 /// What one thread calls the tree by.
 ///
-/// Contracts see its tree and its number, what it has seen, and its calls.
+/// Contracts see its tree and its number, what it has seen, its calls, and the first refusal of a
+/// rebuild that it met.
 #[derive(Drop)]
 pub struct Pass {
     pub(crate) caller: Caller,
+    pub(crate) refused: Option<Full>,
 }
 
 impl Model for Pass {
     ghost use Rattle.ist_tree.specs.Faces.{PassFace};
-    ghost use Rattle.ist_tree.specs.Insides.{pass_face, IsPass};
+    ghost use Rattle.ist_tree.specs.Insides.{pass_face, IsPassWith};
 
     ghost Value = { PassFace };
 
-    ghost view = { λ p. pass_face p.caller };
+    ghost view = { λ p. pass_face p.caller p.refused };
 
-    ghost invariant = { λ p. IsPass p.caller };
+    ghost invariant = { λ p. IsPassWith p.caller p.refused };
 }
 
 impl Pass {
@@ -50,6 +54,14 @@ impl Pass {
         ensures value { result ≡ self.now.number }
     {
         u64::from(self.caller.number)
+    }
+
+    /// The first `Full` of a rebuild that a put or remove of this pass met after its own change had
+    /// taken effect, if one did.
+    pub fn rebuild_refused(&self) -> Option<Full>
+        ensures value { result ≡ self.now.refused }
+    {
+        self.refused
     }
 }
 

@@ -1,19 +1,24 @@
 //! The tree and its calls.
-ghost use Rattle.std.specs.Prelude.{◌≡◌, ◌+◌, ◌^◌, ◌<◌, ◌≤◌, [], ◌∷◌, length, map, IfOk, IfErr};
+ghost use Rattle.std.specs.Prelude.{◌≡◌, ◌+◌, ◌^◌, ◌<◌, ◌≤◌, ◌||◌, true, [], ◌∷◌, length, map, is_some};
+ghost use Rattle.std.specs.Prelude.{Some, None, IfOk, IfErr, OnOk, OnErr};
 ghost use Rattle.std.specs.List.Sorted.{IsStrictlyIncreasing};
 ghost use Rattle.ist_core.specs.RowLayout.{place_limit};
-ghost use Rattle.ist_core.specs.declared.commands.Command.TheVariants.{Get};
+ghost use Rattle.ist_core.specs.declared.commands.Command.TheVariants.{Get, Put, Remove};
 ghost use Rattle.ist_core.specs.Enabled.{caller_limit};
 ghost use Rattle.ist_core.specs.Logs.{GoesOn};
+ghost use Rattle.ist_core.specs.Standing.{makes_entry};
 ghost use Rattle.ist_histories.specs.Searching.{HasPosition};
 ghost use Rattle.ist_tree.specs.Faces.{noted, calls_in};
 ghost use Rattle.ist_tree.specs.Calls.{HasSeenMore, HasLearnt, AddsCall, WeavesWith, HasLoadedFew};
 ghost use Rattle.ist_tree.specs.Closing.{ClosesWith};
+ghost use Rattle.ist_tree.specs.DueRows.{HasCounted, LeavesNoneDue};
 ghost use Rattle.ist_tree.specs.Opening.{IsNewTree, IsFaultOf};
+ghost use Rattle.ist_tree.specs.Refusals.{IsRefused, KeepsRefusal};
 
 use crate::faults::OpenFault;
 use crate::passes::{Maker, Note, Pass};
-use ist_core::{Command, Pair, Reply};
+use crate::updating::update;
+use ist_core::{Command, Full, Pair, Reply};
 use ist_find::find_from_anchor;
 use ist_image::{Image, needed_words};
 use ist_rest::Closed;
@@ -21,6 +26,7 @@ use ist_rows::{Caller, enter};
 use ist_rule::{TreeTable, begin_call, close, end_call, join, know, open_table_over, split};
 use std::alloc::Global;
 use std::marker::Model;
+use std::sync::Wait;
 
 /// An ordered map from `u64` keys to `u64` values that threads share.
 ///
@@ -77,7 +83,13 @@ impl Tree {
         image.lay(words, pairs)?;
         let (table, seat) = open_table_over(alloc, image.words().as_slice(), &kept)?;
         know(&seat);
-        Ok((Tree { table }, Maker { seat }))
+        Ok((
+            Tree { table },
+            Maker {
+                seat,
+                refused: false,
+            },
+        ))
     }
 
     /// The next pass. It has seen what the maker has seen, and has made no call.
@@ -88,18 +100,24 @@ impl Tree {
         ensures number { result.number ≡ maker.old.made }
         ensures no_calls { result.calls ≡ [] }
         ensures seen { (result.seen ≡ maker.new.seen) × (result.stamp ≡ maker.new.stamp) }
+        ensures unrefused { result.refused ≡ None }
         ensures same_tree { maker.new.tree ≡ maker.old.tree }
         ensures made { maker.new.made ≡ maker.old.made + 1 }
         ensures taken { maker.new.taken ≡ maker.old.taken }
         ensures maker_seen { GoesOn maker.old.seen maker.new.seen }
         ensures stamp { maker.new.stamp ≡ maker.old.stamp }
+        ensures refused { maker.new.refused ≡ maker.old.refused }
     {
         let caller = enter(&self.table, &mut maker.seat);
-        Pass { caller }
+        know(&caller.seat);
+        Pass {
+            caller,
+            refused: None,
+        }
     }
 
     /// Gives a pass back to its maker, which has then seen what the pass has seen, and keeps its
-    /// calls.
+    /// calls, and whether it had met a refused rebuild.
     pub fn take_back(&self, maker: &mut Maker, pass: Pass)
         requires same_tree { maker.old.tree ≡ self.now }
         requires its_tree { pass.tree ≡ self.now }
@@ -110,10 +128,12 @@ impl Tree {
         ensures stamp { maker.old.stamp ≤ maker.new.stamp }
         ensures pass_seen { GoesOn pass.seen maker.new.seen }
         ensures pass_stamp { pass.stamp ≤ maker.new.stamp }
+        ensures refused { maker.new.refused ≡ (maker.old.refused || is_some pass.refused) }
     {
-        let Pass { caller } = pass;
+        let Pass { caller, refused } = pass;
         let Caller { seat, .. } = caller;
         join(&self.table, &mut maker.seat, seat);
+        maker.refused |= refused.is_some();
     }
 
     /// A note of all that the pass has seen. A note that is dropped is lost, and nothing else changes.
@@ -138,6 +158,7 @@ impl Tree {
         ensures calls { pass.new.calls ≡ pass.old.calls }
         ensures learnt { HasLearnt pass.new note }
         ensures woven { WeavesWith pass.new note }
+        ensures refused { pass.new.refused ≡ pass.old.refused }
     {
         let Note { seat } = note;
         join(&self.table, &mut pass.caller.seat, seat);
@@ -154,6 +175,7 @@ impl Tree {
         ensures value { let tree = pass.old.tree in
             HasPosition tree.start tree.words pass.old.seen pass.new.seen key result }
         ensures loads { HasLoadedFew pass.old pass.new key }
+        ensures refused { pass.new.refused ≡ pass.old.refused }
     {
         let seat = &mut pass.caller.seat;
         know(seat);
@@ -166,9 +188,49 @@ impl Tree {
         found.value
     }
 
+    /// Puts the value at the key, and gives the value that the key had before. Retries while others
+    /// change the same slots, helps what it meets, and takes no memory.
+    ///
+    /// The call is added to those of the pass: the map was changed so in one step, behind all that the
+    /// pass had seen. It counts the change at each node above it; where counts came to their limits, the
+    /// topmost such node is rebuilt. `Full` where the tree had too few words left for a row of the put,
+    /// or for a rebuild on its way: the call didn't happen then. Where only the rebuild behind the
+    /// change met that, the call is answered, and the pass keeps the first such refusal.
+    pub fn put<R: Wait>(&self, rt: &R, pass: &mut Pass, key: u64, value: u64) -> Result<Reply, Full>
+        requires same_tree { pass.old.tree ≡ self.now }
+        ensures seen { HasSeenMore pass.old pass.new }
+        ensures added { IfOk result (λ reply. AddsCall pass.old pass.new (Put key value) reply) }
+        ensures counted { OnOk result (HasCounted pass.old pass.new (Put key value)) }
+        ensures due { OnOk result (LeavesNoneDue pass.old pass.new) }
+        ensures full { IfErr result (λ full. IsRefused pass.old pass.new key (Some value) full) }
+        ensures calls { OnErr result (pass.new.calls ≡ pass.old.calls) }
+        ensures unrefused { OnErr result (pass.new.refused ≡ pass.old.refused) }
+        ensures refused { KeepsRefusal pass.old pass.new }
+    {
+        update(self, rt, pass, key, Some(value))
+    }
+
+    /// Removes the key, and gives the value that it had, if it had one. All else is as with `put`; where
+    /// the key has no value, nothing is changed or counted.
+    pub fn remove<R: Wait>(&self, rt: &R, pass: &mut Pass, key: u64) -> Result<Reply, Full>
+        requires same_tree { pass.old.tree ≡ self.now }
+        ensures seen { HasSeenMore pass.old pass.new }
+        ensures added { IfOk result (λ reply. AddsCall pass.old pass.new (Remove key) reply) }
+        ensures counted { IfOk result (λ reply. makes_entry (Remove key) reply ≡ true
+            → HasCounted pass.old pass.new (Remove key)) }
+        ensures due { OnOk result (LeavesNoneDue pass.old pass.new) }
+        ensures full { IfErr result (λ full. IsRefused pass.old pass.new key None full) }
+        ensures calls { OnErr result (pass.new.calls ≡ pass.old.calls) }
+        ensures unrefused { OnErr result (pass.new.refused ≡ pass.old.refused) }
+        ensures refused { KeepsRefusal pass.old pass.new }
+    {
+        update(self, rt, pass, key, None)
+    }
+
     /// The words after the last call, without a copy. All passes were taken back.
     ///
-    /// They stand for the opening pairs and the calls of each pass by its number.
+    /// They stand for the opening pairs and the calls of each pass by its number. Where no pass had met
+    /// a refused rebuild, each node is open, with a count below its limit.
     pub fn close(self, maker: Maker) -> Closed
         requires same_tree { maker.tree ≡ self }
         requires all_back { length maker.taken ≡ maker.made }
@@ -176,7 +238,7 @@ impl Tree {
         ensures stands { ClosesWith maker result }
     {
         let Tree { table } = self;
-        let Maker { seat } = maker;
+        let Maker { seat, .. } = maker;
         Closed::new(close(table, seat))
     }
 }

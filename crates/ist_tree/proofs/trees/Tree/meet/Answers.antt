@@ -6,9 +6,11 @@ use Rattle.ist_tree.proofs.trees.Tree.meet.Goals as goal
 use Rattle.ist_tree.proofs.trees.Tree.meet.Goals.{After-join}
 
 -- what it comes to
-ends : (c : After-join) → MeetEnds c.args.pass.now c.args.note c.pass.inside.caller c.join.new.seat
+ends : (c : After-join) → MeetEnds c.args.pass.now c.args.note c.pass.inside.caller c.pass.inside.refused
+    c.join.new.seat
 ends c =
-    meet_ends c.pass.inside.caller c.note.inside.seat c.join.new.seat c.pass.invariant
+    meet_ends c.pass.inside.caller c.note.inside.seat c.join.new.seat c.pass.inside.refused
+    c.pass.invariant
     c.note.invariant c.join.ensures.joined.0 c.join.ensures.same_table c.join.ensures.joined.1
     c.join.ensures.later c.join.ensures.other_later
     (ap (λ (p : PassFace). p.tree) c.note.view_is ∙ c.requires.its_tree
@@ -21,4 +23,10 @@ invariant_of-pass c = (ends c).pass
 pub returns : goal.returns
 returns c =
     let e = ends c in
-    record { seen = e.seen; calls = e.calls; learnt = e.learnt; woven = e.woven }
+    record {
+      seen = e.seen;
+      calls = e.calls;
+      learnt = e.learnt;
+      woven = e.woven;
+      refused = ap (λ (p : PassFace). p.refused) c.pass.view_is;
+    }

@@ -2,13 +2,20 @@
 use Rattle.std.proofs.Common.{subst}
 use Rattle.ist_core.specs.Logs.{GoesOn}
 use Rattle.ist_tree.specs.Faces.{MakerFace}
-use Rattle.ist_tree.proofs.TokenLemmas.{new_pass, entered_goes_on}
+use Rattle.ist_tree.proofs.TokenLemmas.{new_pass_with, entered_goes_on, entered_maker}
 use Rattle.ist_tree.proofs.trees.Tree.pass.Goals as goal
 
 pub invariant_of-result : goal.invariant_of-result
 invariant_of-result c =
-    new_pass c.enter-caller.result c.enter-caller.ensures.caller c.enter-caller.ensures.holds_none
-    c.enter-caller.ensures.in_none
+    new_pass_with c.enter-caller.result c.enter-caller.ensures.caller
+    c.enter-caller.ensures.holds_none c.enter-caller.ensures.in_none c.know.ensures.sound
+    c.enter-caller.ensures.idle
+
+pub invariant_of-maker : goal.invariant_of-maker
+invariant_of-maker c =
+    entered_maker c.maker.inside.seat.view _ c.enter-caller.new.maker.view c.maker.inside.refused
+    c.enter-caller.ensures.entered c.enter-caller.ensures.made.0 c.enter-caller.ensures.given
+    c.maker.invariant
 
 pub returns-clause-maker_seen : goal.returns-clause-maker_seen
 returns-clause-maker_seen c =

@@ -1,0 +1,242 @@
+-- What carrying out an update comes to, with the rebuild of the row that it made due. Serves `update`.
+use Rattle.std.proofs.Common.{◌≡◌, ◌≢◌, ℕ, ◌⊎◌, true, List, Option, Some, None, Result, Ok, Err, IfErr, OnOk, sym, ap, ◌∙◌, subst, ⊎_elim}
+use Rattle.std.specs.Result.{result_err}
+use Rattle.ist_core.specs.declared.commands.Command.{Command}
+use Rattle.ist_core.specs.declared.pairs.Pair.{Pair}
+use Rattle.ist_core.specs.declared.ports.Full.{Full}
+use Rattle.ist_core.specs.declared.states.InnerRow.{InnerRow}
+use Rattle.ist_core.specs.Authors.{no_more}
+use Rattle.ist_core.specs.Pieces.{Inner}
+use Rattle.ist_core.specs.Lawful.{Lawful, state_of}
+use Rattle.ist_core.specs.Links.{Chain, IsChild}
+use Rattle.ist_core.specs.Elements.{Among}
+use Rattle.ist_core.specs.Logs.{Ever, GoesOn, Log, same_log}
+use Rattle.ist_core.specs.References.{InnerAt, word_of}
+use Rattle.ist_core.specs.Slots.{SlotHolds, past_rebuild, past_change}
+use Rattle.ist_core.specs.Standing.{makes_entry}
+use Rattle.ist_core.specs.StartLayout.{start}
+use Rattle.ist_core.proofs.ReferenceLemmas.{ref_of-word_of}
+use Rattle.ist_core.proofs.RoomLemmas.{published_good}
+use Rattle.ist_settling.specs.Settling.{DueRowsAreClosed}
+use Rattle.ist_stability.proofs.LaterLemmas.{ever_later}
+use Rattle.ist_rule.specs.declared.view.View.{View}
+use Rattle.ist_rule.specs.declared.view.Who.TheVariants.{Caller as CallerOf}
+use Rattle.ist_rule.specs.Authors.{whose, LaterBy}
+use Rattle.ist_rule.specs.Conditions.{CanGiveUp, IsResolved}
+use Rattle.ist_rule.specs.Going.{WentOn}
+use Rattle.ist_rule.specs.Learning.{now}
+use Rattle.ist_rule.proofs.LaterLemmas.{goes_on_more}
+use Rattle.ist_rule.proofs.WentOnLemmas.{later_by-goes_on, went_all, went_lawful, went_more, went_now}
+use Rattle.ist_rows.specs.declared.callers.Caller.{Caller}
+use Rattle.ist_rows.specs.Building.{HasRefused}
+use Rattle.ist_rows.specs.Rows.{IsCaller}
+use Rattle.ist_rebuild.specs.Going.{IsQuiet}
+use Rattle.ist_updates.specs.declared.updates.Due.{Due}
+use Rattle.ist_updates.specs.Asking.{MayEnd, Updates}
+use Rattle.ist_updates.specs.Counting.{CameToLimit, IsCounted, LeavesDue}
+use Rattle.ist_updates.specs.Refusals.{IsUpdateRefused}
+use Rattle.ist_settling.proofs.DoneLemmas.{others_count_nothing}
+use Rattle.ist_tree.specs.Working.{CarriesOut, IsDueRefused, IsShut, IsTopShut, IsTurnedDown, KeepsDone, LeavesShut, Rebuilds, RebuildsOn, Works, is_shut, none_came, was_refused}
+use Rattle.ist_tree.proofs.CameLemmas.{came_inside, came_within, closed_above, due_since, ever_here}
+use Rattle.ist_tree.proofs.CarryLemmas.{counted_on, may_end_on}
+use Rattle.ist_tree.proofs.DueLemmas.{done_more}
+use Rattle.ist_tree.proofs.EventLemmas.{rebuilds_count_none, rebuilds_work, updates_start_none, updates_work}
+use Rattle.ist_tree.proofs.RebuildLemmas.{starts_went}
+use Rattle.ist_tree.proofs.SettlingLemmas.{else_by}
+
+-- ---- what `apply` tells
+
+-- an update took effect, or found nothing to remove
+pub record Applies (old mid : Caller) (command : Command) (reply : Option ℕ)
+    (of : Option Due) : Type 0 where
+  pub caller : IsCaller mid
+  pub refused : HasRefused mid
+  pub quiet : IsQuiet mid
+  pub number : mid.number ≡ old.number
+  pub went : WentOn Updates old.seat.view mid.seat.view
+  pub may : MayEnd mid command reply
+  pub counted : let v = old.seat.view in makes_entry command reply ≡ true
+      → IsCounted v.start v.words v.log mid.seat.view.log old.number command
+  pub due : LeavesDue old.seat.view mid.seat.view old.number of
+
+-- it starts no rebuild
+applied_done : (old mid : Caller) → old.seat.view.who ≡ CallerOf old.number
+    → IsResolved old.seat.view old.number → WentOn Updates old.seat.view mid.seat.view
+    → KeepsDone old mid
+applied_done old mid mine resolved went =
+    starts_went Updates old.number old.seat.view mid.seat.view mine went
+    (updates_start_none old.number) resolved
+
+-- where no row came to its limit, the rows that were due before are all
+none_due : (old : Caller) (w : View) → WentOn Updates old.seat.view w
+    → ((row : ℕ) → ¬ (CameToLimit old.seat.view.start old.seat.view.words old.seat.view.log w.log
+    old.number row))
+    → DueRowsAreClosed (start old.seat.view.start old.seat.view.words) old.seat.view.log old.number
+    → DueRowsAreClosed (start old.seat.view.start old.seat.view.words) w.log old.number
+none_due old w went came =
+    let v = old.seat.view in
+    due_since v.start v.words old.number v.log w.log (went_lawful Updates v w went)
+    (later_by-goes_on went.later) (λ node c. absurd (came node c))
+
+-- it was carried out, and made no row due
+pub carried_none : (old mid : Caller) (words : ℕ) (command : Command) (reply : Option ℕ)
+    → old.seat.view.who ≡ CallerOf old.number → IsResolved old.seat.view old.number
+    → Applies old mid command reply None → CarriesOut old mid words command reply None
+carried_none old mid words command reply mine resolved a =
+    record {
+      ready = record { caller = a.caller; refused = a.refused; quiet = a.quiet };
+      number = a.number;
+      went = went_all Updates Works updates_work old.seat.view mid.seat.view a.went;
+      may = a.may;
+      counted = a.counted;
+      shut = none_came a.due;
+      starts = λ unrefused. applied_done old mid mine resolved a.went;
+      due = λ unrefused. none_due old mid.seat.view a.went a.due;
+    }
+
+-- it was refused
+pub turned_down : (old new : Caller) (words key : ℕ) (value : Option ℕ) (full : Full)
+    → old.seat.view.who ≡ CallerOf old.number → IsResolved old.seat.view old.number
+    → IsCaller new → HasRefused new → new.number ≡ old.number
+    → WentOn Updates old.seat.view new.seat.view
+    → IsUpdateRefused old.seat.view key value words full new.seat.view → CanGiveUp new.seat.view
+    → LeavesDue old.seat.view new.seat.view old.number None
+    → IsTurnedDown old new words key value full
+turned_down old new words key value full mine resolved c refused number went cause can due =
+    record {
+      caller = c;
+      refused = refused;
+      number = number;
+      went = went_all Updates Works updates_work old.seat.view new.seat.view went;
+      cause = cause;
+      can = can;
+      starts = applied_done old new mine resolved went;
+      due = none_due old new.seat.view went due;
+    }
+
+-- ---- a row was made due
+
+-- a row in whose slot the target stood was its parent
+stood_child : (pairs : List Pair) (words : ℕ) (m log longer : Log) → Lawful pairs words log
+    → GoesOn m log → GoesOn log longer → (parent index target : ℕ) (row : InnerRow)
+    → (state_of pairs words log).pieces target ≡ Some (Inner row)
+    → SlotHolds (state_of pairs words m) parent index (word_of (InnerAt target))
+    → Ever (start pairs words) (λ t. IsChild t parent index target) longer
+stood_child pairs words m log longer l on to parent index target row e holds =
+    let good = published_good pairs words l.opens log target (Inner row) l.enabled e in
+    let ps = (state_of pairs words m).pieces in
+    ever_later (start pairs words) (λ t. IsChild t parent index target) (goes_on_more on to)
+    (ever_here (start pairs words) (λ t. IsChild t parent index target) m
+    record {
+      word = word_of (InnerAt target);
+      holds = holds;
+      reads = ap (λ o. past_rebuild ps (past_change ps o)) (ref_of-word_of (InnerAt target) good);
+    })
+
+-- the rebuild of the row that was made due was tried
+module _ (old mid new : Caller) (words : ℕ) (command : Command) (reply : Option ℕ) (due : Due)
+    (mine : old.seat.view.who ≡ CallerOf old.number) (resolved : IsResolved old.seat.view old.number)
+    (a : Applies old mid command reply (Some due)) (on : RebuildsOn mid new) where
+  abbrev v : View
+  v = old.seat.view
+
+  abbrev w : View
+  w = mid.seat.view
+
+  abbrev x : View
+  x = new.seat.view
+
+  all_went : WentOn Works v x
+  all_went =
+      went_more Works v w x (went_all Updates Works updates_work v w a.went)
+      (went_all Rebuilds Works rebuilds_work w x on.went)
+
+  lawful : Lawful v.start v.words x.log
+  lawful = went_lawful Works v x all_went
+
+  longer : GoesOn w.log x.log
+  longer = later_by-goes_on on.went.later
+
+  -- a row that came to its limit did so before the rebuild
+  came_before : (row : ℕ) → CameToLimit v.start v.words v.log x.log old.number row
+      → CameToLimit v.start v.words v.log w.log old.number row
+  came_before row =
+      came_inside v.start v.words old.number (λ event. ⊥)
+      (λ event. (whose event ≢ CallerOf old.number) ⊎ Rebuilds event)
+      (λ event never. absurd never)
+      (λ event. ⊎_elim (λ other. others_count_nothing old.number event (else_by old.number event
+      other)) (rebuilds_count_none old.number event))
+      v.log v.log w.log x.log no_more (later_by-goes_on a.went.later)
+      (subst (λ n. LaterBy (CallerOf n) Rebuilds w.log x.log) a.number
+      (subst (λ who. LaterBy who Rebuilds w.log x.log) a.caller.mine on.went.later)) row
+
+  -- the row or its parent isn't open
+  top_shut : IsShut (now x) due.parent due.target → IsTopShut v x old.number due.target
+  top_shut shut =
+      record {
+        came =
+            came_within v.start v.words old.number v.log v.log w.log x.log same_log longer due.target
+            a.due.came;
+        top = λ other c.
+            ever_later (start v.start v.words) (λ t. (rows : List ℕ) × Chain t other rows
+            × Among due.target rows) longer (a.due.top other (came_before other c));
+        parent = due.parent;
+        index = due.index;
+        was_child =
+            subst (λ pairs. Ever (start pairs v.words) (λ t. IsChild t due.parent due.index due.target)
+            x.log) (ap (λ (y : View). y.start) a.went.same)
+            (subst (λ words. Ever (start w.start words) (λ t. IsChild t due.parent due.index due.target)
+            x.log) (ap (λ (y : View). y.words) a.went.same)
+            (stood_child w.start w.words a.due.may.prefix w.log x.log a.went.sound.lawful
+            a.due.may.goes_on longer due.parent due.index due.target a.due.may.row a.due.may.published
+            a.due.may.stood));
+        shut = subst (λ t. IsShut t due.parent due.target) (went_now Works v x all_went) shut;
+      }
+
+  -- each row that came to its limit then has a closed row above
+  due_closed : IsTopShut v x old.number due.target
+      → DueRowsAreClosed (start v.start v.words) v.log old.number
+      → DueRowsAreClosed (start v.start v.words) x.log old.number
+  due_closed t =
+      due_since v.start v.words old.number v.log x.log lawful (later_by-goes_on all_went.later)
+      (λ node c. closed_above v.start v.words lawful.opens x.log lawful.enabled node due.target
+      t.parent t.index (t.top node c) t.was_child t.shut)
+
+  -- it was carried out, and the row was rebuilt
+  pub carried_some : (answer : Result (Unit {0}) Full) (refused : Option Full)
+      → refused ≡ result_err answer
+      → OnOk answer (IsShut (now x) due.parent due.target) → OnOk answer (KeepsDone mid new)
+      → IfErr answer (λ full. IsDueRefused x words full)
+      → CarriesOut old new words command reply refused
+  carried_some answer refused is shut done full =
+      record {
+        ready = on.ready;
+        number = on.number ∙ a.number;
+        went = all_went;
+        may = may_end_on mid new command reply a.caller.mine on a.may;
+        counted = λ entry.
+            counted_on v.start v.words v.log v.log w.log x.log same_log longer lawful old.number command
+            (a.counted entry);
+        shut = subst (LeavesShut v x old.number words) (sym is) (outcome answer shut full);
+        starts = λ unrefused. starts_done answer (sym is ∙ unrefused) done;
+        due = λ unrefused. rows_closed answer (sym is ∙ unrefused) shut;
+      }
+    where
+      outcome : (r : Result (Unit {0}) Full) → OnOk r (IsShut (now x) due.parent due.target)
+          → IfErr r (λ f. IsDueRefused x words f)
+          → LeavesShut v x old.number words (result_err r)
+      outcome (Ok u) s f = is_shut due.target (top_shut s)
+      outcome (Err e) s f = was_refused e f
+
+      starts_done : (r : Result (Unit {0}) Full) → result_err r ≡ None → OnOk r (KeepsDone mid new)
+          → KeepsDone old new
+      starts_done (Ok u) none d =
+          done_more old mid new a.number (applied_done old mid mine resolved a.went) d
+      starts_done (Err e) none d = absurd (cc)
+
+      rows_closed : (r : Result (Unit {0}) Full) → result_err r ≡ None
+          → OnOk r (IsShut (now x) due.parent due.target)
+          → DueRowsAreClosed (start v.start v.words) v.log old.number
+          → DueRowsAreClosed (start v.start v.words) x.log old.number
+      rows_closed (Ok u) none s = due_closed (top_shut s)
+      rows_closed (Err e) none s = absurd (cc)

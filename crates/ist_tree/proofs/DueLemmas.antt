@@ -1,0 +1,104 @@
+-- What an attempt to rebuild a row comes to. Serves `try_due` and `rebuild_due`.
+use Rattle.std.proofs.Common.{◌≡◌, ℕ, ◌⊎◌, Result, Ok, refl, sym, ap, ◌∙◌, subst, inl, inr, ⊎_elim}
+use Rattle.ist_core.specs.declared.ports.Full.{Full}
+use Rattle.ist_core.specs.Rebuilding.{IsReplaced}
+use Rattle.ist_core.specs.Snapshots.{Snapshot}
+use Rattle.ist_rule.specs.declared.view.View.{View}
+use Rattle.ist_rule.specs.declared.view.Who.TheVariants.{Caller as CallerOf}
+use Rattle.ist_rule.specs.Conditions.{IsResolved}
+use Rattle.ist_rule.specs.Going.{WentOn}
+use Rattle.ist_rule.specs.Learning.{now}
+use Rattle.ist_rows.specs.declared.callers.Caller.{Caller}
+use Rattle.ist_rows.specs.Building.{HasRefused}
+use Rattle.ist_rows.specs.Rows.{IsCaller}
+use Rattle.ist_settling.specs.Settling.{StartsAreDone}
+use Rattle.ist_rebuild.specs.declared.answers.Helped.{Helped}
+use Rattle.ist_rebuild.specs.declared.answers.Helped.TheVariants.{Replaced, ParentMarked}
+use Rattle.ist_rebuild.specs.declared.answers.Started.{Started}
+use Rattle.ist_rebuild.specs.declared.answers.Started.TheVariants.{Yes, Other, Marked}
+use Rattle.ist_rebuild.specs.Going.{Begins, IsQuiet, Serves}
+use Rattle.ist_rebuild.specs.Helping.{IsLeftToParent}
+use Rattle.ist_rebuild.specs.Starting.{IsStartedAt, LeavesDone, StartsAreDoneBut}
+use Rattle.ist_tree.specs.Working.{IsReady, IsShut, KeepsDone, RebuildsOn}
+use Rattle.ist_tree.proofs.EventLemmas.{begins_rebuild, serves_rebuild}
+use Rattle.ist_tree.proofs.RebuildLemmas.{all_done, left_is_shut, rebuilds_by, replaced_is_shut}
+
+-- ---- going on
+
+-- a caller that began a rebuild went on
+pub begins_on : (old new : Caller) → IsReady old → IsCaller new → (HasRefused old → HasRefused new)
+    → IsQuiet new → WentOn Begins old.seat.view new.seat.view → new.number ≡ old.number
+    → RebuildsOn old new
+begins_on old new r c refused quiet went number =
+    rebuilds_by Begins begins_rebuild old new went
+    record { caller = c; refused = refused r.refused; quiet = quiet } number
+
+-- so did one that helped one
+pub serves_on : (old new : Caller) → IsCaller new → HasRefused new → IsQuiet new
+    → WentOn Serves old.seat.view new.seat.view → new.number ≡ old.number → RebuildsOn old new
+serves_on old new c refused quiet went number =
+    rebuilds_by Serves serves_rebuild old new went
+    record { caller = c; refused = refused; quiet = quiet } number
+
+-- ---- what starting left done
+
+pub yes_leaves : (t : Snapshot) (number : ℕ) (answer : Started) (rebuild : ℕ)
+    → answer ≡ Yes rebuild → LeavesDone t number (Ok answer) → StartsAreDoneBut t number rebuild
+yes_leaves t number answer rebuild is done = subst (λ a. LeavesDone t number (Ok a)) is done
+
+pub other_leaves : (t : Snapshot) (number : ℕ) (answer : Started) (word : ℕ)
+    → answer ≡ Other word → LeavesDone t number (Ok answer) → StartsAreDone t number
+other_leaves t number answer word is done = subst (λ a. LeavesDone t number (Ok a)) is done
+
+pub marked_leaves : (t : Snapshot) (number : ℕ) (answer : Started) → answer ≡ Marked
+    → LeavesDone t number (Ok answer) → StartsAreDone t number
+marked_leaves t number answer is done = subst (λ a. LeavesDone t number (Ok a)) is done
+
+-- ---- a rebuild that was helped
+
+-- what helping answers
+abbrev pub said : Helped → Result Helped Full
+said answer = Ok answer
+
+-- it was replaced, or left to its parent
+pub helped_either : (answer : Helped) (t : Snapshot) (rebuild : ℕ)
+    → (said answer ≡ said Replaced → IsReplaced t rebuild)
+    → (said answer ≡ said ParentMarked → IsLeftToParent t rebuild)
+    → IsReplaced t rebuild ⊎ IsLeftToParent t rebuild
+helped_either Replaced t rebuild a b = inl (a refl)
+helped_either ParentMarked t rebuild a b = inr (b refl)
+
+-- so the row or its parent isn't open
+pub helped_shut : (v w : View) → WentOn Serves v w → (rebuild parent index target : ℕ)
+    → IsStartedAt (now v) rebuild parent index target
+    → IsReplaced (now w) rebuild ⊎ IsLeftToParent (now w) rebuild → IsShut (now w) parent target
+helped_shut v w went rebuild parent index target s either =
+    ⊎_elim (replaced_is_shut Serves v w went rebuild parent index target s)
+    (left_is_shut Serves v w went rebuild parent index target s) either
+
+-- and all starts of the caller are done
+pub helped_done : (old mid new : Caller) → RebuildsOn old mid
+    → WentOn Serves mid.seat.view new.seat.view → (rebuild : ℕ)
+    → StartsAreDoneBut (now mid.seat.view) old.number rebuild
+    → IsReplaced (now new.seat.view) rebuild ⊎ IsLeftToParent (now new.seat.view) rebuild
+    → StartsAreDone (now new.seat.view) old.number
+helped_done old mid new on went rebuild but either =
+    all_done old.number mid.seat.view new.seat.view
+    (on.ready.caller.mine ∙ ap CallerOf on.number)
+    (subst (IsResolved mid.seat.view) on.number on.ready.quiet.resolved) went rebuild but either
+
+-- ---- starts done, twice
+
+pub done_more : (a b c : Caller) → b.number ≡ a.number → KeepsDone a b → KeepsDone b c
+    → KeepsDone a c
+done_more a b c number one two done =
+    subst (StartsAreDone (now c.seat.view)) number
+    (two (subst (StartsAreDone (now b.seat.view)) (sym number) (one done)))
+
+-- where that was so of another caller's number
+pub done_behind : (a b c : Caller) → b.number ≡ a.number
+    → StartsAreDone (now b.seat.view) a.number → KeepsDone b c
+    → StartsAreDone (now c.seat.view) a.number
+done_behind a b c number done two =
+    subst (StartsAreDone (now c.seat.view)) number
+    (two (subst (StartsAreDone (now b.seat.view)) (sym number) done))

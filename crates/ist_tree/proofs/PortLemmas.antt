@@ -1,0 +1,108 @@
+-- A port keeps its last refusal, which is one of its pass. Serves the `call` of a port.
+use Rattle.std.proofs.Common.{◌≢◌, ℕ, ◌+◌, ◌≤◌, length, Option, Some, None, Result, Ok, Err, IfErr, IfSome, sym, ◌∙◌, subst, inl, inr, ⊎_elim, arith}
+use Rattle.ist_core.specs.declared.commands.Command.{Command}
+use Rattle.ist_core.specs.declared.commands.Command.TheVariants.{Get, Put, Remove}
+use Rattle.ist_core.specs.declared.ports.Full.{Full}
+use Rattle.ist_core.specs.Replies.{Refused, refusal}
+use Rattle.ist_rule.proofs.LaterLemmas.{goes_on_more}
+use Rattle.ist_finished.specs.Finishing.{puts_in}
+use Rattle.ist_core.specs.Changes.{changes_of}
+use Rattle.ist_tree.specs.Calls.{HasSeenMore}
+use Rattle.ist_tree.specs.Faces.{PassFace, TreeFace}
+use Rattle.ist_tree.specs.Insides.{IsPort}
+use Rattle.ist_tree.specs.Refusals.{IsAskedIn, IsForNode, IsRefused, LeavesTooFew, MayBeAsked, WasRefused, for_leaf, for_pair, for_put, for_rebuild, for_remove}
+use Rattle.ist_tree.proofs.RefusalLemmas.{puts_rise}
+
+-- words for a node are so for a pass that has seen more
+node_more : (p q : PassFace) (asked : ℕ) → HasSeenMore p q → IsForNode p asked → IsForNode q asked
+node_more p q asked m n =
+    let rise = puts_rise p.tree.start p.tree.words p.seen q.seen m.seen in
+    let most = n.most in
+    record {
+      keys = n.keys;
+      least = n.least;
+      most =
+          subst (λ (t : TreeFace). n.keys ≤ length t.start + puts_in (changes_of t.start t.words
+          q.seen)) (sym m.tree) (omega arith);
+      asked_is = n.asked_is;
+    }
+
+-- a refusal that was met before was met by a pass that has seen more
+pub refused_more : (p q : PassFace) (said : Refused) → HasSeenMore p q → WasRefused p said
+    → WasRefused q said
+refused_more p q said m r =
+    record {
+      update = r.update;
+      at = r.at;
+      until = goes_on_more r.until m.seen;
+      few = subst (λ (t : TreeFace). LeavesTooFew (record q { tree = t }) r.at said.full)
+          (sym m.tree) record {
+            next_is = r.few.next_is;
+            words_is = r.few.words_is;
+            small = r.few.small;
+          };
+      asked =
+          ⊎_elim (λ a. inl a)
+          (λ b. inr (⊎_elim (λ a. inl a)
+          (λ c. inr (⊎_elim (λ a. inl a) (λ n. inr (node_more p q said.full.asked m n)) c)) b))
+          r.asked;
+    }
+
+-- what was asked for in a call
+asked_then : (p q : PassFace) (key : ℕ) (value : Option ℕ) (asked : ℕ)
+    → IsAskedIn p q key value asked → MayBeAsked q asked
+asked_then p q key _ asked (for_leaf e) = inl e
+asked_then p q key _ asked (for_pair e) = inr (inl e)
+asked_then p q key _ asked (for_put e) = inr (inr (inl e))
+asked_then p q key _ asked (for_remove found has e) = inr (inr (inl e))
+asked_then p q key value asked (for_rebuild met a) =
+    inr (inr (⊎_elim (λ e. inl e) (λ n. inr n) a))
+
+-- a refusal of this call
+pub refused_now : (p q : PassFace) (key : ℕ) (value : Option ℕ) (command : Command) (full : Full)
+    → HasSeenMore p q → ((k : ℕ) → command ≢ Get k) → IsRefused p q key value full
+    → WasRefused q (refusal command full)
+refused_now p q key value command full m update r =
+    record {
+      update = update;
+      at = r.had.at;
+      until = r.had.until;
+      few = subst (λ (t : TreeFace). LeavesTooFew (record q { tree = t }) r.had.at full) (sym m.tree)
+          record {
+            next_is = r.had.few.next_is;
+            words_is = r.had.few.words_is;
+            small = r.had.few.small;
+          };
+      asked = asked_then p q key value full.asked r.asked;
+    }
+
+-- a put and a remove are no get
+pub put_no_get : (key value k : ℕ) → Put key value ≢ Get k
+put_no_get key value k e = cc
+
+pub remove_no_get : (key k : ℕ) → Remove key ≢ Get k
+remove_no_get key k e = cc
+
+-- a port whose pass has seen more is one still
+pub port_more : (tree : TreeFace) (p q : PassFace) (said : Option Refused) → HasSeenMore p q
+    → IsPort tree p said → IsPort tree q said
+port_more tree p q said m i =
+    record { same_tree = m.tree ∙ i.same_tree; cause = keep said i.cause }
+  where
+    keep : (o : Option Refused) → IfSome o (WasRefused p) → IfSome o (WasRefused q)
+    keep None c = c
+    keep (Some r) c = refused_more p q r m c
+
+-- and with a refusal of this call
+pub port_refused : (tree : TreeFace) (p q : PassFace) (said : Option Refused) (now : Refused)
+    → HasSeenMore p q → IsPort tree p said → WasRefused q now → IsPort tree q (Some now)
+port_refused tree p q said now m i r = record { same_tree = m.tree ∙ i.same_tree; cause = r }
+
+-- an answer that is such a refusal
+pub answer_refused : {A : Type 0} (answer : Result A Full) (p q : PassFace) (key : ℕ)
+    (value : Option ℕ) (command : Command) → HasSeenMore p q → ((k : ℕ) → command ≢ Get k)
+    → IfErr answer (λ full. IsRefused p q key value full)
+    → IfErr answer (λ full. WasRefused q (refusal command full))
+answer_refused (Ok a) p q key value command m update r = tt
+answer_refused (Err full) p q key value command m update r =
+    refused_now p q key value command full m update r

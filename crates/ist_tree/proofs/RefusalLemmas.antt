@@ -1,0 +1,188 @@
+-- Refusals, in the words of a pass. Serves `update`.
+use Rattle.std.proofs.Common.{◌≡◌, ℕ, ◌+◌, ◌<◌, ◌≤◌, ◌⊎◌, List, length, filter, Option, Some, None, sym, ap, ap₂, ◌∙◌, subst, inl, inr, arith, length-append}
+use Rattle.std.proofs.lemmas.List.Elements.{filter-append}
+use Rattle.std.specs.Option.{option_or}
+use Rattle.ist_core.specs.declared.commands.Command.{Command}
+use Rattle.ist_core.specs.declared.pairs.Pair.{Pair}
+use Rattle.ist_core.specs.declared.ports.Full.{Full}
+use Rattle.ist_core.specs.Changes.{Entry, changes_of}
+use Rattle.ist_core.specs.Lawful.{state_of}
+use Rattle.ist_core.specs.Logs.{GoesOn, Log}
+use Rattle.ist_core.specs.Rebuilding.{IsFinishedWith, IsReplaced, IsStarted}
+use Rattle.ist_core.specs.RowLayout.{rebuild_words}
+use Rattle.ist_core.specs.Spending.{spent}
+use Rattle.ist_core.specs.StartLayout.{start}
+use Rattle.ist_core.proofs.FateLemmas.{grow_between}
+use Rattle.ist_finished.specs.Finishing.{is_put, puts_in}
+use Rattle.ist_finished.proofs.NumberLemmas.{finished_few}
+use Rattle.ist_histories.proofs.ChangeLemmas.{changes_on}
+use Rattle.ist_histories.specs.Searching.{HasPosition}
+use Rattle.ist_links.proofs.FormLemmas.{replaced_grows, started_grows}
+use Rattle.ist_rule.specs.declared.view.View.{View}
+use Rattle.ist_rule.specs.Faces.{SeatFace}
+use Rattle.ist_rule.specs.Learning.{now}
+use Rattle.ist_rule.proofs.LaterLemmas.{goes_on_more}
+use Rattle.ist_rows.specs.declared.callers.Caller.{Caller}
+use Rattle.ist_rebuild.specs.Helping.{IsAskedFor, for_change, for_row}
+use Rattle.ist_updates.specs.Asking.{Updates}
+use Rattle.ist_updates.specs.Refusals as updates
+use Rattle.ist_tree.specs.Faces.{PassFace}
+use Rattle.ist_tree.specs.Insides.{face_as, pass_face}
+use Rattle.ist_tree.specs.Refusals.{HadTooFew, IsAskedIn, IsForRebuild, IsRebuildRefused, IsRefused, KeepsRefusal, for_leaf, for_pair, for_put, for_remove, for_rebuild}
+use Rattle.ist_tree.specs.Working as working
+use Rattle.ist_tree.proofs.FoundLemmas.{position_later}
+use Rattle.ist_tree.proofs.GoingLemmas.{lawful_behind}
+use Rattle.ist_tree.proofs.RebuildLemmas.{short_now}
+use Rattle.ist_tree.proofs.WayLemmas.{IsWay, b_start, b_view, b_words, b_to_w, lawful_w, lawful_x, v_to_b, w_start, w_to_x, w_words, x_start, x_words}
+
+-- a longer log has no fewer puts
+pub puts_rise : (pairs : List Pair) (words : ℕ) (earlier log : Log) → GoesOn earlier log
+    → puts_in (changes_of pairs words earlier) ≤ puts_in (changes_of pairs words log)
+puts_rise pairs words earlier log g =
+    let on = changes_on (start pairs words) earlier log g in
+    let same = ap puts_in on.1
+    ∙ ap length (filter-append (λ (e : Entry). is_put e.command) (changes_of pairs words earlier) on.0)
+    ∙ length-append (filter (λ (e : Entry). is_put e.command) (changes_of pairs words earlier))
+    (filter (λ (e : Entry). is_put e.command) on.0) in
+    omega arith
+
+module _ (who began new : Caller) (seat : SeatFace) (command : Command)
+    (it : IsWay who began new seat command) (r q : Option Full) where
+  abbrev before : PassFace
+  before = pass_face who r
+
+  abbrev behind : PassFace
+  behind = face_as seat new.number q
+
+  abbrev v : View
+  v = who.seat.view
+
+  abbrev w : View
+  w = new.seat.view
+
+  abbrev x : View
+  x = seat.view
+
+  -- there were too few words at the end of the work
+  had_too_few : (words : ℕ) (full : Full) → words ≡ v.words → working.IsShort w words full
+      → HadTooFew before behind full
+  had_too_few words full same s =
+      record {
+        at = w.log;
+        since = goes_on_more (v_to_b who began new seat command it) (b_to_w who began new seat command it);
+        until = w_to_x who began new seat command it;
+        few = record {
+          next_is =
+              s.next_is ∙ ap (λ pairs. spent pairs w.log) (w_start who began new seat command it);
+          words_is = s.words_is ∙ same;
+          small = subst (λ n. n < full.next + full.asked) same s.small;
+        };
+      }
+
+  -- the state behind the work, by the pass's table
+  now_w : now w ≡ state_of v.start v.words w.log
+  now_w =
+      ap₂ (λ pairs words. state_of pairs words w.log) (w_start who began new seat command it)
+      (w_words who began new seat command it)
+
+  -- what helping a rebuild took
+  asked_for_rebuild : (rebuild asked : ℕ) → IsAskedFor (now w) rebuild asked
+      → IsForRebuild behind asked
+  asked_for_rebuild rebuild asked (for_change e) = inl e
+  asked_for_rebuild rebuild asked (for_row row k some e fin least le is) =
+      let lawful = lawful_w who began new seat command it in
+      let here = subst (λ t. IsFinishedWith t row.target k) now_w fin in
+      let most = finished_few v.start v.words lawful.opens w.log lawful.enabled row.target k here.row
+      here.published here.status in
+      let rise = puts_rise v.start v.words w.log x.log (w_to_x who began new seat command it) in
+      inr record {
+        keys = some;
+        least = least;
+        most =
+            subst (λ words. some ≤ length x.start + puts_in (changes_of x.start words x.log))
+            (sym (x_words who began new seat command it))
+            (subst (λ pairs. some ≤ length pairs + puts_in (changes_of pairs v.words x.log))
+            (sym (x_start who began new seat command it)) (omega arith));
+        asked_is = is;
+      }
+
+  -- a rebuild behind the update was refused
+  pub rebuild_was_refused : (words : ℕ) (full : Full) → words ≡ v.words
+      → working.IsDueRefused w words full → IsRebuildRefused before behind full
+  rebuild_was_refused words full same d =
+      record {
+        had = had_too_few words full same d.short;
+        asked = asked d.asked;
+      }
+    where
+      asked : working.IsAskedToRebuild (now w) full.asked
+          → (full.asked ≡ rebuild_words) ⊎ IsForRebuild behind full.asked
+      asked (working.for_start e) = inl e
+      asked (working.for_help rebuild a) = inr (asked_for_rebuild rebuild full.asked a)
+
+  -- the update itself was
+  pub update_was_refused : (words key : ℕ) (value : Option ℕ) (full : Full) → words ≡ v.words
+      → updates.IsUpdateRefused began.seat.view key value words full w
+      → IsRefused before behind key value full
+  update_was_refused words key value full same d =
+      record {
+        had = had_too_few words full same (short_now Updates began.seat.view words full w d.short);
+        asked = asked value full.asked d.asked;
+      }
+    where
+      asked : (value : Option ℕ) (n : ℕ) → updates.IsAskedBy began.seat.view w key value n
+          → IsAskedIn before behind key value n
+      asked _ n (updates.for_leaf e) = for_leaf e
+      asked _ n (updates.for_pair e) = for_pair e
+      asked _ n (updates.for_put e) = for_put e
+      asked _ n (updates.for_remove found has e) =
+          for_remove found
+          (position_later v.start v.words v.log began.seat.view.log w.log x.log key (Some found)
+          (v_to_b who began new seat command it) (w_to_x who began new seat command it)
+          (subst (λ pairs. HasPosition pairs v.words began.seat.view.log w.log key (Some found))
+          (b_start who began new seat command it)
+          (subst (λ words. HasPosition began.seat.view.start words began.seat.view.log w.log key
+          (Some found)) (b_words who began new seat command it) has)))
+          e
+      asked value n (updates.for_rebuild rebuild started unreplaced a) =
+          for_rebuild
+          record {
+            rebuild = rebuild;
+            started =
+                subst (λ words. IsStarted (state_of x.start words x.log) rebuild)
+                (sym (x_words who began new seat command it))
+                (subst (λ pairs. IsStarted (state_of pairs v.words x.log) rebuild)
+                (sym (x_start who began new seat command it))
+                (started_grows (state_of v.start v.words w.log) (state_of v.start v.words x.log)
+                (grow_between v.start v.words w.log x.log
+                (lawful_x who began new seat command it).enabled (w_to_x who began new seat command it))
+                rebuild (subst (λ t. IsStarted t rebuild) now_w started)));
+            unreplaced = λ k.
+                unreplaced
+                (subst (λ t. IsReplaced t rebuild) (sym now_b)
+                (replaced_grows (now v) (state_of v.start v.words began.seat.view.log)
+                (grow_between v.start v.words v.log began.seat.view.log
+                (lawful_behind v began.seat.view (b_view who began new seat command it)).enabled
+                (v_to_b who began new seat command it)) rebuild k));
+          }
+          (asked_for_rebuild rebuild n a)
+        where
+          now_b : now began.seat.view ≡ state_of v.start v.words began.seat.view.log
+          now_b =
+              ap₂ (λ pairs words. state_of pairs words began.seat.view.log)
+              (b_start who began new seat command it) (b_words who began new seat command it)
+
+  -- the first refusal of a rebuild is kept
+  pub keeps_first : (met : Option Full) → q ≡ option_or r met
+      → ((full : Full) → met ≡ Some full → IsRebuildRefused before behind full)
+      → KeepsRefusal before behind
+  keeps_first met is cause =
+      record {
+        stays = λ full e. is ∙ ap (λ o. option_or o met) e;
+        cause = λ full e. from r (sym is ∙ e);
+      }
+    where
+      from : {full : Full} (o : Option Full) → option_or o met ≡ Some full
+          → (o ≡ Some full) ⊎ IsRebuildRefused before behind full
+      from (Some first) e = inl e
+      from {full = full} None e = inr (cause full e)

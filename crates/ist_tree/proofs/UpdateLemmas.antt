@@ -1,0 +1,268 @@
+-- What a put or a remove comes to for its pass, where it was answered. Serves `update`.
+use Rattle.std.proofs.Common.{◌≡◌, ◌≢◌, ℕ, ◌≤◌, List, [], ◌∷◌, ◌++◌, length, Option, Some, None, refl, sym, ap, ◌∙◌, subst, inl, inr, ⊎_elim, arith}
+use Rattle.std.specs.Option.{option_or}
+use Rattle.ist_core.specs.declared.calls.Call.{Call}
+use Rattle.ist_core.specs.declared.commands.Command.{Command}
+use Rattle.ist_core.specs.declared.events.Event.{Event}
+use Rattle.ist_core.specs.declared.events.Event.TheVariants.{Count}
+use Rattle.ist_core.specs.declared.ports.Full.{Full}
+use Rattle.ist_core.specs.Elements.{Among}
+use Rattle.ist_core.specs.Lawful.{state_of}
+use Rattle.ist_core.specs.Links.{Chain, IsChild}
+use Rattle.ist_core.specs.Logs.{GoesOn, Log, one_event, same_log}
+use Rattle.ist_core.specs.Slots.{IsOpen, SlotHolds, in_anchor, in_row}
+use Rattle.ist_core.specs.Snapshots.{Snapshot}
+use Rattle.ist_core.specs.Standing.{IsFresh}
+use Rattle.ist_core.specs.StartLayout.{start}
+use Rattle.ist_core.proofs.FateLemmas.{grow_between}
+use Rattle.ist_core.proofs.GrowingLemmas.{inner_there}
+use Rattle.ist_core.proofs.PrefixLemmas.{ever_from}
+use Rattle.ist_dcss.proofs.OpeningLemmas.{closed_node_stays}
+use Rattle.ist_histories.specs.Calls.{HasCalls}
+use Rattle.ist_histories.proofs.WovenLemmas.{learnt_first}
+use Rattle.ist_settling.specs.Settling.{CountsNothing}
+use Rattle.ist_settling.proofs.DoneLemmas.{others_count_nothing}
+use Rattle.ist_stability.proofs.LaterLemmas.{ever_later}
+use Rattle.ist_rule.specs.declared.view.Pending.{Pending}
+use Rattle.ist_rule.specs.declared.view.View.{View}
+use Rattle.ist_rule.specs.declared.view.Who.TheVariants.{Caller as CallerOf}
+use Rattle.ist_rule.specs.Authors.{whose}
+use Rattle.ist_rule.specs.Conditions.{CanEnd}
+use Rattle.ist_rule.specs.Faces.{SeatFace}
+use Rattle.ist_rule.specs.Learning.{Turned, beginning, ending}
+use Rattle.ist_rule.specs.Watching.{IsNode, is_anchor, is_inner}
+use Rattle.ist_rule.proofs.LaterLemmas.{between, goes_on_length, goes_on_more}
+use Rattle.ist_rows.specs.declared.callers.Caller.{Caller}
+use Rattle.ist_updates.specs.Counting.{CameToLimit, IsCounted}
+use Rattle.ist_tree.specs.Calls.{AddsCall}
+use Rattle.ist_tree.specs.DueRows.{HasCounted, LeavesNoneDue, first_refusal, is_closed, none_came, was_refused}
+use Rattle.ist_tree.specs.Faces.{PassFace}
+use Rattle.ist_tree.specs.Insides.{face_as, pass_face}
+use Rattle.ist_tree.specs.Working as working
+use Rattle.ist_tree.proofs.BetweenLemmas.{has_its_calls}
+use Rattle.ist_tree.proofs.CameLemmas.{came_inside, came_within}
+use Rattle.ist_tree.proofs.CarryLemmas.{counted_on}
+use Rattle.ist_tree.proofs.FindingLemmas.{changes_rise}
+use Rattle.ist_tree.proofs.RefusalLemmas.{rebuild_was_refused}
+use Rattle.ist_tree.proofs.SettlingLemmas.{else_by}
+use Rattle.ist_tree.proofs.WayLemmas as way
+
+module _ (who began new : Caller) (seat : SeatFace) (command : Command)
+    (it : way.IsWay who began new seat command) (r q : Option Full) where
+  abbrev before : PassFace
+  before = pass_face who r
+
+  abbrev behind : PassFace
+  behind = face_as seat new.number q
+
+  abbrev v : View
+  v = who.seat.view
+
+  abbrev b : View
+  b = began.seat.view
+
+  abbrev w : View
+  w = new.seat.view
+
+  abbrev x : View
+  x = seat.view
+
+  -- ---- what was counted
+
+  pub has_counted : IsCounted b.start b.words b.log w.log began.number command
+      → HasCounted before behind command
+  has_counted c =
+      counted_on v.start v.words v.log b.log w.log x.log (way.v_to_b who began new seat command it)
+      (way.w_to_x who began new seat command it) (way.lawful_x who began new seat command it)
+      who.number command
+      (subst (λ n. IsCounted v.start v.words b.log w.log n command) it.began_number
+      (subst (λ pairs. IsCounted pairs v.words b.log w.log began.number command)
+      (way.b_start who began new seat command it)
+      (subst (λ words. IsCounted b.start words b.log w.log began.number command)
+      (way.b_words who began new seat command it) c)))
+
+  -- what came to its limit in the call did so in its work
+  came_at_work : (row : ℕ) → CameToLimit v.start v.words v.log x.log who.number row
+      → CameToLimit v.start v.words b.log w.log began.number row
+  came_at_work row c =
+      subst (λ n. CameToLimit v.start v.words b.log w.log n row) (sym it.began_number)
+      (came_inside v.start v.words who.number (λ event. whose event ≢ CallerOf who.number)
+      (λ event. whose event ≢ CallerOf who.number) counts_none counts_none v.log b.log w.log x.log
+      (way.later_b who began new seat command it) (way.b_to_w who began new seat command it)
+      (way.later_x who began new seat command it) row c)
+    where
+      counts_none : (event : Event) → whose event ≢ CallerOf who.number
+          → CountsNothing who.number event
+      counts_none event other = others_count_nothing who.number event (else_by who.number event other)
+
+  -- and the other way round
+  came_in_call : (row : ℕ) → CameToLimit v.start v.words b.log w.log began.number row
+      → CameToLimit v.start v.words v.log x.log who.number row
+  came_in_call row c =
+      came_within v.start v.words who.number v.log b.log w.log x.log
+      (way.v_to_b who began new seat command it) (way.w_to_x who began new seat command it) row
+      (subst (λ n. CameToLimit v.start v.words b.log w.log n row) it.began_number c)
+
+  -- ---- rows that aren't open
+
+  -- a node that had a child, or was counted at, stays shut
+  parent_is_node : (t : Snapshot) (parent index row : ℕ) → IsChild t parent index row
+      → IsNode t parent
+  parent_is_node t parent index row c = at c.holds
+    where
+      at : SlotHolds t parent index c.word → IsNode t parent
+      at (in_anchor a e f) = is_anchor a
+      at (in_row s e f) = is_inner s e
+
+  stays_shut : (m : Log) → GoesOn m w.log → (node : ℕ)
+      → IsNode (state_of v.start v.words m) node
+      → ¬ (IsOpen (state_of v.start v.words w.log) node)
+      → ¬ (IsOpen (state_of v.start v.words x.log) node)
+  stays_shut m on node is =
+      closed_node_stays v.start v.words w.log x.log (way.lawful_x who began new seat command it)
+      (way.w_to_x who began new seat command it) node (later is)
+    where
+      later : IsNode (state_of v.start v.words m) node → IsNode (state_of v.start v.words w.log) node
+      later (is_anchor e) = is_anchor e
+      later (is_inner s e) =
+          let k = inner_there (state_of v.start v.words m).pieces (state_of v.start v.words w.log).pieces
+          (grow_between v.start v.words m w.log (way.lawful_w who began new seat command it).enabled on)
+          node s e in
+          is_inner k.0 k.1
+
+  -- the topmost row that came to its limit, or its parent, isn't open
+  top_is_shut : (row : ℕ) → working.IsTopShut (record (beginning v (Some command) b.log) {
+    log = b.log;
+  }) w began.number row
+      → LeavesNoneDue before behind
+  top_is_shut row t =
+      let child = ever_from (start v.start v.words) (λ s. IsChild s t.parent t.index row) w.log
+      t.was_child in
+      in_view (is_closed row
+      record {
+        came = came_in_call row t.came;
+        above = λ other c.
+            ever_later (start v.start v.words) (λ s. (rows : List ℕ) × Chain s other rows
+            × Among row rows) (way.w_to_x who began new seat command it)
+            (t.top other (came_at_work other c));
+      }
+      record {
+        parent = t.parent;
+        index = t.index;
+        was_child =
+            ever_later (start v.start v.words) (λ s. IsChild s t.parent t.index row)
+            (way.w_to_x who began new seat command it) t.was_child;
+        closed =
+            ⊎_elim
+            (λ k. inl (stays_shut t.came.at
+            (goes_on_more (one_event (Count began.number row) same_log) t.came.until) row
+            (is_inner t.came.row t.came.published) k))
+            (λ k. inr (stays_shut child.0 child.1 t.parent
+            (parent_is_node (state_of v.start v.words child.0) t.parent t.index row child.2) k))
+            t.shut;
+      })
+    where
+      in_view : LeavesNoneDue before (record behind { tree = before.tree })
+          → LeavesNoneDue before behind
+      in_view = subst (λ tree. LeavesNoneDue before (record behind { tree = tree }))
+          (sym (way.same_tree who began new seat command it))
+
+  -- what became of the rows that came to their limits
+  pub leaves_none_due : (words : ℕ) (met : Option Full) → words ≡ v.words → q ≡ option_or r met
+      → working.LeavesShut b w began.number words met → LeavesNoneDue before behind
+  leaves_none_due words _ same is (working.none_came none) =
+      none_came (λ row c. none row
+      (subst (λ (y : View). CameToLimit y.start y.words b.log w.log began.number row)
+      (sym it.begun.view) (came_at_work row c)))
+  leaves_none_due words _ same is (working.was_refused full d) =
+      was_refused full (rebuild_was_refused who began new seat command it r q words full same d)
+      (is ∙ first r)
+    where
+      first : (o : Option Full) → option_or o (Some full) ≡ first_refusal o full
+      first None = refl
+      first (Some f) = refl
+  leaves_none_due words _ same is (working.is_shut row t) =
+      top_is_shut row
+      (subst (λ (y : View). working.IsTopShut (record y { log = b.log }) w began.number row)
+      it.begun.view t)
+
+  -- ---- the call that was answered
+
+  -- it ended as this call, which may end
+  module _ (call : Call) (c : CanEnd w call) (command_is : call.command ≡ command)
+      (ended : Turned w (ending w call) x) where
+    x_calls : x.calls ≡ v.calls ++ call ∷ []
+    x_calls =
+        ap (λ (y : View). y.calls) ended.view
+        ∙ ap (λ (calls : List Call). calls ++ call ∷ [])
+        (ap (λ (y : View). y.calls) it.went.same ∙ ap (λ (y : View). y.calls) it.begun.view)
+
+    w_stamp : w.stamp ≡ v.stamp
+    w_stamp = ap (λ (y : View). y.stamp) it.went.same ∙ ap (λ (y : View). y.stamp) it.begun.view
+
+    x_stamp : x.stamp ≡ call.stamp
+    x_stamp = ap (λ (y : View). y.stamp) ended.view
+
+    pub stamp_up : v.stamp ≤ x.stamp
+    stamp_up =
+        let a = w_stamp in
+        let e = x_stamp in
+        let f = c.stamp_is in
+        omega arith
+
+    -- what had been seen when it began is no shorter than what the pass had seen
+    seen_before : GoesOn v.log c.seen
+    seen_before =
+        between (goes_on_more (way.v_to_b who began new seat command it)
+        (way.b_to_w who began new seat command it)) c.goes_on
+        (let low = goes_on_length (way.v_to_b who began new seat command it) in
+        let same = one_length c.pending (sym pending_is ∙ c.in_call) in
+        let long = c.length_is in
+        omega arith)
+      where
+        pending_is : w.pending ≡ Some record { command = Some command; length = length b.log }
+        pending_is =
+            ap (λ (y : View). y.pending) it.went.same ∙ ap (λ (y : View). y.pending) it.begun.view
+
+        one_length : (p : Pending) → Some record { command = Some command; length = length b.log }
+            ≡ Some p → p.length ≡ length b.log
+        one_length p e = cc
+
+    fresh : IsFresh v.start v.words v.log v.stamp call
+    fresh =
+        let f = subst (λ pairs. IsFresh pairs v.words c.seen v.stamp call)
+        (way.w_start who began new seat command it)
+        (subst (λ words. IsFresh w.start words c.seen v.stamp call)
+        (way.w_words who began new seat command it)
+        (subst (λ stamp. IsFresh w.start w.words c.seen stamp call) w_stamp c.fresh)) in
+        let rise = changes_rise v.start v.words v.log c.seen seen_before in
+        let from = f.position in
+        record { position = omega arith; later = f.later }
+
+    -- it is one call more of the pass
+    pub adds_call : AddsCall before behind command call.reply
+    adds_call =
+        record {
+          call = call;
+          command_is = command_is;
+          reply_is = refl;
+          stamp_is = sym x_stamp;
+          calls_are = x_calls;
+          added = record { has_calls = has_calls; fresh = fresh };
+          learnt = λ other l h. learnt_first v.start v.words other.seen v.log other.number other.stamp
+              v.stamp other.calls call
+              (subst (λ t. HasCalls t.start t.words other.seen other.number other.stamp other.calls)
+              l.tree h) l.seen l.stamp fresh;
+        }
+      where
+        has_calls : HasCalls v.start v.words x.log who.number call.stamp (v.calls ++ call ∷ [])
+        has_calls =
+            subst (λ pairs. HasCalls pairs v.words x.log who.number call.stamp (v.calls ++ call ∷ []))
+            (way.x_start who began new seat command it)
+            (subst (λ words. HasCalls x.start words x.log who.number call.stamp (v.calls ++ call ∷ []))
+            (way.x_words who began new seat command it)
+            (subst (λ stamp. HasCalls x.start x.words x.log who.number stamp (v.calls ++ call ∷ []))
+            x_stamp
+            (subst (HasCalls x.start x.words x.log who.number x.stamp) x_calls
+            (has_its_calls x who.number it.last.sound
+            (it.last.who_is ∙ way.w_mine who began new seat command it) it.none))))

@@ -1,0 +1,123 @@
+-- A row is rebuilt, or found shut, or what stands in its place is helped.
+use Rattle.std.proofs.Common.{Ok, ap, inl, inr}
+use Rattle.ist_rule.specs.Watching.{is_inner}
+use Rattle.ist_rule.proofs.WentOnLemmas.{goes_on_went}
+use Rattle.ist_tree.proofs.DueLemmas.{begins_on, done_behind, done_more, helped_done, helped_either, helped_shut, marked_leaves, other_leaves, serves_on, yes_leaves}
+use Rattle.ist_tree.proofs.RebuildLemmas.{help_refused, load_plain, may_start_went, not_open_shut, passed_on, plain_done, plain_on, rebuilds_more, start_refused}
+use Rattle.ist_tree.specs.Working.{Rebuilds}
+use Rattle.ist_tree.proofs.rebuilding.try_due.Goals as goal
+
+-- ---- the start is refused
+
+pub returns-in_err-rebuild-clause-on : goal.returns-in_err-rebuild-clause-on
+returns-in_err-rebuild-clause-on g c =
+    begins_on _ _ c.requires.ready c.start.ensures.caller c.start.ensures.refused
+    c.start.ensures.quiet c.start.ensures.went c.start.ensures.number
+
+pub returns-in_err-rebuild-clause-full : goal.returns-in_err-rebuild-clause-full
+returns-in_err-rebuild-clause-full g c =
+    passed_on c.from_residual.result _ _ c.from_residual.ensures.1
+    (start_refused _ _ _ _ c.in_err-rebuild.ensures.full)
+
+-- ---- a rebuild is started, and helped
+
+pub help_rebuild-requires-clause-started : goal.help_rebuild-requires-clause-started
+help_rebuild-requires-clause-started g c =
+    (c.in_ok-rebuild.ensures.yes _ (ap Ok c.in-Yes.is)).started
+
+pub returns-in_err-help_rebuild-in-Yes-clause-on : goal.returns-in_err-help_rebuild-in-Yes-clause-on
+returns-in_err-help_rebuild-in-Yes-clause-on g c =
+    rebuilds_more _ _ _
+    (begins_on _ _ c.requires.ready c.start.ensures.caller c.start.ensures.refused
+    c.start.ensures.quiet c.start.ensures.went c.start.ensures.number)
+    (serves_on _ _ c.help_rebuild.ensures.caller c.help_rebuild.ensures.refused
+    c.help_rebuild.ensures.quiet c.help_rebuild.ensures.went c.help_rebuild.ensures.number)
+
+pub returns-in_err-help_rebuild-in-Yes-clause-full :
+    goal.returns-in_err-help_rebuild-in-Yes-clause-full
+returns-in_err-help_rebuild-in-Yes-clause-full g c =
+    passed_on c.from_residual-in_err-help_rebuild-in-Yes.result _ _
+    c.from_residual-in_err-help_rebuild-in-Yes.ensures.1
+    (help_refused _ _ _ _ _ c.in_err-help_rebuild-in-Yes.ensures.full)
+
+pub returns-in_ok-help_rebuild-in-Yes-clause-on : goal.returns-in_ok-help_rebuild-in-Yes-clause-on
+returns-in_ok-help_rebuild-in-Yes-clause-on g c =
+    rebuilds_more _ _ _
+    (begins_on _ _ c.requires.ready c.start.ensures.caller c.start.ensures.refused
+    c.start.ensures.quiet c.start.ensures.went c.start.ensures.number)
+    (serves_on _ _ c.help_rebuild.ensures.caller c.help_rebuild.ensures.refused
+    c.help_rebuild.ensures.quiet c.help_rebuild.ensures.went c.help_rebuild.ensures.number)
+
+pub returns-in_ok-help_rebuild-in-Yes-clause-last :
+    goal.returns-in_ok-help_rebuild-in-Yes-clause-last
+returns-in_ok-help_rebuild-in-Yes-clause-last g c is =
+    helped_shut _ _ c.help_rebuild.ensures.went _ _ _ _
+    (c.in_ok-rebuild.ensures.yes _ (ap Ok c.in-Yes.is))
+    (helped_either c.in_ok-help_rebuild-in-Yes.field-0 _ _
+    c.in_ok-help_rebuild-in-Yes.ensures.replaced c.in_ok-help_rebuild-in-Yes.ensures.parent_marked)
+
+pub returns-in_ok-help_rebuild-in-Yes-clause-done :
+    goal.returns-in_ok-help_rebuild-in-Yes-clause-done
+returns-in_ok-help_rebuild-in-Yes-clause-done g c done =
+    helped_done c.args.who.now c.start.new.who c.help_rebuild.new.who
+    (begins_on _ _ c.requires.ready c.start.ensures.caller c.start.ensures.refused
+    c.start.ensures.quiet c.start.ensures.went c.start.ensures.number)
+    c.help_rebuild.ensures.went _
+    (yes_leaves _ _ _ _ c.in-Yes.is (c.in_ok-rebuild.ensures.done done))
+    (helped_either c.in_ok-help_rebuild-in-Yes.field-0 _ _
+    c.in_ok-help_rebuild-in-Yes.ensures.replaced c.in_ok-help_rebuild-in-Yes.ensures.parent_marked)
+
+-- ---- the parent is marked
+
+pub returns-in-Marked-clause-on : goal.returns-in-Marked-clause-on
+returns-in-Marked-clause-on g c =
+    begins_on _ _ c.requires.ready c.start.ensures.caller c.start.ensures.refused
+    c.start.ensures.quiet c.start.ensures.went c.start.ensures.number
+
+pub returns-in-Marked-clause-last : goal.returns-in-Marked-clause-last
+returns-in-Marked-clause-last g c is = inr (c.in_ok-rebuild.ensures.marked (ap Ok c.in-Marked.is))
+
+pub returns-in-Marked-clause-done : goal.returns-in-Marked-clause-done
+returns-in-Marked-clause-done g c done =
+    marked_leaves _ _ _ c.in-Marked.is (c.in_ok-rebuild.ensures.done done)
+
+-- ---- something else stands there
+
+pub returns-in_err-help_other-in-Other-clause-on : goal.returns-in_err-help_other-in-Other-clause-on
+returns-in_err-help_other-in-Other-clause-on g c =
+    rebuilds_more _ _ _
+    (begins_on _ _ c.requires.ready c.start.ensures.caller c.start.ensures.refused
+    c.start.ensures.quiet c.start.ensures.went c.start.ensures.number) c.help_other.ensures.on
+
+pub is_open-requires-clause-node : goal.is_open-requires-clause-node
+is_open-requires-clause-node g c =
+    let on = rebuilds_more _ _ _
+    (begins_on _ _ c.requires.ready c.start.ensures.caller c.start.ensures.refused
+    c.start.ensures.quiet c.start.ensures.went c.start.ensures.number) c.help_other.ensures.on in
+    let m = may_start_went Rebuilds _ _ on.went _ _ _ c.requires.may_start in
+    is_inner m.row m.published
+
+pub returns-in_ok-help_other-in-Other-clause-on : goal.returns-in_ok-help_other-in-Other-clause-on
+returns-in_ok-help_other-in-Other-clause-on g c =
+    let on = rebuilds_more _ _ _
+    (begins_on _ _ c.requires.ready c.start.ensures.caller c.start.ensures.refused
+    c.start.ensures.quiet c.start.ensures.went c.start.ensures.number) c.help_other.ensures.on in
+    rebuilds_more _ _ _ on
+    (plain_on _ load_plain c.help_other.new.who c.is_open.new.seat on.ready
+    (goes_on_went _ _ _ c.is_open.ensures.seen))
+
+pub returns-in_ok-help_other-in-Other-clause-last :
+    goal.returns-in_ok-help_other-in-Other-clause-last
+returns-in_ok-help_other-in-Other-clause-last g c is =
+    inl (not_open_shut c.is_open.result _ c.is_open.ensures.open is)
+
+pub returns-in_ok-help_other-in-Other-clause-done :
+    goal.returns-in_ok-help_other-in-Other-clause-done
+returns-in_ok-help_other-in-Other-clause-done g c done =
+    let last = record c.help_other.new.who { seat = c.is_open.new.seat } in
+    done_behind c.args.who.now c.start.new.who last c.start.ensures.number
+    (other_leaves _ _ _ _ c.in-Other.is (c.in_ok-rebuild.ensures.done done))
+    (done_more c.start.new.who c.help_other.new.who last c.help_other.ensures.on.number
+    c.in_ok-help_other-in-Other.ensures.done
+    (plain_done _ load_plain c.help_other.new.who c.is_open.new.seat c.help_other.ensures.on.ready
+    (goes_on_went _ _ _ c.is_open.ensures.seen)))

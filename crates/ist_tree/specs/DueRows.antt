@@ -1,0 +1,47 @@
+-- What a put or a remove has counted, and what became of the rows that it made due.
+use Rattle.std.specs.Prelude.{◌≡◌, ◌⊎◌, ℕ, Option, Some, None}
+use Rattle.ist_core.specs.declared.commands.Command.{Command}
+use Rattle.ist_core.specs.declared.ports.Full.{Full}
+use Rattle.ist_core.specs.Lawful.{state_of}
+use Rattle.ist_core.specs.Links.{IsChild, WasOnChain}
+use Rattle.ist_core.specs.Logs.{Ever}
+use Rattle.ist_core.specs.Slots.{IsOpen}
+use Rattle.ist_core.specs.StartLayout.{start}
+use Rattle.ist_updates.specs.Counting.{IsCounted, CameToLimit}
+use Rattle.ist_tree.specs.Faces.{PassFace}
+use Rattle.ist_tree.specs.Refusals.{IsRebuildRefused}
+
+-- in the call the pass has put or removed so, and counted that at each row on the chain of its change
+abbrev pub HasCounted : PassFace → PassFace → Command → Type 0
+HasCounted p q command = IsCounted p.tree.start p.tree.words p.seen q.seen p.number command
+
+-- a count of the pass in the call found a count that is at the row's limit with one more
+abbrev pub CameDue : PassFace → PassFace → ℕ → Type 0
+CameDue p q row = CameToLimit p.tree.start p.tree.words p.seen q.seen p.number row
+
+-- the row did so, and stands on the chain of each that did
+pub record IsTopmostDue (p q : PassFace) (row : ℕ) : Type 0 where
+  pub came : CameDue p q row
+  pub above : (other : ℕ) → CameDue p q other
+      → WasOnChain (start p.tree.start p.tree.words) q.seen other row
+
+-- the row, or the node whose child it was, isn't open in what the pass has seen
+pub record IsClosedAt (p : PassFace) (row : ℕ) : Type 0 where
+  pub parent : ℕ
+  pub index : ℕ
+  pub was_child : Ever (start p.tree.start p.tree.words) (λ t. IsChild t parent index row) p.seen
+  pub closed : let t = state_of p.tree.start p.tree.words p.seen in
+      (¬ (IsOpen t row)) ⊎ ¬ (IsOpen t parent)
+
+-- the first refusal that a pass keeps, where it met this one behind those that it had met
+abbrev pub first_refusal : Option Full → Full → Option Full
+first_refusal (Some first) full = Some first
+first_refusal None full = Some full
+
+-- no row came to its limit by the counts of the call; or the topmost that did, or its parent, isn't
+-- open; or a rebuild was refused in this very call
+pub data LeavesNoneDue (p q : PassFace) : Type 0 where
+  none_came : ((row : ℕ) → ¬ (CameDue p q row)) → LeavesNoneDue p q
+  is_closed : (row : ℕ) → IsTopmostDue p q row → IsClosedAt q row → LeavesNoneDue p q
+  was_refused : (full : Full) → IsRebuildRefused p q full
+      → q.refused ≡ first_refusal p.refused full → LeavesNoneDue p q

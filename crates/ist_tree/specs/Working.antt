@@ -1,0 +1,139 @@
+-- What the functions inside this crate promise each other: a caller in its call, the rebuild of a row
+-- that came to its limit, and an update from its beginning to its end.
+use Rattle.std.specs.Prelude.{◌≡◌, ◌⊎◌, ℕ, ◌+◌, ◌<◌, Bool, true, Option, Some, None}
+use Rattle.ist_core.specs.declared.commands.Command.{Command}
+use Rattle.ist_core.specs.declared.events.Event.{Event}
+use Rattle.ist_core.specs.declared.events.Event.TheVariants.{Enter, Install, Count}
+use Rattle.ist_core.specs.declared.ports.Full.{Full}
+use Rattle.ist_core.specs.declared.states.ChangeRow.{ChangeRow}
+use Rattle.ist_core.specs.Lawful.{state_of}
+use Rattle.ist_core.specs.Links.{IsChild, WasOnChain}
+use Rattle.ist_core.specs.Logs.{Ever}
+use Rattle.ist_core.specs.Rebuilding.{IsUpdate}
+use Rattle.ist_core.specs.RowLayout.{rebuild_words}
+use Rattle.ist_core.specs.Slots.{IsOpen}
+use Rattle.ist_core.specs.Snapshots.{Snapshot}
+use Rattle.ist_core.specs.Spending.{spent}
+use Rattle.ist_core.specs.Standing.{makes_entry}
+use Rattle.ist_core.specs.StartLayout.{start}
+use Rattle.ist_core.specs.Writing.{first_change}
+use Rattle.ist_rule.specs.declared.view.View.{View}
+use Rattle.ist_rule.specs.Conditions.{CanGiveUp}
+use Rattle.ist_rule.specs.Going.{WentOn}
+use Rattle.ist_rule.specs.Learning.{now}
+use Rattle.ist_rows.specs.declared.callers.Caller.{Caller}
+use Rattle.ist_rows.specs.Building.{HasRefused}
+use Rattle.ist_rows.specs.Rows.{IsCaller}
+use Rattle.ist_settling.specs.Settling.{StartsAreDone, DueRowsAreClosed}
+use Rattle.ist_rebuild.specs.Going.{IsQuiet}
+use Rattle.ist_rebuild.specs.Helping.{IsAskedFor}
+use Rattle.ist_updates.specs.Asking.{MayEnd}
+use Rattle.ist_updates.specs.Counting.{IsCounted, CameToLimit}
+use Rattle.ist_updates.specs.Refusals.{IsUpdateRefused}
+
+-- ---- a caller in its call
+
+-- the caller is in a call, in which each change that it installed is resolved; and each build that it
+-- holds rows of was refused
+pub record IsReady (who : Caller) : Type 0 where
+  pub caller : IsCaller who
+  pub refused : HasRefused who
+  pub quiet : IsQuiet who
+
+-- the event is a step of starting or helping a rebuild: no Enter, no Count, and no put or remove is
+-- installed
+abbrev pub Rebuilds : Event → Type 0
+Rebuilds (Enter caller) = ⊥
+Rebuilds (Install caller base rows) =
+    (change : ChangeRow) → first_change rows ≡ Some change → ¬ (IsUpdate change.kind)
+Rebuilds (Count caller node) = ⊥
+Rebuilds _ = Unit {0}
+
+-- the event is a step of a call: no Enter
+abbrev pub Works : Event → Type 0
+Works (Enter caller) = ⊥
+Works _ = Unit {0}
+
+-- the caller went on by steps of rebuilding
+pub record RebuildsOn (old new : Caller) : Type 0 where
+  pub ready : IsReady new
+  pub number : new.number ≡ old.number
+  pub went : WentOn Rebuilds old.seat.view new.seat.view
+
+-- where the starts of the caller were done, they are
+abbrev pub KeepsDone : Caller → Caller → Type 0
+KeepsDone old new = StartsAreDone (now old.seat.view) old.number
+    → StartsAreDone (now new.seat.view) old.number
+
+-- ---- the rebuild of a row that came to its limit
+
+-- the row or its parent isn't open
+abbrev pub IsShut : Snapshot → ℕ → ℕ → Type 0
+IsShut t parent target = (¬ (IsOpen t target)) ⊎ ¬ (IsOpen t parent)
+
+-- what an attempt to rebuild answers: where it is the last, the row or its parent isn't open
+abbrev pub IsLastFor : Bool → Snapshot → ℕ → ℕ → Type 0
+IsLastFor last t parent target = last ≡ true → IsShut t parent target
+
+-- so many words of the table are used, and fewer are left than were asked for
+pub record IsShort (w : View) (words : ℕ) (full : Full) : Type 0 where
+  pub next_is : full.next ≡ spent w.start w.log
+  pub words_is : full.words ≡ words
+  pub small : words < full.next + full.asked
+
+-- so many words were asked for: for a rebuild, or for what helping one takes
+pub data IsAskedToRebuild (t : Snapshot) : ℕ → Type 0 where
+  for_start : {asked : ℕ} → asked ≡ rebuild_words → IsAskedToRebuild t asked
+  for_help : {asked : ℕ} (rebuild : ℕ) → IsAskedFor t rebuild asked → IsAskedToRebuild t asked
+
+-- a rebuild was refused for want of words
+pub record IsDueRefused (w : View) (words : ℕ) (full : Full) : Type 0 where
+  pub short : IsShort w words full
+  pub asked : IsAskedToRebuild (now w) full.asked
+
+-- ---- an update
+
+-- the topmost row that came to its limit by the counts of the caller since, or its parent, isn't open
+pub record IsTopShut (v w : View) (number row : ℕ) : Type 0 where
+  pub came : CameToLimit v.start v.words v.log w.log number row
+  pub top : (other : ℕ) → CameToLimit v.start v.words v.log w.log number other
+      → WasOnChain (start v.start v.words) w.log other row
+  pub parent : ℕ
+  pub index : ℕ
+  pub was_child : Ever (start v.start v.words) (λ t. IsChild t parent index row) w.log
+  pub shut : IsShut (state_of v.start v.words w.log) parent row
+
+-- what became of the rows that came to their limits, where the rebuild was refused so, or wasn't
+pub data LeavesShut (v w : View) (number words : ℕ) : Option Full → Type 0 where
+  none_came : ((row : ℕ) → ¬ (CameToLimit v.start v.words v.log w.log number row))
+      → LeavesShut v w number words None
+  is_shut : (row : ℕ) → IsTopShut v w number row → LeavesShut v w number words None
+  was_refused : (full : Full) → IsDueRefused w words full → LeavesShut v w number words (Some full)
+
+-- the caller carried out the command with this reply, and met this refusal of a rebuild behind it
+pub record CarriesOut (old new : Caller) (words : ℕ) (command : Command) (reply : Option ℕ)
+    (refused : Option Full) : Type 0 where
+  pub ready : IsReady new
+  pub number : new.number ≡ old.number
+  pub went : WentOn Works old.seat.view new.seat.view
+  pub may : MayEnd new command reply
+  pub counted : let v = old.seat.view in makes_entry command reply ≡ true
+      → IsCounted v.start v.words v.log new.seat.view.log old.number command
+  pub shut : LeavesShut old.seat.view new.seat.view old.number words refused
+  pub starts : refused ≡ None → KeepsDone old new
+  pub due : let v = old.seat.view in refused ≡ None
+      → DueRowsAreClosed (start v.start v.words) v.log old.number
+      → DueRowsAreClosed (start v.start v.words) new.seat.view.log old.number
+
+-- the caller was refused a row for the put or remove, and nothing took effect
+pub record IsTurnedDown (old new : Caller) (words key : ℕ) (value : Option ℕ) (full : Full)
+    : Type 0 where
+  pub caller : IsCaller new
+  pub refused : HasRefused new
+  pub number : new.number ≡ old.number
+  pub went : WentOn Works old.seat.view new.seat.view
+  pub cause : IsUpdateRefused old.seat.view key value words full new.seat.view
+  pub can : CanGiveUp new.seat.view
+  pub starts : KeepsDone old new
+  pub due : let v = old.seat.view in DueRowsAreClosed (start v.start v.words) v.log old.number
+      → DueRowsAreClosed (start v.start v.words) new.seat.view.log old.number

@@ -1,0 +1,104 @@
+//! A pass on its tree, as one caller of a shared map.
+ghost use Rattle.std.specs.Prelude.{◌≡◌, ◌+◌, ◌<◌, [], None, IfSome, IfOk, IfErr, OnErr};
+ghost use Rattle.ist_core.specs.Replies.{refusal};
+ghost use Rattle.ist_tree.specs.Calls.{HasSeenMore, AddsCall};
+ghost use Rattle.ist_tree.specs.Refusals.{WasRefused};
+
+use crate::passes::Pass;
+use crate::trees::Tree;
+use ist_core::{Command, Full, Port, Reply};
+use std::marker::Model;
+use std::sync::Wait;
+
+// Makes the call by the pass.
+fn answer<R: Wait>(tree: &Tree, rt: &R, pass: &mut Pass, command: Command) -> Result<Reply, Full>
+    requires same_tree { pass.old.tree ≡ tree.now }
+    ensures seen { HasSeenMore pass.old pass.new }
+    ensures added { IfOk result (λ reply. AddsCall pass.old pass.new command reply) }
+    ensures full { IfErr result (λ full. WasRefused pass.new (refusal command full)) }
+    ensures small { IfErr result (λ full. full.words < full.next + full.asked) }
+    ensures calls { OnErr result (pass.new.calls ≡ pass.old.calls) }
+{
+    match command {
+        Command::Put { key, value } => tree.put(rt, pass, key, value),
+        Command::Remove { key } => tree.remove(rt, pass, key),
+        Command::Get { key } => Ok(tree.find(pass, key)),
+    }
+}
+
+/// A pass on its tree, as one caller of a shared map: a put calls `put`, a remove `remove`, a get
+/// `find`.
+///
+/// Contracts see its pass, and the last call that was refused, if one was.
+#[derive(Drop)]
+pub struct TreePort<'a> {
+    tree: &'a Tree,
+    pass: Pass,
+    refused: Option<(Command, Full)>,
+}
+
+impl<'a> Model for TreePort<'a> {
+    ghost use Rattle.std.specs.Prelude.{option_map};
+    ghost use Rattle.ist_tree.specs.Faces.{PortFace};
+    ghost use Rattle.ist_tree.specs.Insides.{refusal_in, IsPort};
+
+    ghost Value = { PortFace };
+
+    ghost view = { λ p. record { pass = p.pass; refused = option_map refusal_in p.refused } };
+
+    ghost invariant = { λ p. IsPort p.tree.now p.pass (option_map refusal_in p.refused) };
+}
+
+impl<'a> TreePort<'a> {
+    /// The port of a pass on its tree, which has made no call.
+    pub fn new(tree: &'a Tree, pass: Pass) -> TreePort<'a>
+        requires same_tree { pass.tree ≡ tree.now }
+        requires no_calls { pass.calls ≡ [] }
+        ensures pass { result.pass ≡ pass }
+        ensures unrefused { result.refused ≡ None }
+    {
+        TreePort {
+            tree,
+            pass,
+            refused: None,
+        }
+    }
+
+    /// The pass of the port.
+    pub fn into_pass(self) -> Pass
+        ensures value { result ≡ self.entry.pass }
+    {
+        let TreePort { pass, .. } = self;
+        pass
+    }
+
+    /// What the port keeps of its last refusal.
+    pub fn know(&self)
+        ensures cause { IfSome self.now.refused (WasRefused self.now.pass) }
+    {
+        let _ = &self.tree;
+    }
+}
+
+impl<'a> Port for TreePort<'a> {
+    ghost use Rattle.std.specs.Prelude.{map};
+    ghost use Rattle.ist_core.specs.Resting.{told_by_call};
+
+    type Tie = (Tree, u64);
+
+    ghost calls = { λ p. map told_by_call p.pass.calls };
+
+    ghost refused = { λ p. p.refused };
+
+    ghost tie = { λ p. (p.pass.tree, p.pass.number) };
+
+    fn call<R: Wait>(&mut self, rt: &R, command: Command) -> Result<Reply, Full> {
+        match answer(self.tree, rt, &mut self.pass, command) {
+            Ok(reply) => Ok(reply),
+            Err(full) => {
+                self.refused = Some((command, full));
+                Err(full)
+            }
+        }
+    }
+}
