@@ -1,28 +1,9 @@
 -- The tables of a new table: nothing happened yet. Serves `remembering.rt`.
-use Rattle.std.proofs.Common.{
-  ◌≡◌,
-  ◌≤◌,
-  ◌∙◌,
-  IsTrue,
-  ℕ,
-  false,
-  List,
-  [],
-  ◌∷◌,
-  ◌++◌,
-  drop,
-  Some,
-  None,
-  sym,
-  ap,
-  subst,
-  arith,
-}
+use Rattle.std.proofs.Common.{◌≡◌, ◌≤◌, ◌∙◌, ℕ, List, [], ◌∷◌, ◌++◌, drop, Some, None, sym, ap, subst, arith}
 use Rattle.std.specs.Ordering.{nat_cmp}
 use Rattle.std.specs.BTreeMap as tree
 use Rattle.std.specs.BTreeMap.{BTreeMap, is_at}
 use Rattle.std.specs.Map.{lookup}
-use Rattle.std.specs.List.{list_any}
 use Rattle.std.specs.BTreeSet.{BTreeSet}
 use Rattle.ist_core.specs.declared.pairs.Pair.{Pair}
 use Rattle.ist_core.specs.declared.events.Event.{Event}
@@ -32,7 +13,7 @@ use Rattle.ist_core.specs.StartLayout.{start}
 use Rattle.ist_core.specs.Marking.{IsCalled, as_target, as_child, behind_rebuild}
 use Rattle.ist_core.specs.Rebuilding.{IsStarted}
 use Rattle.ist_check_events.specs.declared.pasts.LastUpdate.{LastUpdate}
-use Rattle.ist_check_events.specs.Answers.{Holds, FindsGreatest}
+use Rattle.ist_check_events.specs.Answers.{FindsGreatest}
 use Rattle.ist_check_events.specs.Remembering.{
   LacksCount,
   KnowsOkays,

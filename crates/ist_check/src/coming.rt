@@ -6,10 +6,10 @@ ghost use Rattle.ist_core.specs.Logs.{Log};
 ghost use Rattle.ist_core.specs.Enabled.{Enabled};
 ghost use Rattle.ist_check.specs.Knowing.{Knows, IsOfBuild};
 
-use ist_check_builds::{can_place, can_root};
+use ist_check_builds::{can_draw, can_lose, can_place, can_root};
 use ist_check_events::{
-    Past, Replica, can_count, can_decide, can_draw, can_enter, can_finish, can_install, can_lose,
-    can_mark, can_okay, can_pass, can_reserve, can_resolve,
+    Past, Replica, can_count, can_decide, can_enter, can_finish, can_install, can_mark, can_okay,
+    can_pass, can_reserve, can_resolve,
 };
 use ist_core::Event;
 use std::alloc::{AllocError, Global};

@@ -1,61 +1,17 @@
 -- Which rows are those of an ideal subtree: a row first, then those of each part. Serves
 -- `ideals.rt`.
-use Rattle.std.proofs.Common.{
-  ◌≡◌,
-  ◌≢◌,
-  ◌∙◌,
-  ◌≤◌,
-  ◌<◌,
-  ◌-◌,
-  ◌+◌,
-  ℕ,
-  zero,
-  suc,
-  min,
-  List,
-  [],
-  ◌∷◌,
-  ◌++◌,
-  length,
-  take,
-  drop,
-  get_or,
-  Option,
-  Some,
-  None,
-  refl,
-  sym,
-  ap,
-  subst,
-  append_assoc,
-  arith,
-  length-append,
-  length-drop,
-}
+use Rattle.std.proofs.Common.{◌≡◌, ◌≢◌, ◌∙◌, ◌≤◌, ◌<◌, ◌+◌, ℕ, zero, suc, List, [], ◌∷◌, ◌++◌}
+use Rattle.std.proofs.Common.{length, take, drop, get_or, Option, Some, None, refl, sym, ap, subst}
+use Rattle.std.proofs.Common.{arith, length-append}
 use Rattle.ist_core.specs.declared.lists.Row.{Row}
 use Rattle.ist_core.specs.declared.states.InnerRow.{InnerRow}
-use Rattle.ist_core.specs.Arithmetic.{degree, part_len, part_lens}
 use Rattle.ist_core.specs.References.{Ref, Empty, LeafAt, InnerAt, ref_of}
-use Rattle.ist_core.specs.Parts.{cut, parts}
+use Rattle.ist_core.specs.Parts.{parts}
 use Rattle.ist_core.specs.Pieces.{Inner, inner_of}
 use Rattle.ist_core.specs.Leaves.{PlacedLeaf}
 use Rattle.ist_check_events.proofs.RowLemmas.{behind, split_first}
-use Rattle.ist_check_builds.specs.Built.{
-  lens_from,
-  IsTopRow,
-  Builds,
-  builds_none,
-  builds_one,
-  builds_more,
-  BuildsAll,
-  builds_end,
-  builds_part,
-  BuildsAt,
-  CountsRows,
-  HasTopSlots,
-}
-use Rattle.ist_check_builds.proofs.GatherLemmas.{first_word}
-use Rattle.ist_check_builds.proofs.PartCutLemmas.{from, from-drop, cut_first, cut_last}
+use Rattle.ist_check_builds.specs.Built.{IsTopRow, BuildsRef, builds_none, builds_one, builds_more}
+use Rattle.ist_check_builds.specs.Built.{BuildsAll, BuildsAt, CountsRows, HasTopSlots}
 
 same_ref : (o : Option Ref) (a b : Ref) → o ≡ Some a → o ≡ Some b → a ≡ b
 same_ref o a b e f = cc
@@ -72,7 +28,7 @@ one_list (y ∷ []) x h e = ap (λ z. z ∷ []) (sym e)
 one_list (y ∷ z ∷ xs) x h e = absurd (omega arith)
 
 none_inverted : (ref : Ref) (leaves : List PlacedLeaf) (above : ℕ) (rows : List Row)
-    → Builds ref leaves above rows → leaves ≡ [] → (ref ≡ Empty) × (rows ≡ [])
+    → BuildsRef ref leaves above rows → leaves ≡ [] → (ref ≡ Empty) × (rows ≡ [])
 none_inverted _ _ _ _ builds_none e = (refl, refl)
 none_inverted _ _ _ _ (builds_one same) e = absurd (cc)
 none_inverted _ leaves _ _ (builds_more r top below) e = let two = top.two in let none = ap length e
@@ -80,7 +36,7 @@ none_inverted _ leaves _ _ (builds_more r top below) e = let two = top.two in le
 
 one_inverted : (ref : Ref) (leaves : List PlacedLeaf) (above : ℕ) (rows : List Row)
     (leaf : PlacedLeaf)
-    → Builds ref leaves above rows → leaves ≡ leaf ∷ [] → (ref ≡ LeafAt leaf.base) × (rows ≡ [])
+    → BuildsRef ref leaves above rows → leaves ≡ leaf ∷ [] → (ref ≡ LeafAt leaf.base) × (rows ≡ [])
 one_inverted _ _ _ _ leaf builds_none e = absurd (cc)
 one_inverted _ _ _ _ leaf (builds_one {leaf = other} same) e =
     (ap LeafAt (sym same ∙ ap (λ x. x.base) (first other leaf e)), refl)
@@ -101,7 +57,7 @@ record IsMany (ref : Ref) (leaves : List PlacedLeaf) (above : ℕ) (rows : List 
   below : BuildsAll top.slots (parts leaves) row.base rest
 
 many_inverted : (ref : Ref) (leaves : List PlacedLeaf) (above : ℕ) (rows : List Row)
-    → Builds ref leaves above rows → 2 ≤ length leaves → IsMany ref leaves above rows
+    → BuildsRef ref leaves above rows → 2 ≤ length leaves → IsMany ref leaves above rows
 many_inverted _ _ _ _ builds_none two = absurd (omega arith)
 many_inverted _ _ _ _ (builds_one same) two = absurd (omega arith)
 many_inverted _ _ _ _ (builds_more {row = row} {rows = rows} r top below) two =
@@ -117,7 +73,7 @@ many_inverted _ _ _ _ (builds_more {row = row} {rows = rows} r top below) two =
     }
 
 -- some elements and then some more
-both_taken : {A : Type 0} (xs : List A) (a b : ℕ) → take (a + b) xs ≡ take a xs ++ take b
+pub both_taken : {A : Type 0} (xs : List A) (a b : ℕ) → take (a + b) xs ≡ take a xs ++ take b
     (drop a xs)
 both_taken xs zero b = ap (λ n. take n xs) (let e : zero + b ≡ b = omega arith in e)
 both_taken [] (suc a) b = ap (λ n. take n []) (let e : suc a + b ≡ suc (a + b) = omega arith in e)
@@ -141,7 +97,7 @@ module _ (word : ℕ) (leaves : List PlacedLeaf) (above : ℕ) (rows : List Row)
     record {
       ref = Empty;
       names = e;
-      builds = subst (λ xs. Builds Empty xs above [])
+      builds = subst (λ xs. BuildsRef Empty xs above [])
           (sym (empty_list leaves h)) builds_none;
     },
     λ used rest is b. ap length (none_inverted b.ref leaves above used b.builds
@@ -160,7 +116,7 @@ module _ (word : ℕ) (leaves : List PlacedLeaf) (above : ℕ) (rows : List Row)
     record {
       ref = LeafAt leaf.base;
       names = e;
-      builds = subst (λ xs. Builds (LeafAt leaf.base) xs
+      builds = subst (λ xs. BuildsRef (LeafAt leaf.base) xs
           above []) (sym (one_list leaves leaf h at)) (builds_one refl);
     },
     λ used rest is b. ap length (one_inverted b.ref leaves above used leaf b.builds
@@ -260,7 +216,7 @@ module _ (word : ℕ) (leaves : List PlacedLeaf) (above : ℕ) (rows : List Row)
         record {
           ref = InnerAt row.base;
           names = names ∙ ap (λ n. Some (InnerAt n)) (sym here);
-          builds = subst (λ rs. Builds (InnerAt row.base) leaves above rs) (sym taken)
+          builds = subst (λ rs. BuildsRef (InnerAt row.base) leaves above rs) (sym taken)
               (builds_more top.top top.is_top
               (subst (λ ws. BuildsAll ws (parts leaves) row.base (take k (behind rows)))
               (sym top.slots_are) (subst (λ n. BuildsAll slots (parts leaves) n
@@ -279,149 +235,3 @@ module _ (word : ℕ) (leaves : List PlacedLeaf) (above : ℕ) (rows : List Row)
           taken =
               ap (take (k + 1)) (split_first rows row long at)
               ∙ ap (λ n. take n (row ∷ behind rows)) (let e : k + 1 ≡ suc k = omega arith in e)
-
--- ---- parts
-
--- parts of some leaves, whole
-pub all_parts : (leaves : List PlacedLeaf)
-    → cut (lens_from (length leaves) 0 (degree (length leaves))) leaves ≡ parts leaves
-unfolding part_lens
-all_parts leaves = refl
-
-record IsPart (word : ℕ) (words : List ℕ) (part : List PlacedLeaf) (others : List (List PlacedLeaf))
-    (above : ℕ) (rows : List Row) : Type 0 where
-  here : List Row
-  rest : List Row
-  rows_are : rows ≡ here ++ rest
-  first : BuildsAt word part above here
-  more : BuildsAll words others above rest
-
--- what subtrees over parts are, by the first slot and the first part
-abbrev AllInverted : List ℕ → List (List PlacedLeaf) → ℕ → List Row → Type 0
-AllInverted [] [] above rows = rows ≡ []
-AllInverted (word ∷ words) (part ∷ others) above rows = IsPart word words part others above rows
-AllInverted _ _ above rows = ⊥
-
-all_inverted : (words : List ℕ) (ps : List (List PlacedLeaf)) (above : ℕ) (rows : List Row)
-    → BuildsAll words ps above rows → AllInverted words ps above rows
-all_inverted _ _ _ _ builds_end = refl
-all_inverted _ _ _ _ (builds_part {here = here} {rest = rest} ref e first more) =
-    record {
-      here = here;
-      rest = rest;
-      rows_are = refl;
-      first = record
-          { ref = ref; names = e; builds = first };
-      more = more;
-    }
-
-module _ (n j left : ℕ) (slots : List ℕ) (leaves : List PlacedLeaf) (above : ℕ) (rows : List Row)
-  where
-    abbrev AllBuild : List Row → Type 0
-    AllBuild rs = BuildsAll slots (cut (lens_from n j left) leaves) above rs
-
-    pub parts_end : length slots < 1 → left ≡ 0 → CountsRows AllBuild rows (Some 0)
-    parts_end none e =
-        let no_slot = empty_list slots (omega arith) in
-        let no_part = cut_last n j left leaves e in (
-          subst (λ ws. BuildsAll ws (cut (lens_from n j left) leaves) above []) (sym no_slot)
-              (subst (λ ps. BuildsAll [] ps above []) (sym no_part) builds_end),
-          λ used rest is b. ap length (all_inverted [] [] above used
-              (subst (λ ws. BuildsAll ws [] above used) no_slot
-              (subst (λ ps. BuildsAll slots ps above used) no_part b))),
-        )
-
-    pub parts_left : length slots < 1 → left ≢ 0 → CountsRows AllBuild rows None
-    parts_left none some used rest is b =
-        let no_slot = empty_list slots (omega arith) in
-        let whole = cut_first n j left (min (part_len n j) (length leaves)) leaves some refl in
-        all_inverted [] (take (min (part_len n j) (length leaves)) leaves ∷ cut
-        (lens_from n (j + 1) (left - 1)) (from leaves (min (part_len n j) (length leaves)))) above
-        used
-        (subst (λ ws. BuildsAll ws (take (min (part_len n j) (length leaves)) leaves ∷ cut
-        (lens_from n (j + 1) (left - 1)) (from leaves (min (part_len n j) (length leaves)))) above
-        used) no_slot (subst (λ ps. BuildsAll slots ps above used) whole b))
-
-    pub parts_over : 1 ≤ length slots → left ≡ 0 → CountsRows AllBuild rows None
-    parts_over some e used rest is b =
-        all_inverted (get_or slots 0 0 ∷ behind slots) [] above used
-        (subst (λ ws. BuildsAll ws [] above used) (first_word slots some)
-        (subst (λ ps. BuildsAll slots ps above used) (cut_last n j left leaves e) b))
-
-    module _ (end : ℕ) (long : 1 ≤ length slots) (some : left ≢ 0) (end_is : end ≡ min (part_len n j)
-        (length leaves)) where
-      abbrev pub MoreBuild : List Row → Type 0
-      MoreBuild rs = BuildsAll (behind slots) (cut (lens_from n (j + 1) (left - 1)) (from leaves end))
-          above rs
-
-      inverted : (used : List Row) → AllBuild used
-          → IsPart (get_or slots 0 0) (behind slots) (take end leaves)
-          (cut (lens_from n (j + 1) (left - 1)) (from leaves end)) above used
-      inverted used b =
-          all_inverted (get_or slots 0 0 ∷ behind slots)
-          (take end leaves ∷ cut (lens_from n (j + 1) (left - 1)) (from leaves end)) above used
-          (subst (λ ws. BuildsAll ws (take end leaves ∷ cut (lens_from n (j + 1) (left - 1))
-          (from leaves end)) above used) (first_word slots long)
-          (subst (λ ps. BuildsAll slots ps above used) (cut_first n j left end leaves some end_is) b))
-
-      pub parts_no_first : CountsRows (λ rs. BuildsAt (get_or slots 0 0) (take end leaves) above rs)
-          rows None
-          → CountsRows AllBuild rows None
-      parts_no_first none used rest is b =
-          let it = inverted used b in
-          none it.here (it.rest ++ rest) (is ∙ ap (λ xs. xs ++ rest) it.rows_are ∙ append_assoc
-          it.here it.rest rest) it.first
-
-      module _ (k : ℕ) (within : k ≤ length rows)
-          (first : CountsRows (λ rs. BuildsAt (get_or slots 0 0) (take end leaves) above rs) rows
-          (Some k)) where
-        -- the rows behind those of the first part
-        split : (used rest : List Row) → rows ≡ used ++ rest
-            → (it : IsPart (get_or slots 0 0) (behind slots) (take end leaves)
-            (cut (lens_from n (j + 1) (left - 1)) (from leaves end)) above used)
-            → (length it.here ≡ k) × (from rows k ≡ it.rest ++ rest)
-        split used rest is it =
-            let whole : rows ≡ it.here ++ (it.rest ++ rest) = is ∙ ap (λ xs. xs ++ rest) it.rows_are
-            ∙ append_assoc it.here it.rest rest in
-            let same = first.1 it.here (it.rest ++ rest) whole it.first in
-            (same, from-drop rows k ∙ ap (drop k) whole ∙ dropped it.here (it.rest ++ rest) k same)
-          where
-            dropped : (xs ys : List Row) (m : ℕ) → length xs ≡ m → drop m (xs ++ ys) ≡ ys
-            dropped [] ys zero e = refl
-            dropped [] ys (suc m) e = absurd (omega arith)
-            dropped (x ∷ xs) ys zero e = absurd (omega arith)
-            dropped (x ∷ xs) ys (suc m) e = dropped xs ys m (omega arith)
-
-        pub parts_no_more : CountsRows MoreBuild (from rows k) None → CountsRows AllBuild rows None
-        parts_no_more none used rest is b =
-            let it = inverted used b in
-            none it.rest rest (split used rest is it).1 it.more
-
-        pub parts_more : (m : ℕ) → CountsRows MoreBuild (from rows k) (Some m) → CountsRows AllBuild
-            rows (Some (k + m))
-        parts_more m some_more = (
-          subst (λ rs. AllBuild rs) (sym (taken rows k m within))
-              (subst (λ ws. BuildsAll ws (cut (lens_from n j left) leaves) above
-              (take k rows ++ take m (from rows k))) (sym (first_word slots long))
-              (subst (λ ps. BuildsAll (get_or slots 0 0 ∷ behind slots) ps above
-              (take k rows ++ take m (from rows k)))
-              (sym (cut_first n j left end leaves some end_is))
-              (builds_part first.0.ref first.0.names first.0.builds some_more.0))),
-          λ used rest is b.
-              let it = inverted used b in
-              let parts = split used rest is it in
-              let more = some_more.1 it.rest rest parts.1 it.more in
-              let same = parts.0 in
-              let both = ap length it.rows_are ∙ length-append it.here it.rest in
-              omega arith,
-        )
-          where
-            taken : (xs : List Row) (a b : ℕ) → a ≤ length xs → take (a + b) xs ≡ take a xs ++ take b
-                (from xs a)
-            taken xs a b h = both_taken xs a b ∙ ap (λ ys. take a xs ++ take b ys)
-                (sym (from-drop xs a))
-
-        -- the rows fit
-        pub parts_within : (m : ℕ) → m ≤ length (from rows k) → k + m ≤ length rows
-        parts_within m h = let l = ap length (from-drop rows k) in let less = length-drop k rows in
-            omega arith

@@ -25,8 +25,8 @@ use Rattle.ist_core.specs.Arithmetic.{degree, part_len}
 use Rattle.ist_core.specs.Parts.{cut, parts}
 use Rattle.ist_core.specs.Leaves.{PlacedLeaf}
 use Rattle.ist_core.proofs.PartLemmas.{part_len-lt}
-use Rattle.ist_check_builds.specs.Built.{lens_from, BuildsAll, CountsRows}
-use Rattle.ist_check_builds.proofs.BuiltLemmas.{all_parts}
+use Rattle.ist_check_builds.specs.Built.{part_lens_from, BuildsAll, CountsRows}
+use Rattle.ist_check_builds.proofs.BuiltPartLemmas.{all_parts}
 
 -- ---- sizes
 
@@ -43,14 +43,14 @@ part_smaller n j end leaves more two is =
 pub parts_by_degree : (leaves : List PlacedLeaf) (d : ℕ) (slots : List ℕ) (base : ℕ)
     (rows : List Row) (o : Option ℕ)
     → d ≡ degree (length leaves)
-    → CountsRows (λ rs. BuildsAll slots (cut (lens_from (length leaves) 0 d) leaves) base rs) rows o
+    → CountsRows (λ rs. BuildsAll slots (cut (part_lens_from (length leaves) 0 d) leaves) base rs) rows o
     → CountsRows (λ rs. BuildsAll slots (parts leaves) base rs) rows o
 parts_by_degree leaves d slots base rows o e h =
     subst (λ ps. CountsRows (λ rs. BuildsAll slots ps base rs) rows o)
-    (ap (λ k. cut (lens_from (length leaves) 0 k) leaves) e ∙ all_parts leaves) h
+    (ap (λ k. cut (part_lens_from (length leaves) 0 k) leaves) e ∙ all_parts leaves) h
 
 -- the same of one part
 pub nth_by_degree : (leaves : List PlacedLeaf) (d i : ℕ) → d ≡ degree (length leaves)
-    → slice_get (cut (lens_from (length leaves) 0 d) leaves) i ≡ slice_get (parts leaves) i
+    → slice_get (cut (part_lens_from (length leaves) 0 d) leaves) i ≡ slice_get (parts leaves) i
 nth_by_degree leaves d i e = ap (λ ps. slice_get ps i)
-    (ap (λ k. cut (lens_from (length leaves) 0 k) leaves) e ∙ all_parts leaves)
+    (ap (λ k. cut (part_lens_from (length leaves) 0 k) leaves) e ∙ all_parts leaves)

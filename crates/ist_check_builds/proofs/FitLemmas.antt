@@ -1,55 +1,25 @@
--- What is tested of the rows of a Root or a Place is what its condition says. Serves `building.rt`.
-use Rattle.std.proofs.Common.{
-  ◌≡◌,
-  ◌↔◌,
-  ◌∙◌,
-  ◌<◌,
-  ℕ,
-  List,
-  [],
-  ◌∷◌,
-  length,
-  slice_get,
-  Option,
-  Some,
-  None,
-  true,
-  refl,
-  sym,
-  ap,
-  subst,
-  arith,
-}
+-- What is tested of the rows of a Root is what its condition says. Serves `building.rt`.
+use Rattle.std.proofs.Common.{◌≡◌, ◌↔◌, ◌∙◌, ◌<◌, ℕ, List, [], ◌∷◌, Option, Some, true, refl, sym}
+use Rattle.std.proofs.Common.{ap, subst, arith}
 use Rattle.ist_core.specs.declared.lists.Row.{Row}
 use Rattle.ist_core.specs.declared.states.RebuildRow.{RebuildRow}
-use Rattle.ist_core.specs.Arithmetic.{part_lens}
-use Rattle.ist_core.specs.References.{Ref, InnerAt, ref_of, unset_word}
+use Rattle.ist_core.specs.References.{Ref, InnerAt, unset_word}
 use Rattle.ist_core.specs.Statuses.{finished_word}
 use Rattle.ist_core.specs.Elements.{Each}
-use Rattle.ist_core.specs.Parts.{parts}
 use Rattle.ist_core.specs.Pieces.{Pieces, Inner, Rebuild, with_inners}
 use Rattle.ist_core.specs.Snapshots.{Snapshot, bases_of}
 use Rattle.ist_core.specs.Leaves.{PlacedLeaf, HasLeaves}
 use Rattle.ist_core.specs.Rebuilding.{IsStarted, IsFinishedWith}
-use Rattle.ist_core.specs.Building.{IsRoot, root_whole, root_top, CanRoot, CanPlace}
+use Rattle.ist_core.specs.Building.{IsRoot, root_whole, root_top, CanRoot}
 use Rattle.ist_core.proofs.LeafLemmas.{same_leaves}
-use Rattle.ist_core.proofs.RisingLemmas.{each_of_cut, part_of_each}
-use Rattle.ist_check_events.specs.Mirroring.{RowHolds}
 use Rattle.ist_check_events.proofs.MirrorLemmas.{one_inner, one_rebuild}
 use Rattle.ist_check_builds.specs.Standing.{HeldAreFree}
 use Rattle.ist_check_builds.specs.Reading.{Gathers}
-use Rattle.ist_check_builds.specs.Publishing.{MayPublish, HasRoot, HasPart, IsPartOf}
-use Rattle.ist_check_builds.specs.Built.{key_of_leaf, Builds, BuildsAt, IsRootOf, whole, top_alone}
-use Rattle.ist_check_builds.proofs.PublishLemmas.{
-  Stands,
-  LeafStands,
-  leaf_kept,
-  held_is_free,
-  rows_stand,
-  leaves_stand,
-  builds_ideal,
-  ideal_builds,
-}
+use Rattle.ist_check_builds.specs.Publishing.{MayPublish, HasRootOf}
+use Rattle.ist_check_builds.specs.Built.{IsRootOf, whole, top_alone}
+use Rattle.ist_check_builds.proofs.PublishLemmas.{Stands, LeafStands, leaf_kept, held_is_free}
+use Rattle.ist_check_builds.proofs.PublishLemmas.{rows_stand, leaves_stand, builds_ideal}
+use Rattle.ist_check_builds.proofs.PublishLemmas.{ideal_builds}
 
 each_mapped : {A : Type 0} (P Q : A → Type 0) (xs : List A) → ((x : A) → P x → Q x) → Each P xs
     → Each Q xs
@@ -131,7 +101,7 @@ module _ (t : Snapshot) (caller : ℕ) (rows : List Row) (publish : MayPublish t
   pub root_is : (rebuild word k : ℕ) (row : RebuildRow) → caller < t.callers
       → t.pieces rebuild ≡ Some (Rebuild row) → IsStarted t rebuild → row.root ≡ unset_word
       → IsFinishedWith t row.target k
-      → HasRoot t word k row.target rows ↔ CanRoot t caller rebuild word rows
+      → HasRootOf t word k row.target rows ↔ CanRoot t caller rebuild word rows
   root_is rebuild word k row known published started rootless finished = (
     (λ h. record {
       known = known;
@@ -189,11 +159,11 @@ module _ (t : Snapshot) (word k target : ℕ) (rows : List Row) where
   abbrev pub Below : List PlacedLeaf → Type 0
   Below ls = HasLeaves t.pieces (Some (InnerAt target)) ls
 
-  pub no_root : ((ls : List PlacedLeaf) → ¬ (Below ls)) → ¬ (HasRoot t word k target rows)
+  pub no_root : ((ls : List PlacedLeaf) → ¬ (Below ls)) → ¬ (HasRootOf t word k target rows)
   no_root none h = none h.leaves h.reached
 
   pub root_over : (found : List PlacedLeaf) → Gathers Below [] true found
-      → IsRootOf word k found target rows ↔ HasRoot t word k target rows
+      → IsRootOf word k found target rows ↔ HasRootOf t word k target rows
   root_over found g = (
     (λ r. record {
       leaves = g.0;
@@ -204,119 +174,3 @@ module _ (t : Snapshot) (word k target : ℕ) (rows : List Row) where
     (λ h. subst (λ ls. IsRootOf word k ls target rows) (same_leaves t.pieces (Some (InnerAt target))
         h.leaves g.0 h.reached g.2 ∙ sym g.1) h.root),
   )
-
--- ---- parts
-
-module _ (t : Snapshot) (word i target above : ℕ) (rows : List Row) where
-  pub no_part : ((ls : List PlacedLeaf) → ¬ (HasLeaves t.pieces (Some (InnerAt target)) ls))
-      → ¬ (HasPart t word i target above rows)
-  no_part none h = none h.leaves h.reached
-
-  pub part_over : (found : List PlacedLeaf)
-      → Gathers (λ ls. HasLeaves t.pieces (Some (InnerAt target)) ls) [] true found
-      → IsPartOf word i found above rows ↔ HasPart t word i target above rows
-  part_over found g = (
-    (λ r. record {
-      leaves = g.0;
-      reached = g.2;
-      part = subst (λ ls. IsPartOf word i ls above rows)
-          g.1 r;
-    }),
-    (λ h. subst (λ ls. IsPartOf word i ls above rows) (same_leaves t.pieces (Some (InnerAt target))
-        h.leaves g.0 h.reached g.2 ∙ sym g.1) h.part),
-  )
-
-module _ (word i above : ℕ) (leaves : List PlacedLeaf) (rows : List Row) where
-  pub no_such_part : slice_get (parts leaves) i ≡ None → ¬ (IsPartOf word i leaves above rows)
-  no_such_part none h = clash (slice_get (parts leaves) i) none h.part_is
-    where
-      clash : (o : Option (List PlacedLeaf)) → o ≡ None → o ≡ Some h.part → ⊥
-      clash o a b = cc
-
-  pub such_part : (part : List PlacedLeaf) → slice_get (parts leaves) i ≡ Some part
-      → BuildsAt word part above rows ↔ IsPartOf word i leaves above rows
-  such_part part is = (
-    (λ b. record { part = part; part_is = is; builds = b }),
-    (λ h. subst (λ ls. BuildsAt word ls above rows) (same (slice_get (parts leaves) i) h.part part
-        h.part_is is) h.builds),
-  )
-    where
-      same : (o : Option (List PlacedLeaf)) (a b : List PlacedLeaf) → o ≡ Some a → o ≡ Some b → a
-          ≡ b
-      same o a b e f = cc
-
--- a part that the rows are is one that may be placed
-module _ (t : Snapshot) (caller : ℕ) (rows : List Row) (publish : MayPublish t caller rows)
-    (free : HeldAreFree t) where
-  pub part_fits : (rebuild i word root : ℕ) (row : RebuildRow) → caller < t.callers
-      → t.pieces rebuild ≡ Some (Rebuild row) → ref_of row.root ≡ Some (InnerAt root)
-      → RowHolds t root i unset_word
-      → HasPart t word i row.target root rows ↔ CanPlace t caller rebuild i word rows
-  part_fits rebuild i word root row known published root_is holds = (
-    (λ h.
-        let all = leaves_there t caller rows publish free (Some (InnerAt row.target)) h.leaves
-        h.reached in
-        record {
-          known = known;
-          row = row;
-          published = published;
-          root = root;
-          root_is = root_is;
-          root_row = holds.row;
-          root_published = holds.published;
-          free = holds.in_slot;
-          leaves = h.leaves;
-          reached = h.reached;
-          part = h.part.part;
-          part_is = h.part.part_is;
-          ref = h.part.builds.ref;
-          ref_is = h.part.builds.names;
-          ideal = builds_ideal (with_inners t.pieces rows) h.part.builds.ref h.part.part root rows
-              h.part.builds.builds (rows_there t caller rows publish free)
-              (part_of_each key_of_leaf (LeafStands (with_inners t.pieces rows)) (parts h.leaves) i
-              h.part.part
-              (each_of_cut key_of_leaf (LeafStands (with_inners t.pieces rows))
-              (part_lens (length h.leaves)) h.leaves all) h.part.part_is);
-          once = publish.once;
-          held = publish.held;
-        }),
-    (λ c.
-        let same = one_rebuild (t.pieces rebuild) c.row row c.published published in
-        let target : c.row.target ≡ row.target = ap (λ r. r.target) same in
-        let base : c.root ≡ root = same_base (ref_of row.root) c.root root
-        (subst (λ r. ref_of r.root ≡ Some (InnerAt c.root)) same c.root_is) root_is in
-        record {
-          leaves = c.leaves;
-          reached = subst (λ n. HasLeaves t.pieces (Some (InnerAt n)) c.leaves) target c.reached;
-          part = record {
-            part = c.part;
-            part_is = c.part_is;
-            builds = record {
-              ref = c.ref;
-              names = c.ref_is;
-              builds = subst (λ b. Builds c.ref c.part b rows) base
-                  (ideal_builds (with_inners t.pieces rows) c.ref c.part c.root (bases_of rows)
-                  c.ideal rows refl (rows_there t caller rows publish free));
-            };
-          };
-        }),
-  )
-    where
-      same_base : (o : Option Ref) (a b : ℕ) → o ≡ Some (InnerAt a) → o ≡ Some (InnerAt b) → a ≡ b
-      same_base o a b e f = cc
-
--- what a part that may be placed asks of its rows, and of the slot
-module _ (t : Snapshot) (caller rebuild i word : ℕ) (rows : List Row) (c : CanPlace t caller rebuild
-    i word rows) where
-  pub place_publishes : MayPublish t caller rows
-  place_publishes = record { held = c.held; once = c.once }
-
-  module _ (row : RebuildRow) (published : t.pieces rebuild ≡ Some (Rebuild row)) where
-    pub place_root : (root : ℕ) × (ref_of row.root ≡ Some (InnerAt root)) × RowHolds t root i
-        unset_word
-    place_root = (
-      c.root,
-      subst (λ r. ref_of r.root ≡ Some (InnerAt c.root)) (one_rebuild (t.pieces rebuild) c.row row
-          c.published published) c.root_is,
-      record { row = c.root_row; published = c.root_published; in_slot = c.free },
-    )

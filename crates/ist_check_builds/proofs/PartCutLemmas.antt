@@ -36,7 +36,7 @@ use Rattle.ist_core.specs.Arithmetic.{part_len}
 use Rattle.ist_core.specs.Parts.{cut, first_keys}
 use Rattle.ist_core.specs.Leaves.{PlacedLeaf}
 use Rattle.ist_check_events.proofs.RowLemmas.{behind}
-use Rattle.ist_check_builds.specs.Built.{lens_from, key_of_leaf}
+use Rattle.ist_check_builds.specs.Built.{part_lens_from, key_of_leaf}
 use Rattle.ist_check_builds.proofs.GatherLemmas.{first_word}
 
 module _ {A : Type 0} where
@@ -60,7 +60,7 @@ module _ {A : Type 0} where
 
   -- a list cut from part j on is part j and the list behind it cut from the next part on
   pub cut_first : (n j left end : ℕ) (xs : List A) → left ≢ 0 → end ≡ min (part_len n j) (length xs)
-      → cut (lens_from n j left) xs ≡ take end xs ∷ cut (lens_from n (j + 1) (left - 1))
+      → cut (part_lens_from n j left) xs ≡ take end xs ∷ cut (part_lens_from n (j + 1) (left - 1))
       (from xs end)
   cut_first n j zero end xs some is = absurd (some refl)
   cut_first n j (suc left) end xs some is =
@@ -69,45 +69,45 @@ module _ {A : Type 0} where
       ∙ ap (λ k. take k xs) (sym is) in
       let rest : drop (part_len n j) xs ≡ from xs end = sym (drop_min (part_len n j) xs)
       ∙ ap (λ k. drop k xs) (sym is) ∙ sym (from-drop xs end) in
-      ap (λ ys. ys ∷ cut (lens_from n (j + 1) left) (drop (part_len n j) xs)) first
-      ∙ ap (λ ys. take end xs ∷ cut (lens_from n (j + 1) left) ys) rest
-      ∙ ap (λ k. take end xs ∷ cut (lens_from n (j + 1) k) (from xs end)) one
+      ap (λ ys. ys ∷ cut (part_lens_from n (j + 1) left) (drop (part_len n j) xs)) first
+      ∙ ap (λ ys. take end xs ∷ cut (part_lens_from n (j + 1) left) ys) rest
+      ∙ ap (λ k. take end xs ∷ cut (part_lens_from n (j + 1) k) (from xs end)) one
 
   -- a later part is one of those behind the first
   pub nth_more : (n j left end i : ℕ) (xs : List A) → left ≢ 0 → end ≡ min (part_len n j)
       (length xs) → i ≢ 0
-      → slice_get (cut (lens_from n (j + 1) (left - 1)) (from xs end)) (i - 1)
-      ≡ slice_get (cut (lens_from n j left) xs) i
+      → slice_get (cut (part_lens_from n (j + 1) (left - 1)) (from xs end)) (i - 1)
+      ≡ slice_get (cut (part_lens_from n j left) xs) i
   nth_more n j left end zero xs some is ne = absurd (ne refl)
   nth_more n j left end (suc i) xs some is ne =
-      ap (slice_get (cut (lens_from n (j + 1) (left - 1)) (from xs end))) (let e : suc i - 1
+      ap (slice_get (cut (part_lens_from n (j + 1) (left - 1)) (from xs end))) (let e : suc i - 1
       ≡ i = omega arith in e)
       ∙ ap (λ ps. slice_get ps (suc i)) (sym (cut_first n j left end xs some is))
 
   -- a list cut into no part
-  pub cut_last : (n j left : ℕ) (xs : List A) → left ≡ 0 → cut (lens_from n j left) xs ≡ []
-  cut_last n j left xs e = ap (λ k. cut (lens_from n j k) xs) e
+  pub cut_last : (n j left : ℕ) (xs : List A) → left ≡ 0 → cut (part_lens_from n j left) xs ≡ []
+  cut_last n j left xs e = ap (λ k. cut (part_lens_from n j k) xs) e
 
 -- ---- first keys
 
 module _ (n j left end : ℕ) (leaves : List PlacedLeaf) (some : left ≢ 0)
     (is : end ≡ min (part_len n j) (length leaves)) where
   abbrev pub rest_keys : List ℕ
-  rest_keys = first_keys key_of_leaf (cut (lens_from n (j + 1) (left - 1)) (from leaves end))
+  rest_keys = first_keys key_of_leaf (cut (part_lens_from n (j + 1) (left - 1)) (from leaves end))
 
   -- an empty part has no first key
-  pub keys_skip : end ≡ 0 → first_keys key_of_leaf (cut (lens_from n j left) leaves) ≡ rest_keys
+  pub keys_skip : end ≡ 0 → first_keys key_of_leaf (cut (part_lens_from n j left) leaves) ≡ rest_keys
   keys_skip e =
       ap (first_keys key_of_leaf) (cut_first n j left end leaves some is)
-      ∙ ap (λ k. first_keys key_of_leaf (take k leaves ∷ cut (lens_from n (j + 1) (left - 1))
+      ∙ ap (λ k. first_keys key_of_leaf (take k leaves ∷ cut (part_lens_from n (j + 1) (left - 1))
       (from leaves end))) e
 
   -- another one has that of its first leaf
   pub keys_first : (first : PlacedLeaf) → end ≢ 0 → first ≡ get_or leaves 0 first
-      → first_keys key_of_leaf (cut (lens_from n j left) leaves) ≡ key_of_leaf first ∷ rest_keys
+      → first_keys key_of_leaf (cut (part_lens_from n j left) leaves) ≡ key_of_leaf first ∷ rest_keys
   keys_first first ne at =
       ap (first_keys key_of_leaf) (cut_first n j left end leaves some is)
-      ∙ head end leaves ne (omega arith) at (cut (lens_from n (j + 1) (left - 1)) (from leaves end))
+      ∙ head end leaves ne (omega arith) at (cut (part_lens_from n (j + 1) (left - 1)) (from leaves end))
     where
       head : (k : ℕ) (xs : List PlacedLeaf) → k ≢ 0 → k ≤ length xs → first ≡ get_or xs 0 first
           → (parts : List (List PlacedLeaf))
@@ -120,12 +120,12 @@ module _ (n j left end : ℕ) (leaves : List PlacedLeaf) (some : left ≢ 0)
 
   -- so a part that isn't empty has some first key
   pub keys_some : end ≢ 0
-      → (k : ℕ) × (ks : List ℕ) × (first_keys key_of_leaf (cut (lens_from n j left) leaves)
+      → (k : ℕ) × (ks : List ℕ) × (first_keys key_of_leaf (cut (part_lens_from n j left) leaves)
       ≡ k ∷ ks)
   keys_some ne = at leaves refl
     where
       at : (xs : List PlacedLeaf) → leaves ≡ xs
-          → (k : ℕ) × (ks : List ℕ) × (first_keys key_of_leaf (cut (lens_from n j left) leaves)
+          → (k : ℕ) × (ks : List ℕ) × (first_keys key_of_leaf (cut (part_lens_from n j left) leaves)
           ≡ k ∷ ks)
       at [] e = absurd (ne (let none = ap length e in omega arith))
       at (x ∷ xs) e = (key_of_leaf x, rest_keys, keys_first x ne (sym (ap (λ ys. get_or ys 0 x) e)))

@@ -44,7 +44,7 @@ use Rattle.ist_core.proofs.RisingLemmas.{each_of_cut}
 use Rattle.ist_check_builds.specs.Standing.{HeldAreFree}
 use Rattle.ist_check_builds.specs.Built.{
   key_of_leaf,
-  Builds,
+  BuildsRef,
   builds_none,
   builds_one,
   builds_more,
@@ -164,7 +164,7 @@ split_bases (x ∷ xs) ys (row ∷ rows) e =
 module _ (qs : Pieces) where
   mutual
     pub builds_ideal : (ref : Ref) (leaves : List PlacedLeaf) (above : ℕ) (rows : List Row)
-        → Builds ref leaves above rows → Each (Stands qs) rows → Each (LeafStands qs) leaves
+        → BuildsRef ref leaves above rows → Each (Stands qs) rows → Each (LeafStands qs) leaves
         → IsIdeal qs ref leaves above (bases_of rows)
     builds_ideal _ _ _ _ builds_none stand there = of_none
     builds_ideal _ _ _ _ (builds_one {base = base} {leaf = leaf} same) stand there = of_one same
@@ -201,7 +201,7 @@ module _ (qs : Pieces) where
     pub ideal_builds : (ref : Ref) (leaves : List PlacedLeaf) (above : ℕ) (bases : List ℕ)
         → IsIdeal qs ref leaves above bases → (rows : List Row) → bases ≡ bases_of rows
         → Each (Stands qs) rows
-        → Builds ref leaves above rows
+        → BuildsRef ref leaves above rows
     ideal_builds _ _ above _ of_none [] e stand = builds_none
     ideal_builds _ _ above _ of_none (row ∷ rows) e stand = absurd (cc)
     ideal_builds _ _ above _ (of_one same f) [] e stand = builds_one same
@@ -211,7 +211,7 @@ module _ (qs : Pieces) where
         stand =
         let here : base ≡ row.base = cc in
         let tail : bases ≡ bases_of rows = cc in
-        subst (λ b. Builds (InnerAt b) leaves above (row ∷ rows)) (sym here)
+        subst (λ b. BuildsRef (InnerAt b) leaves above (row ∷ rows)) (sym here)
         (builds_more r
         record {
           read = sym stand.0 ∙ subst (λ b. qs b ≡ Some (Inner r)) here top.published;

@@ -27,7 +27,7 @@ use Rattle.ist_core.specs.Arithmetic.{degree, part_len, part_lens}
 use Rattle.ist_core.specs.Parts.{cut, parts, first_keys}
 use Rattle.ist_core.specs.Pieces.{Inner, inner_of}
 use Rattle.ist_core.specs.Leaves.{PlacedLeaf}
-use Rattle.ist_check_builds.specs.Built.{lens_from, key_of_leaf, HasTopSlots}
+use Rattle.ist_check_builds.specs.Built.{part_lens_from, key_of_leaf, HasTopSlots}
 use Rattle.ist_check_builds.proofs.PartCutLemmas.{from, from-drop, drop_min, cut_first}
 
 -- words of four fields and some more
@@ -43,7 +43,7 @@ four_fields (a ∷ b ∷ c ∷ d ∷ ws) h = ap (λ xs. a ∷ b ∷ c ∷ d ∷ 
 -- all parts but the first
 parts_behind : (leaves : List PlacedLeaf) (first : ℕ) → degree (length leaves) ≢ 0
     → first ≡ min (part_len (length leaves) 0) (length leaves)
-    → drop 1 (parts leaves) ≡ cut (lens_from (length leaves) 1 (degree (length leaves) - 1))
+    → drop 1 (parts leaves) ≡ cut (part_lens_from (length leaves) 1 (degree (length leaves) - 1))
     (from leaves first)
 unfolding part_lens
 parts_behind leaves first some is = ap (drop 1) (cut_first (length leaves) 0
@@ -71,11 +71,11 @@ module _ (row : Row) (leaves : List PlacedLeaf) (above : ℕ) (ws : List ℕ) (i
 
   -- what the code takes for the keys that the row must have
   abbrev pub wanted_keys : List ℕ
-  wanted_keys = first_keys key_of_leaf (cut (lens_from (length leaves) 1 (get_or ws 2 0 - 1))
+  wanted_keys = first_keys key_of_leaf (cut (part_lens_from (length leaves) 1 (get_or ws 2 0 - 1))
       (from leaves first))
 
   wanted : wanted_keys ≡ first_keys key_of_leaf (drop 1 (parts leaves))
-  wanted = ap (λ d. first_keys key_of_leaf (cut (lens_from (length leaves) 1 (d - 1))
+  wanted = ap (λ d. first_keys key_of_leaf (cut (part_lens_from (length leaves) 1 (d - 1))
       (from leaves first))) degree_is
       ∙ sym (ap (first_keys key_of_leaf) (parts_behind leaves first some first_is))
 

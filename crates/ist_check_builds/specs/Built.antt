@@ -12,8 +12,8 @@ use Rattle.ist_core.specs.Pieces.{Inner, inner_of}
 use Rattle.ist_core.specs.Leaves.{PlacedLeaf}
 
 -- how many of n keys the parts have from part j on, `left` of them
-abbrev pub lens_from : ℕ → ℕ → ℕ → List ℕ
-lens_from n j left = map (part_len n) (range_with_len j left)
+abbrev pub part_lens_from : ℕ → ℕ → ℕ → List ℕ
+part_lens_from n j left = map (part_len n) (range_with_len j left)
 
 -- the key of a leaf
 abbrev pub key_of_leaf : PlacedLeaf → ℕ
@@ -32,27 +32,27 @@ pub record IsTopRow (row : Row) (r : InnerRow) (leaves : List PlacedLeaf) (above
 
 mutual
   -- the reference is the ideal subtree over these leaves, and these are its inner rows
-  pub data Builds : Ref → List PlacedLeaf → ℕ → List Row → Type 0 where
-    builds_none : {above : ℕ} → Builds Empty [] above []
+  pub data BuildsRef : Ref → List PlacedLeaf → ℕ → List Row → Type 0 where
+    builds_none : {above : ℕ} → BuildsRef Empty [] above []
     builds_one : {base above : ℕ} {leaf : PlacedLeaf} → leaf.base ≡ base
-        → Builds (LeafAt base) (leaf ∷ []) above []
+        → BuildsRef (LeafAt base) (leaf ∷ []) above []
     builds_more : {above : ℕ} {leaves : List PlacedLeaf} {row : Row} {rows : List Row} (r : InnerRow)
         → IsTopRow row r leaves above → BuildsAll r.slots (parts leaves) row.base rows
-        → Builds (InnerAt row.base) leaves above (row ∷ rows)
+        → BuildsRef (InnerAt row.base) leaves above (row ∷ rows)
 
   -- each word is the ideal subtree over its part
   pub data BuildsAll : List ℕ → List (List PlacedLeaf) → ℕ → List Row → Type 0 where
     builds_end : {above : ℕ} → BuildsAll [] [] above []
     builds_part : {word above : ℕ} {words : List ℕ} {part : List PlacedLeaf}
         {behind : List (List PlacedLeaf)} {here rest : List Row} (ref : Ref)
-        → ref_of word ≡ Some ref → Builds ref part above here → BuildsAll words behind above rest
+        → ref_of word ≡ Some ref → BuildsRef ref part above here → BuildsAll words behind above rest
         → BuildsAll (word ∷ words) (part ∷ behind) above (here ++ rest)
 
 -- the word is that of the ideal subtree
 pub record BuildsAt (word : ℕ) (leaves : List PlacedLeaf) (above : ℕ) (rows : List Row) : Type 0 where
   pub ref : Ref
   pub names : ref_of word ≡ Some ref
-  pub builds : Builds ref leaves above rows
+  pub builds : BuildsRef ref leaves above rows
 
 -- the first k of the rows have P, and no other number of them; or no number of them does
 abbrev pub CountsRows : (List Row → Type 0) → List Row → Option ℕ → Type 0

@@ -4,3 +4,4 @@ pub mod Standing
 pub mod Reading
 pub mod Built
 pub mod Publishing
+pub mod Losing

@@ -14,7 +14,7 @@ pub record MayPublish (t : Snapshot) (caller : ℕ) (rows : List Row) : Type 0 w
   pub once : Distinct (bases_of rows)
 
 -- the word and the rows are the root over the leaves of a target with k keys
-pub record HasRoot (t : Snapshot) (word k target : ℕ) (rows : List Row) : Type 0 where
+pub record HasRootOf (t : Snapshot) (word k target : ℕ) (rows : List Row) : Type 0 where
   pub leaves : List PlacedLeaf
   pub reached : HasLeaves t.pieces (Some (InnerAt target)) leaves
   pub root : IsRootOf word k leaves target rows

@@ -8,11 +8,11 @@ use Rattle.ist_check_builds.specs.declared.readings.Reading.{Reading}
 use Rattle.ist_check_builds.specs.declared.readings.Reading.TheVariants.{Nothing, OneLeaf, OneRow, Other}
 
 -- the reading is that of the reference; other ones have no leaves at all
-abbrev pub IsReading : Reading → Option Ref → Type 0
-IsReading Nothing ref = ref ≡ Some Empty
-IsReading (OneLeaf base) ref = ref ≡ Some (LeafAt base)
-IsReading (OneRow base) ref = ref ≡ Some (InnerAt base)
-IsReading Other ref = (ps : Pieces) (leaves : List PlacedLeaf) → ¬ (HasLeaves ps ref leaves)
+abbrev pub IsReadingOf : Reading → Option Ref → Type 0
+IsReadingOf Nothing ref = ref ≡ Some Empty
+IsReadingOf (OneLeaf base) ref = ref ≡ Some (LeafAt base)
+IsReadingOf (OneRow base) ref = ref ≡ Some (InnerAt base)
+IsReadingOf Other ref = (ps : Pieces) (leaves : List PlacedLeaf) → ¬ (HasLeaves ps ref leaves)
 
 -- leaves with P were added behind the others; or there are none with P
 abbrev pub Gathers : (List PlacedLeaf → Type 0) → List PlacedLeaf → Bool → List PlacedLeaf → Type 0

@@ -7,7 +7,7 @@ ghost use Rattle.ist_core.specs.Building.{CanRoot, CanPlace};
 ghost use Rattle.ist_check_events.specs.Mirroring.{Mirrors, RowHolds};
 ghost use Rattle.ist_check_events.specs.Remembering.{KnowsStarts};
 ghost use Rattle.ist_check_builds.specs.Standing.{HeldAreFree};
-ghost use Rattle.ist_check_builds.specs.Publishing.{MayPublish, HasRoot, HasPart, IsPartOf};
+ghost use Rattle.ist_check_builds.specs.Publishing.{MayPublish, HasRootOf, HasPart, IsPartOf};
 
 use crate::ideals::nth_part;
 use crate::leaves::{FoundLeaf, add_leaves};
@@ -109,7 +109,7 @@ fn has_root(
     rows: &[Row],
 ) -> Result<bool, AllocError>
     ensures exact { IfOk result (λ may. (t : Snapshot) → Mirrors replica.now t
-        → (IsTrue may ↔ HasRoot t word k target rows.now)) }
+        → (IsTrue may ↔ HasRootOf t word k target rows.now)) }
 {
     let mut leaves = Vec::new(alloc);
     if !add_leaves(alloc, replica, target, &mut leaves)? {

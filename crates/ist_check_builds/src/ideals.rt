@@ -4,7 +4,7 @@ ghost use Rattle.ist_core.specs.declared.states.InnerRow.{InnerRow};
 ghost use Rattle.ist_core.specs.Arithmetic.{part_len};
 ghost use Rattle.ist_core.specs.References.{LeafAt, ref_of};
 ghost use Rattle.ist_core.specs.Parts.{cut, first_keys};
-ghost use Rattle.ist_check_builds.specs.Built.{lens_from, key_of_leaf, HasTopSlots, BuildsAt, BuildsAll, CountsRows};
+ghost use Rattle.ist_check_builds.specs.Built.{part_lens_from, key_of_leaf, HasTopSlots, BuildsAt, BuildsAll, CountsRows};
 
 use crate::leaves::FoundLeaf;
 use ist_check_events::{degree_of, inner_of_word, leaf_of_word, names_nothing, part_len_of};
@@ -29,7 +29,7 @@ fn part_end(n: u64, j: u64, len: usize) -> usize
 fn are_keys(n: u64, j: u64, left: u64, keys: &[u64], leaves: &[FoundLeaf]) -> bool
     requires parts { j + left < 2 ^ 64 }
     ensures exact { IsTrue result
-        ↔ (keys.now ≡ first_keys key_of_leaf (cut (lens_from n j left) leaves.now)) }
+        ↔ (keys.now ≡ first_keys key_of_leaf (cut (part_lens_from n j left) leaves.now)) }
 {
     if left == 0 {
         return keys.len() == 0;
@@ -152,7 +152,7 @@ fn parts_built(
     requires two { 2 ≤ n }
     requires parts { j + left < 2 ^ 64 }
     ensures within { IfSome result (λ k. k ≤ length rows.now) }
-    ensures exact { CountsRows (λ rs. BuildsAll slots.now (cut (lens_from n j left) leaves.now)
+    ensures exact { CountsRows (λ rs. BuildsAll slots.now (cut (part_lens_from n j left) leaves.now)
         above rs) rows.now result }
 {
     match slots {
@@ -193,8 +193,8 @@ pub fn nth_part<'a>(
 ) -> Option<&'a [FoundLeaf]>
     requires parts { j + left < 2 ^ 64 }
     ensures exact { MatchOption result
-        (slice_get (cut (lens_from n j left) leaves.now) i ≡ None)
-        (λ part. slice_get (cut (lens_from n j left) leaves.now) i ≡ Some part.now) }
+        (slice_get (cut (part_lens_from n j left) leaves.now) i ≡ None)
+        (λ part. slice_get (cut (part_lens_from n j left) leaves.now) i ≡ Some part.now) }
 {
     if left == 0 {
         return None;

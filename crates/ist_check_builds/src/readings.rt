@@ -7,7 +7,7 @@ ghost use Rattle.ist_core.specs.After as after;
 ghost use Rattle.ist_core.specs.Slots as slots;
 ghost use Rattle.ist_layout.specs.Meanings.{ref_meant};
 ghost use Rattle.ist_check_events.specs.Mirroring.{Mirrors};
-ghost use Rattle.ist_check_builds.specs.Reading.{IsReading};
+ghost use Rattle.ist_check_builds.specs.Reading.{IsReadingOf};
 
 use ist_check_events::Replica;
 use ist_core::ChangeRow;
@@ -29,7 +29,7 @@ pub enum Reading {
 /// What a slot with this word reads as.
 pub fn read_slot(replica: &Replica, word: u64) -> Reading
     ensures exact { (t : Snapshot) → Mirrors replica.now t
-        → IsReading result (slots.logical t.pieces word) }
+        → IsReadingOf result (slots.logical t.pieces word) }
 {
     match past_change(replica, word) {
         Some(Ref::Empty) => Reading::Nothing,
@@ -76,7 +76,7 @@ fn side_of(change: &ChangeRow) -> u64
 /// What a rebuild at the base reads as.
 fn target_of(replica: &Replica, base: u64) -> Reading
     ensures exact { (t : Snapshot) → Mirrors replica.now t
-        → IsReading result (slots.rebuild_reads (t.pieces base)) }
+        → IsReadingOf result (slots.rebuild_reads (t.pieces base)) }
 {
     match replica.rebuilds.get(&base) {
         None => Reading::Other,

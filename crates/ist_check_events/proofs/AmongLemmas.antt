@@ -1,4 +1,5 @@
--- A search finds a number exactly where it is among the others. Serves `giving_up.rt`, `kinds.rt` and `shapes.rt`.
+-- A search finds a number exactly where it is among the others. Serves `kinds.rt` and `shapes.rt`,
+-- and who looks for a base twice.
 use Rattle.std.proofs.Common.{
   ◌≡◌,
   ◌↔◌,

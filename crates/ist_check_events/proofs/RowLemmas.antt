@@ -16,6 +16,7 @@ use Rattle.std.proofs.Common.{
   take,
   drop,
   get_or,
+  refl,
   sym,
   ap,
   subst,
@@ -68,6 +69,11 @@ module _ {A : Type 0} where
       let both = subst (Among y) (take_more xs i d h) a in
       ⊎_elim none (λ b. ⊎_elim other (λ z. z) b) (among-append y (take i xs) (get_or xs i d ∷ [])
       both)
+
+-- some numbers are the first and those behind it
+pub first_behind : (xs : List ℕ) → 1 ≤ length xs → get_or xs 0 0 ∷ behind xs ≡ xs
+first_behind [] n = absurd (omega arith)
+first_behind (y ∷ ys) n = sym (split_first (y ∷ ys) y n refl)
 
 -- the first row is held, and so are the others
 module _ (t : Snapshot) (caller : ℕ) (rows : List Row) (row : Row) (n : 1 ≤ length rows)

@@ -32,8 +32,7 @@ use Rattle.ist_core.specs.Elements.{Among, Each}
 use Rattle.ist_core.specs.Fairness.{spare_sizes}
 use Rattle.ist_check_events.specs.declared.fairness.Spare.{Spare}
 use Rattle.ist_check_events.specs.Searching.{IsSpare, AreSpare, without_spare, all_spare}
-use Rattle.ist_check_events.proofs.RowLemmas.{behind}
-use Rattle.ist_check_events.proofs.LoseLemmas.{first_behind}
+use Rattle.ist_check_events.proofs.RowLemmas.{behind, first_behind}
 
 -- a flag is cleared by the size of its own kind, and by no other
 cleared : (b : Bool) (x kind : ℕ) → IsTrue (b && not (x == kind)) → IsTrue b × (x ≢ kind)

@@ -1,33 +1,8 @@
 -- The way up by the slots in which nodes hung is the way down that was at some moment. Serves
 -- `climbing.rt`.
-use Rattle.std.proofs.Common.{
-  ◌≡◌,
-  ◌↔◌,
-  ◌∙◌,
-  ◌≢◌,
-  ◌⊎◌,
-  ℕ,
-  List,
-  [],
-  ◌∷◌,
-  ◌++◌,
-  ◌≤◌,
-  ◌<◌,
-  Option,
-  Some,
-  None,
-  IsTrue,
-  is_some,
-  true≢false,
-  refl,
-  sym,
-  ap,
-  subst,
-  arith,
-  inl,
-  inr,
-  ⊎_elim,
-}
+use Rattle.std.proofs.Common.{◌≡◌, ◌↔◌, ◌∙◌, ◌≢◌, ◌⊎◌, ℕ, List, [], ◌∷◌, ◌++◌, Option, Some, None}
+use Rattle.std.proofs.Common.{IsTrue, is_some, true≢false, refl, sym, ap, subst, arith, inl, inr}
+use Rattle.std.proofs.Common.{⊎_elim}
 use Rattle.std.specs.Ordering.{nat_cmp}
 use Rattle.std.specs.BTreeMap as tree
 use Rattle.std.specs.BTreeMap.{BTreeMap}
@@ -38,27 +13,13 @@ use Rattle.ist_core.specs.Pieces.{Inner}
 use Rattle.ist_core.specs.Snapshots.{Snapshot}
 use Rattle.ist_core.specs.Logs.{Log, Ever, state}
 use Rattle.ist_core.specs.Slots.{SlotHolds, in_anchor, in_row, IsChildFor, of_anchor, of_row}
-use Rattle.ist_core.specs.Links.{
-  IsChild,
-  Linked,
-  at_anchor,
-  below,
-  Chain,
-  no_row,
-  one_row,
-  Leads,
-  from_anchor,
-  down,
-  WasLinked,
-  WasOnChain,
-  WasLedTo,
-}
+use Rattle.ist_core.specs.Links.{IsChild, Linked, at_anchor, below, Chain, no_row, one_row, Leads}
+use Rattle.ist_core.specs.Links.{from_anchor, down, WasLinked, WasOnChain, WasLedTo}
 use Rattle.ist_core.proofs.ElementLemmas.{among-append, among_left, among_right}
 use Rattle.ist_check_events.specs.declared.pasts.Slot.{Slot}
 use Rattle.ist_check_events.specs.Mirroring.{HasChildFor}
-use Rattle.ist_check_events.specs.Remembering.{Rises, KnowsSlots}
-use Rattle.ist_check_events.specs.Ways.{Climbs, at_top, up, ComesBy, here, higher, IsJump, KeysStay}
-use Rattle.ist_check_events.proofs.AnswerLemmas.{iff_trans}
+use Rattle.ist_check_events.specs.Remembering.{KnowsSlots}
+use Rattle.ist_check_events.specs.Ways.{Climbs, at_top, up, ClimbsBy, here, higher, KeysStay}
 use Rattle.ist_check_events.proofs.MirrorLemmas.{one_inner}
 
 -- ---- moments
@@ -208,52 +169,52 @@ module _ (first : Snapshot) (log : Log) (slots : BTreeMap ℕ Slot) (k : KnowsSl
     -- ---- chains
 
     chain_comes : (u : Snapshot) → IsMoment first log u → (n : ℕ) (rows : List ℕ) → Chain u n rows
-        → (x : ℕ) → Among x rows → ComesBy slots x n
+        → (x : ℕ) → Among x rows → ClimbsBy slots x n
     chain_comes u m _ _ no_row x a = absurd a
     chain_comes u m _ _ (one_row {node = p} {child = n} {rows = rs} i ch c) x a =
         let there = entry u m p i n (chain_linked u p rs ch) c in
         ⊎_elim
         (λ (b : Among x rs). higher record { node = p; index = i } there
         (chain_comes u m p rs ch x b))
-        (λ (b : Among x (n ∷ [])). ⊎_elim (λ e. subst (λ y. ComesBy slots y n) (sym e)
+        (λ (b : Among x (n ∷ [])). ⊎_elim (λ e. subst (λ y. ClimbsBy slots y n) (sym e)
         (here record { node = p; index = i } there)) (λ z. absurd z) b)
         (among-append x rs (n ∷ []) a)
 
     -- a row that the way up comes by lies on the chain, where that of the parent has those higher up
     on_longer : (u : Snapshot) → IsMoment first log u → (p i n : ℕ) → Linked u p → IsChild u p i n
-        → (rs : List ℕ) → ((x : ℕ) → ComesBy slots x p → Among x rs)
-        → (x : ℕ) → ComesBy slots x n → Among x (rs ++ n ∷ [])
+        → (rs : List ℕ) → ((x : ℕ) → ClimbsBy slots x p → Among x rs)
+        → (x : ℕ) → ClimbsBy slots x n → Among x (rs ++ n ∷ [])
     on_longer u m p i n l c rs above _ (here slot e) = among_right n rs (n ∷ []) (inl refl)
     on_longer u m p i n l c rs above x (higher slot e rest) =
         let same = same_slot u m p i n l c slot e in
-        among_left x rs (n ∷ []) (above x (subst (λ s. ComesBy slots x s.node) (sym same) rest))
+        among_left x rs (n ∷ []) (above x (subst (λ s. ClimbsBy slots x s.node) (sym same) rest))
 
-    none_on_anchor : (x n : ℕ) → n ≡ anchor → ¬ (ComesBy slots x n)
+    none_on_anchor : (x n : ℕ) → n ≡ anchor → ¬ (ClimbsBy slots x n)
     none_on_anchor _ n a (here slot e) = no_slot_of_anchor slot
         (subst (λ y. tree.get nat_cmp slots y ≡ Some slot) a e)
     none_on_anchor x n a (higher slot e rest) = no_slot_of_anchor slot
         (subst (λ y. tree.get nat_cmp slots y ≡ Some slot) a e)
 
     linked_chain : (u : Snapshot) → IsMoment first log u → (n : ℕ) → Linked u n
-        → (rows : List ℕ) × Chain u n rows × ((x : ℕ) → ComesBy slots x n → Among x rows)
+        → (rows : List ℕ) × Chain u n rows × ((x : ℕ) → ClimbsBy slots x n → Among x rows)
     linked_chain u m _ at_anchor = ([], no_row, λ x h. none_on_anchor x anchor refl h)
     linked_chain u m _ (below {node = p} {child = n} i l c) =
         let r = linked_chain u m p l in
         (r.0 ++ n ∷ [], one_row i r.1 c, on_longer u m p i n l c r.0 r.2)
 
-    pub comes_entry : (x n : ℕ) → ComesBy slots x n
+    pub comes_entry : (x n : ℕ) → ClimbsBy slots x n
         → (slot : Slot) × (tree.get nat_cmp slots n ≡ Some slot)
     comes_entry _ n (here slot e) = (slot, e)
     comes_entry x n (higher slot e rest) = (slot, e)
 
-    pub comes_is : (n x : ℕ) → ComesBy slots x n ↔ WasOnChain first log n x
+    pub comes_is : (n x : ℕ) → ClimbsBy slots x n ↔ WasOnChain first log n x
     comes_is n x = (
       out,
       (λ h. let w = ever_at first (λ t. (rows : List ℕ) × Chain t n rows
           × Among x rows) log h in chain_comes w.0 w.1 n w.2.0 w.2.1 x w.2.2),
     )
       where
-        out : ComesBy slots x n → WasOnChain first log n x
+        out : ClimbsBy slots x n → WasOnChain first log n x
         out h =
             let s = comes_entry x n h in
             let w = ever_at first (λ t. Linked t s.0.node × IsChild t s.0.node s.0.index n) log
@@ -276,90 +237,3 @@ module _ (first : Snapshot) (log : Log) (slots : BTreeMap ℕ Slot) (k : KnowsSl
 pub anchor_linked : (first : Snapshot) (log : Log) → WasLinked first log anchor
 anchor_linked first log = at_ever first (λ t. Linked t anchor) log (state first log)
     (is_moment first log) at_anchor
-
--- ---- steps of the walks up
-
-module _ (slots : BTreeMap ℕ Slot) (n : ℕ) (slot : Slot) (e : tree.get nat_cmp slots n ≡ Some slot)
-  where
-    -- the way up from a node goes on from its slot
-    pub comes_on : (x : ℕ) → n ≢ x → ComesBy slots x slot.node ↔ ComesBy slots x n
-    comes_on x far = ((λ h. higher slot e h), (λ h. out n h far e))
-      where
-        out : (n : ℕ) → ComesBy slots x n → n ≢ x → tree.get nat_cmp slots n ≡ Some slot
-            → ComesBy slots x slot.node
-        out _ (here s i) f j = absurd (f refl)
-        out _ (higher s i h) f j = let same : s ≡ slot = cc in subst (λ y. ComesBy slots x y.node)
-            same h
-
-    pub climbs_on : (t : Snapshot) (key : ℕ) → n ≢ anchor → IsChildFor t slot.node key slot.index
-        → Climbs slots t key slot.node ↔ Climbs slots t key n
-    climbs_on t key far child = ((λ h. up slot e child h), (λ h. out n h far e))
-      where
-        out : (n : ℕ) → Climbs slots t key n → n ≢ anchor → tree.get nat_cmp slots n ≡ Some slot
-            → Climbs slots t key slot.node
-        out _ at_top f j = absurd (f refl)
-        out _ (up s i g h) f j = let same : s ≡ slot = cc in subst (λ y. Climbs slots t key y.node)
-            same h
-
-    pub climbs_off : (t : Snapshot) (key : ℕ) → n ≢ anchor → ¬ (IsChildFor t slot.node key slot.index)
-        → ¬ (Climbs slots t key n)
-    climbs_off t key far other h = out n h far e
-      where
-        out : (n : ℕ) → Climbs slots t key n → n ≢ anchor → tree.get nat_cmp slots n ≡ Some slot → ⊥
-        out _ at_top f j = f refl
-        out _ (up s i g h) f j = let same : s ≡ slot = cc in other
-            (subst (λ y. IsChildFor t y.node key y.index) same g)
-
--- where the table has no slot for a node below the anchor, its way up comes to nothing
-pub climbs_none : (slots : BTreeMap ℕ Slot) (t : Snapshot) (key n : ℕ) → n ≢ anchor
-    → tree.get nat_cmp slots n ≡ None → ¬ (Climbs slots t key n)
-climbs_none slots t key _ far none at_top = far refl
-climbs_none slots t key n far none (up s e f h) = let no : ⊥ = cc in no
-
-pub comes_none : (slots : BTreeMap ℕ Slot) (row n : ℕ) → tree.get nat_cmp slots n ≡ None
-    → ¬ (ComesBy slots row n)
-comes_none slots _ n none (here s e) = let no : ⊥ = cc in no
-comes_none slots row n none (higher s e h) = let no : ⊥ = cc in no
-
--- the way up from a row comes by the row itself where the table has a slot for it
-pub comes_here : (slots : BTreeMap ℕ Slot) (row : ℕ)
-    → IsTrue (is_some (tree.get nat_cmp slots row)) ↔ ComesBy slots row row
-comes_here slots row = at (tree.get nat_cmp slots row) refl
-  where
-    at : (o : Option Slot) → tree.get nat_cmp slots row ≡ o → IsTrue (is_some o) ↔ ComesBy slots row row
-    at (Some slot) e = ((λ _. here slot e), (λ _. refl))
-    at None e = ((λ y. absurd (true≢false (sym y))), (λ h. absurd (comes_none slots row row e h)))
-
--- ---- jumps on the way up
-
-module _ (slots : BTreeMap ℕ Slot) (rise : Rises slots) where
-  -- what the way up comes by lies no higher than the node, and above the anchor
-  pub comes_low : (row n : ℕ) → ComesBy slots row n → row ≤ n
-  comes_low _ n (here s e) = omega arith
-  comes_low row n (higher s e h) =
-      let rest = comes_low row s.node h in let step = rise n s e in omega arith
-
-  pub comes_high : (row n : ℕ) → ComesBy slots row n → anchor < row
-  comes_high _ n (here s e) = let step = rise n s e in omega arith
-  comes_high row n (higher s e h) = comes_high row s.node h
-
-  -- a row no further up than one that the way comes by lies on the way from there
-  pub comes_via : (row by n : ℕ) → row ≤ by → ComesBy slots by n
-      → ComesBy slots row by ↔ ComesBy slots row n
-  comes_via row _ n low (here s e) = ((λ h. h), (λ h. h))
-  comes_via row by n low (higher s e h) =
-      let under = comes_low by s.node h in
-      let step = rise n s e in
-      let far : n ≢ row = omega arith in
-      iff_trans (comes_via row by s.node low h) (comes_on slots n s e row far)
-
--- a jump leads up, as far as it isn't past the row
-pub jump_leads : (first : Snapshot) (log : Log) (slots : BTreeMap ℕ Slot)
-    → KnowsSlots slots first log → (row node jump : ℕ) → IsJump first log node jump → row ≤ jump
-    → ComesBy slots row jump ↔ ComesBy slots row node
-jump_leads first log slots k row node jump (inl fixed) low = (
-  (λ h. let high = comes_high slots k.rises row jump h in absurd (omega arith)),
-  (λ h. let high = comes_high slots k.rises row node h in absurd (omega arith)),
-)
-jump_leads first log slots k row node jump (inr on) low =
-    comes_via slots k.rises row jump node low ((comes_is first log slots k node jump).1 on)

@@ -10,4 +10,3 @@ pub mod Standing
 pub mod Searching
 pub mod Readings
 pub mod Builds
-pub mod Losing

@@ -77,8 +77,8 @@ abbrev pub WasChild : Snapshot → Log → ℕ → ℕ → ℕ → Type 0
 WasChild first log node i child = Ever first (λ t. Linked t node × IsChild t node i child) log
 
 -- each slot that the map names is of a lower node, and of none below the anchor
-abbrev pub Rises : BTreeMap ℕ Slot → Type 0
-Rises slots =
+abbrev pub SlotsRise : BTreeMap ℕ Slot → Type 0
+SlotsRise slots =
     (child : ℕ) (slot : Slot) → tree.get nat_cmp slots child ≡ Some slot
     → (anchor ≤ slot.node) × (slot.node < child)
 
@@ -86,7 +86,7 @@ Rises slots =
 pub record KnowsSlots (slots : BTreeMap ℕ Slot) (first : Snapshot) (log : Log) : Type 0 where
   pub entries : (node i child : ℕ)
       → (tree.get nat_cmp slots child ≡ Some record { node = node; index = i }) ↔ WasChild first log node i child
-  pub rises : Rises slots
+  pub rises : SlotsRise slots
 
 -- the node is linked or was; the keys that lead to it are those from low to high, and the jump is on its chain or the anchor
 pub record IsWay (first : Snapshot) (log : Log) (node : ℕ) (way : Way) : Type 0 where

@@ -20,16 +20,16 @@ pub data Climbs (slots : BTreeMap ℕ Slot) (t : Snapshot) (key : ℕ) : ℕ →
       → Climbs slots t key child
 
 -- the way up from the node comes by the row, which may be the node itself
-pub data ComesBy (slots : BTreeMap ℕ Slot) (row : ℕ) : ℕ → Type 0 where
-  here : (slot : Slot) → tree.get nat_cmp slots row ≡ Some slot → ComesBy slots row row
+pub data ClimbsBy (slots : BTreeMap ℕ Slot) (row : ℕ) : ℕ → Type 0 where
+  here : (slot : Slot) → tree.get nat_cmp slots row ≡ Some slot → ClimbsBy slots row row
   higher : {child : ℕ} (slot : Slot) → tree.get nat_cmp slots child ≡ Some slot
-      → ComesBy slots row slot.node → ComesBy slots row child
+      → ClimbsBy slots row slot.node → ClimbsBy slots row child
 
 -- the place is further up the way from the node, and the row, if that way comes by it, not further up than the place; or the
 -- way doesn't come by the row
 abbrev pub LeadsUp : BTreeMap ℕ Slot → ℕ → ℕ → Option ℕ → Type 0
-LeadsUp slots node row None = ¬ (ComesBy slots row node)
-LeadsUp slots node row (Some next) = ComesBy slots row next ↔ ComesBy slots row node
+LeadsUp slots node row None = ¬ (ClimbsBy slots row node)
+LeadsUp slots node row (Some next) = ClimbsBy slots row next ↔ ClimbsBy slots row node
 
 -- the row lies on the chain of the node, or is one of the fixed words
 abbrev pub IsJump : Snapshot → Log → ℕ → ℕ → Type 0

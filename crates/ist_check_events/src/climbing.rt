@@ -7,7 +7,7 @@ ghost use Rattle.ist_core.specs.Logs.{Log, state};
 ghost use Rattle.ist_core.specs.Slots.{IsChildFor};
 ghost use Rattle.ist_core.specs.Links.{WasLinked, WasOnChain, WasLedTo};
 ghost use Rattle.ist_check_events.specs.Mirroring.{Mirrors, HasChildFor};
-ghost use Rattle.ist_check_events.specs.Remembering.{Rises, KnowsSlots, KnowsWays};
+ghost use Rattle.ist_check_events.specs.Remembering.{SlotsRise, KnowsSlots, KnowsWays};
 ghost use Rattle.ist_check_events.specs.Ways.{Climbs, LeadsUp, IsJump, KeysStay};
 
 use crate::pasts::Past;
@@ -89,7 +89,7 @@ pub fn was_led_to(replica: &Replica, past: &Past, key: u64, node: u64) -> bool
 
 /// Does the way up from the node come to the anchor by slots of the children for the key?
 fn climbs(replica: &Replica, past: &Past, key: u64, node: u64) -> bool
-    ensures exact { (t : Snapshot) → Mirrors replica.now t → Rises past.now.slots
+    ensures exact { (t : Snapshot) → Mirrors replica.now t → SlotsRise past.now.slots
         → (IsTrue result ↔ Climbs past.now.slots t key node) }
 {
     let mut at = node;

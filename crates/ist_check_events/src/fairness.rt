@@ -11,7 +11,6 @@ ghost use Rattle.ist_check_events.specs.Searching as searching;
 ghost use Rattle.ist_check_events.specs.Searching.{IsSpare, AreSpare, without_spare, TakesNext, BeginsOne, LeavesOut, AreBuilding};
 ghost use Rattle.ist_check_events.specs.Readings.{GoesFrom, SomeGoes, AddsReadings, LeavesSame, IsLeftBefore, rest_at};
 
-use crate::giving_up::are_same;
 use ist_layout::{CHANGE_WORDS, LEAF_WORDS, PAIR_WORDS, REBUILD_WORDS};
 use std::alloc::{AllocError, Global};
 
@@ -108,7 +107,7 @@ fn read_on(
     Ok(next)
 }
 
-/// AddsReadings what a reading leaves behind one more size.
+/// Adds what a reading leaves behind one more size.
 fn add_behind(
     lists: &[Vec<u64>],
     room: u64,
@@ -136,7 +135,7 @@ fn add_behind(
     add_begun(lists, room, reading.may, size, next)
 }
 
-/// AddsReadings what is left where the size is that of a spare row.
+/// Adds what is left where the size is that of a spare row.
 fn add_left_out(
     lists: &[Vec<u64>],
     room: u64,
@@ -161,7 +160,7 @@ fn add_left_out(
     add_reading(lists, room, left, next)
 }
 
-/// AddsReadings what is left where the list goes on with the size from the place on.
+/// Adds what is left where the list goes on with the size from the place on.
 fn add_on(
     lists: &[Vec<u64>],
     room: u64,
@@ -193,7 +192,7 @@ fn add_on(
     }
 }
 
-/// AddsReadings what is left of each list that begins with the size.
+/// Adds what is left of each list that begins with the size.
 fn add_begun(
     lists: &[Vec<u64>],
     room: u64,
@@ -211,7 +210,7 @@ fn add_begun(
     Ok(())
 }
 
-/// AddsReadings the reading, unless one of them leaves the same.
+/// Adds the reading, unless one of them leaves the same.
 fn add_reading(
     lists: &[Vec<u64>],
     room: u64,
@@ -249,6 +248,13 @@ fn leave_same(lists: &[Vec<u64>], a: Reading, b: Reading) -> bool
         return false;
     }
     are_same(rest_of(lists, a.list, a.at), rest_of(lists, b.list, b.at))
+}
+
+/// Are the numbers the same?
+pub fn are_same(xs: &[u64], ys: &[u64]) -> bool
+    ensures exact { IsTrue result ↔ (xs.now ≡ ys.now) }
+{
+    xs == ys
 }
 
 /// May the same rows be held beside the builds?

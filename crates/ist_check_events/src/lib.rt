@@ -2,17 +2,15 @@
 //! table.
 //!
 //! Read `specs/Lib.antt`, then `replicas.rt` and `pasts.rt`, and the files that decide events:
-//! `entering.rt`, `installing.rt`, `deciding.rt`, `counting.rt`, `marking.rt`, `building.rt` and
-//! `giving_up.rt`. Stands on `ist_core`, `ist_math` and `ist_layout`.
+//! `entering.rt`, `installing.rt`, `deciding.rt`, `counting.rt` and `marking.rt`. Stands on
+//! `ist_core`, `ist_math` and `ist_layout`.
 #![tactic(auto)]
 
-mod building;
 mod climbing;
 mod counting;
 mod deciding;
 mod entering;
 mod fairness;
-mod giving_up;
 mod installing;
 mod kinds;
 mod marking;
@@ -25,18 +23,18 @@ mod rows;
 mod shapes;
 mod shares;
 
-pub use building::can_draw;
 pub use counting::can_count;
 pub use deciding::{can_decide, can_okay, can_resolve};
 pub use entering::{can_enter, can_reserve};
-pub use giving_up::{are_distinct, can_lose};
+pub use fairness::are_same;
 pub use installing::can_install;
 pub use marking::{can_finish, can_mark, can_pass};
 pub use naming::{inner_of_word, leaf_of_word, names_nothing, rebuild_of_word};
 pub use nodes::{finished_keys, holds_at, is_open, slot_holds};
 pub use pasts::{LastUpdate, Past, Slot, Way, pair_key};
 pub use replicas::Replica;
-pub use rows::{change_of_words, holds_rows};
+pub use rows::{change_of_words, holds_row, holds_rows};
+pub use shapes::building_lists;
 pub use shares::{degree_of, part_len_of};
 
 #[cfg(test)]

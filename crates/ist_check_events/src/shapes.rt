@@ -48,7 +48,7 @@ fn target_keys(alloc: Global, replica: &Replica, past: &Past) -> Result<Vec<u64>
     Ok(keys)
 }
 
-/// AddsReadings with how many keys the target is finished, if it is.
+/// Adds with how many keys the target is finished, if it is.
 fn add_target(replica: &Replica, target: u64, keys: &mut Vec<u64>) -> Result<(), AllocError>
     ensures added { OnOk result (keys.new.items
         ≡ keys.old.items ++ builds.target_keys (tree.get nat_cmp replica.now.inners target)) }
@@ -76,7 +76,7 @@ fn each_once(alloc: Global, numbers: &[u64]) -> Result<Vec<u64>, AllocError>
     Ok(once)
 }
 
-/// AddsReadings the number, unless it is among them.
+/// Adds the number, unless it is among them.
 fn add_once(number: u64, once: &mut Vec<u64>) -> Result<(), AllocError>
     ensures added { OnOk result ((x : ℕ)
         → (Among x once.new.items ↔ (Among x once.old.items ⊎ (x ≡ number)))) }
@@ -100,7 +100,7 @@ fn lists_for(alloc: Global, keys: &[u64]) -> Result<Vec<Vec<u64>>, AllocError>
     Ok(lists)
 }
 
-/// AddsReadings the building lists of a rebuild whose target is finished with `k` keys. Of the parts of a
+/// Adds the building lists of a rebuild whose target is finished with `k` keys. Of the parts of a
 /// shared root the first and the last are enough, since the parts have two lengths at most.
 fn add_lists(alloc: Global, k: u64, lists: &mut Vec<Vec<u64>>) -> Result<(), AllocError>
     ensures added { OnOk result (map (λ v. v.items) lists.new.items
@@ -120,7 +120,7 @@ fn add_lists(alloc: Global, k: u64, lists: &mut Vec<Vec<u64>>) -> Result<(), All
     add_shape_alone(alloc, part_len_of(k, children - 1), lists)
 }
 
-/// AddsReadings the shape of an ideal tree of `n` keys as a list of its own.
+/// Adds the shape of an ideal tree of `n` keys as a list of its own.
 fn add_shape_alone(alloc: Global, n: u64, lists: &mut Vec<Vec<u64>>) -> Result<(), AllocError>
     ensures added { OnOk result (map (λ v. v.items) lists.new.items
         ≡ map (λ v. v.items) lists.old.items ++ shape n ∷ []) }
@@ -131,7 +131,7 @@ fn add_shape_alone(alloc: Global, n: u64, lists: &mut Vec<Vec<u64>>) -> Result<(
     Ok(())
 }
 
-/// AddsReadings the lengths of the inner rows of an ideal tree of `n` keys: a node's own, then those of
+/// Adds the lengths of the inner rows of an ideal tree of `n` keys: a node's own, then those of
 /// each part.
 fn add_shape(n: u64, out: &mut Vec<u64>) -> Result<(), AllocError>
     ensures added { OnOk result (out.new.items ≡ out.old.items ++ shape n) }

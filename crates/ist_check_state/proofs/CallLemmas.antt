@@ -45,13 +45,8 @@ use Rattle.ist_check_events.proofs.MirrorLemmas.{one_rebuild}
 use Rattle.ist_check_state.specs.Remembered.{StartsRebuild}
 use Rattle.ist_check_state.specs.Calls.{StartCalls, WordCalls, names_row, names_rebuild}
 use Rattle.ist_check_state.proofs.TableLemmas.{no_pass}
-use Rattle.ist_check_state.proofs.DecisionLemmas.{
-  rows_grow,
-  start_stays,
-  started_before,
-  started_newly,
-  start_begun,
-}
+use Rattle.ist_check_state.proofs.StartedLemmas.{rows_grow, start_stays, started_before}
+use Rattle.ist_check_state.proofs.StartedLemmas.{started_newly, start_begun}
 
 -- ---- the target of a rebuild
 

@@ -1,108 +1,34 @@
 -- Decided changes behind an event: they stay, and only a Decide makes one. Serves `starting.rt`.
-use Rattle.std.proofs.Common.{
-  ◌≡◌,
-  ◌≢◌,
-  ◌∙◌,
-  ◌⊎◌,
-  ◌↔◌,
-  ℕ,
-  nat_lt,
-  if◌then◌else◌,
-  Bool,
-  true,
-  false,
-  List,
-  ◌∷◌,
-  Option,
-  Some,
-  option_map,
-  refl,
-  sym,
-  ap,
-  subst,
-  inl,
-  inr,
-  ⊎_elim,
-  arith,
-}
-use Rattle.std.specs.BTreeSet.{BTreeSet}
-use Rattle.ist_core.specs.declared.pairs.Pair.{Pair}
+use Rattle.std.proofs.Common.{◌≡◌, ◌≢◌, ◌∙◌, ◌⊎◌, ℕ, nat_lt, if◌then◌else◌, Bool, true, false, List}
+use Rattle.std.proofs.Common.{◌∷◌, Option, Some, refl, sym, ap, subst, inl, inr, ⊎_elim}
 use Rattle.ist_core.specs.declared.lists.Row.{Row}
 use Rattle.ist_core.specs.declared.states.ChangeRow.{ChangeRow}
 use Rattle.ist_core.specs.declared.events.Event.{Event}
-use Rattle.ist_core.specs.declared.events.Event.TheVariants.{
-  Enter,
-  Reserve,
-  Install,
-  Okay,
-  Decide,
-  Resolve,
-  Count,
-  Mark,
-  Pass,
-  Finish,
-  Root,
-  Draw,
-  Place,
-  Lose,
-}
-use Rattle.ist_core.specs.References.{ChangeAt, word_of, ref_of}
-use Rattle.ist_core.specs.Statuses.{undecided, decided_yes, marked_word, finished_word}
+use Rattle.ist_core.specs.declared.events.Event.TheVariants.{Enter, Reserve, Install, Okay, Decide}
+use Rattle.ist_core.specs.declared.events.Event.TheVariants.{Resolve, Count, Mark, Pass, Finish}
+use Rattle.ist_core.specs.declared.events.Event.TheVariants.{Root, Draw, Place, Lose}
+use Rattle.ist_core.specs.References.{ChangeAt, word_of}
+use Rattle.ist_core.specs.Statuses.{undecided, marked_word, finished_word}
 use Rattle.ist_core.specs.Elements.{Among, Each}
-use Rattle.ist_core.specs.Pieces.{
-  Pieces,
-  Piece,
-  Leaf,
-  Inner,
-  Change,
-  Rebuild,
-  with_inners,
-  changed_at,
-  with_slot,
-  with_status,
-  counted,
-  with_decision,
-  with_root,
-  drawn,
-}
+use Rattle.ist_core.specs.Pieces.{Pieces, Piece, Leaf, Inner, Change, Rebuild, with_inners}
+use Rattle.ist_core.specs.Pieces.{changed_at, with_slot, with_status, counted, with_decision}
+use Rattle.ist_core.specs.Pieces.{with_root, drawn}
 use Rattle.ist_core.specs.Snapshots.{Snapshot, bases_of}
 use Rattle.ist_core.specs.After.{after, decision_word, side_of}
 use Rattle.ist_core.specs.Logs.{Log, state}
-use Rattle.ist_core.specs.Installing.{
-  pair_row,
-  pair_over,
-  FitsKind,
-  a_put,
-  a_pair,
-  a_remove,
-  a_start,
-  a_finish,
-}
+use Rattle.ist_core.specs.Installing.{pair_row, pair_over, FitsKind, a_put, a_pair, a_remove}
+use Rattle.ist_core.specs.Installing.{a_start, a_finish}
 use Rattle.ist_core.specs.Deciding.{CanDecide}
-use Rattle.ist_core.specs.Rebuilding.{IsStarted}
-use Rattle.ist_core.specs.Growing.{AllGrow}
 use Rattle.ist_core.specs.Enabled.{Enabled}
-use Rattle.ist_core.specs.StartLayout.{start}
-use Rattle.ist_core.specs.Lawful.{Lawful, EachEnabled, state_of}
 use Rattle.ist_core.proofs.ElementLemmas.{each-among}
-use Rattle.ist_core.proofs.RowLemmas.{changed_at-same, changed_at-some}
-use Rattle.ist_core.proofs.MoveLemmas.{IsSound}
-use Rattle.ist_core.proofs.SoundLemmas.{sound}
-use Rattle.ist_core.proofs.StartLemmas.{sound_start}
+use Rattle.ist_core.proofs.RowLemmas.{changed_at-some}
+use Rattle.ist_core.proofs.MoveLemmas.{HeldLieApart}
 use Rattle.ist_core.proofs.InstallLemmas.{with_installed}
 use Rattle.ist_core.proofs.AddingLemmas.{IsInstalled, adds_install, adds-with_inners}
 use Rattle.ist_core.proofs.GrowingLemmas.{change_there}
-use Rattle.ist_core.proofs.StepLemmas.{
-  rows_resolved,
-  rows_placed,
-  holds_installed,
-  known,
-  grow_step,
-}
+use Rattle.ist_core.proofs.StepLemmas.{rows_resolved, rows_placed, holds_installed, known}
+use Rattle.ist_core.proofs.StepLemmas.{grow_step}
 use Rattle.ist_core.proofs.TreeLemmas.{IsTreeRow, root_tree, tree_of_ideal, tree_rows}
-use Rattle.ist_check_events.specs.Answers.{Holds}
-use Rattle.ist_check_events.specs.Remembering.{KnowsStarts}
-use Rattle.ist_check_state.specs.Remembered.{StartsRebuild}
 
 -- ---- fresh rows are undecided
 
@@ -194,7 +120,7 @@ came_added ps qs from base r e d = ⊎_elim (λ k. k) (λ k. absurd (d k)) (from
 
 -- of no event but a Decide comes a decided change
 pub came_step : (first : Snapshot) (log : Log) (event : Event) → Enabled first log event
-    → IsSound (state first log) → ((c b : ℕ) (x : Bool) → event ≢ Decide c b x)
+    → HeldLieApart (state first log) → ((c b : ℕ) (x : Bool) → event ≢ Decide c b x)
     → DecidedCame (state first log).pieces (state first (event ∷ log)).pieces
 came_step first log (Install caller base rows) h s other =
     let t = state first log in
@@ -279,7 +205,7 @@ decided_as decision r = record r { decision = decision }
 
 -- a decided change stays as it is
 pub decided_stays : (first : Snapshot) (log : Log) (event : Event) → Enabled first log event
-    → IsSound (state first log) → (base : ℕ) (r : ChangeRow) → (state first log).pieces base
+    → HeldLieApart (state first log) → (base : ℕ) (r : ChangeRow) → (state first log).pieces base
     ≡ Some (Change r)
     → r.decision ≢ undecided → (state first (event ∷ log)).pieces base ≡ Some (Change r)
 unfolding decided_as
@@ -290,132 +216,3 @@ decided_stays first log event h s base r e d =
     let same : on.0 ≡ r = ap (λ x. decided_as x on.0) (grown.decided d) ∙ ap (decided_as r.decision)
     grown.others in
     on.1 ∙ ap (λ x. Some (Change x)) same
-
--- ---- the started rebuilds
-
-module _ (pairs : List Pair) (words : ℕ) (log : Log) where
-  pub is_sound : EachEnabled (start pairs words) log → IsSound (state_of pairs words log)
-  is_sound h = sound (start pairs words) log (sound_start pairs words) h
-
-  -- rows only grow
-  pub rows_grow : (event : Event) → EachEnabled (start pairs words) (event ∷ log)
-      → AllGrow (state_of pairs words log).pieces (state_of pairs words (event ∷ log)).pieces
-  rows_grow event h = grow_step (start pairs words) log event h.1 (is_sound h.0)
-
-  -- a started rebuild stays so
-  pub start_stays : (event : Event) → Lawful pairs words (event ∷ log) → (rebuild : ℕ)
-      → IsStarted (state_of pairs words log) rebuild
-      → IsStarted (state_of pairs words (event ∷ log)) rebuild
-  start_stays event law rebuild it =
-      record {
-        base = it.base;
-        change = it.change;
-        published = decided_stays (start pairs words) log event law.enabled.1
-            (is_sound law.enabled.0) it.base it.change it.published (λ e. let yes = it.decision in
-            omega arith);
-        kind = it.kind;
-        decision = it.decision;
-        to = it.to;
-      }
-
-  -- what is started behind an event but a Decide was so before
-  pub started_before : (event : Event) → ((c b : ℕ) (x : Bool) → event ≢ Decide c b x)
-      → Lawful pairs words (event ∷ log) → (rebuild : ℕ)
-      → IsStarted (state_of pairs words (event ∷ log)) rebuild
-      → IsStarted (state_of pairs words log) rebuild
-  started_before event other law rebuild it =
-      record {
-        base = it.base;
-        change = it.change;
-        published = came_step (start pairs words) log event law.enabled.1 (is_sound law.enabled.0)
-            other it.base it.change it.published (λ e. let yes = it.decision in omega arith);
-        kind = it.kind;
-        decision = it.decision;
-        to = it.to;
-      }
-
-  -- where each started rebuild was started before, the table stays right
-  starts_stay : (event : Event) → Lawful pairs words (event ∷ log) → (started : BTreeSet ℕ)
-      → ((rebuild : ℕ) → IsStarted (state_of pairs words (event ∷ log)) rebuild
-      → IsStarted (state_of pairs words log) rebuild)
-      → KnowsStarts started (state_of pairs words log) → KnowsStarts started
-      (state_of pairs words (event ∷ log))
-  starts_stay event law started before known rebuild = (
-    (λ h. start_stays event law rebuild ((known rebuild).0 h)),
-    (λ it. (known rebuild).1 (before rebuild it)),
-  )
-
-  pub starts_kept : (event : Event) → ((c b : ℕ) (x : Bool) → event ≢ Decide c b x) → Lawful pairs
-      words (event ∷ log) → (started : BTreeSet ℕ)
-      → KnowsStarts started (state_of pairs words log) → KnowsStarts started
-      (state_of pairs words (event ∷ log))
-  starts_kept event other law started known = starts_stay event law started
-      (started_before event other law) known
-
-  -- what is started behind a Decide was so before, or is so by it
-  pub started_newly : (caller base : ℕ) (said : Bool)
-      → (law : Lawful pairs words (Decide caller base said ∷ log)) → (rebuild : ℕ)
-      → IsStarted (state_of pairs words (Decide caller base said ∷ log)) rebuild
-      → IsStarted (state_of pairs words log) rebuild ⊎ ((decision_word said ≡ decided_yes)
-      × StartsRebuild (state_of pairs words log) base rebuild)
-  started_newly caller base said law rebuild it =
-      let h = law.enabled.1 in
-      ⊎_elim
-      (λ old. inl record {
-        base = it.base;
-        change = it.change;
-        published = old;
-        kind = it.kind;
-        decision = it.decision;
-        to = it.to;
-      })
-      (λ now. let same = now.1 in
-      inr (
-        ap (λ r. r.decision) (sym same) ∙ it.decision,
-        record {
-          change = h.change;
-          published = h.pending.published;
-          kind = ap (λ r. r.kind)
-              (sym same) ∙ it.kind;
-          to = ap (λ r. ref_of r.to) (sym same) ∙ it.to;
-        },
-      ))
-      (came_decided (start pairs words) log caller base said h it.base it.change it.published)
-
-  pub starts_refused : (caller base : ℕ)
-      → (law : Lawful pairs words (Decide caller base false ∷ log)) → (started : BTreeSet ℕ)
-      → KnowsStarts started (state_of pairs words log) → KnowsStarts started
-      (state_of pairs words (Decide caller base false ∷ log))
-  starts_refused caller base law started known =
-      starts_stay (Decide caller base false) law started
-      (λ rebuild it. ⊎_elim (λ old. old) (λ now. let no = now.0 in absurd (omega arith))
-      (started_newly caller base false law rebuild it)) known
-
-  -- a rebuild that the change starts is started behind its yes
-  pub start_begun : (caller base rebuild : ℕ) → StartsRebuild (state_of pairs words log) base
-      rebuild
-      → IsStarted (state_of pairs words (Decide caller base true ∷ log)) rebuild
-  start_begun caller base rebuild k =
-      let t = state_of pairs words log in
-      record {
-        base = base;
-        change = record (k.change) { decision = decided_yes };
-        published = changed_at-same t.pieces base (with_decision decided_yes)
-            ∙ ap (option_map (with_decision decided_yes)) k.published;
-        kind = k.kind;
-        decision = refl;
-        to = k.to;
-      }
-
-  pub starts_more : (caller base : ℕ) → (law : Lawful pairs words (Decide caller base true ∷ log))
-      → (old new : BTreeSet ℕ)
-      → ((rebuild : ℕ) → Holds new rebuild
-      ↔ (Holds old rebuild ⊎ StartsRebuild (state_of pairs words log) base rebuild))
-      → KnowsStarts old (state_of pairs words log) → KnowsStarts new
-      (state_of pairs words (Decide caller base true ∷ log))
-  starts_more caller base law old new more known rebuild = (
-    (λ h. ⊎_elim (λ k. start_stays (Decide caller base true) law rebuild ((known rebuild).0 k))
-        (λ k. start_begun caller base rebuild k) ((more rebuild).0 h)),
-    (λ it. (more rebuild).1 (⊎_elim (λ k. inl ((known rebuild).1 k)) (λ k. inr k.1)
-        (started_newly caller base true law rebuild it))),
-  )

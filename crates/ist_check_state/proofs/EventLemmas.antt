@@ -1,6 +1,7 @@
 -- The state behind an event, as the code takes the event apart. Serves `advancing.rt`.
 use Rattle.std.proofs.Common.{
   ◌≡◌,
+  ◌≢◌,
   ◌∙◌,
   ℕ,
   Bool,
@@ -22,6 +23,7 @@ use Rattle.ist_core.specs.declared.lists.Row.{Row}
 use Rattle.ist_core.specs.declared.states.ChangeRow.{ChangeRow}
 use Rattle.ist_core.specs.declared.states.RebuildRow.{RebuildRow}
 use Rattle.ist_core.specs.declared.events.Event.{Event}
+use Rattle.ist_core.specs.declared.events.Event.TheVariants.{Enter, Reserve, Install, Okay, Decide, Resolve, Count, Mark, Pass, Finish, Root, Draw, Place, Lose}
 use Rattle.ist_core.specs.References.{InnerAt, ref_of}
 use Rattle.ist_core.specs.Pieces.{Pieces, change_of, changed_at, with_slot, with_decision}
 use Rattle.ist_core.specs.Snapshots.{Snapshot, bases_of, without}
@@ -30,6 +32,7 @@ use Rattle.ist_core.specs.Logs.{Log}
 use Rattle.ist_core.specs.Lawful.{Lawful}
 use Rattle.ist_check_events.specs.declared.replicas.Replica.{Replica}
 use Rattle.ist_check_events.specs.Mirroring.{Mirrors}
+use Rattle.ist_check_state.specs.Advancing.{TakesNoRows}
 
 -- the event is the one that was matched
 pub by_event : (r : Replica) (t : Snapshot) (e f : Event) → e ≡ f → Mirrors r (after t f)
@@ -43,6 +46,55 @@ pub at_event : (pairs : List Pair) (words : ℕ) (log : Log) (Right : Log → Ty
     → Right (e ∷ log)
 at_event pairs words log Right e f is law right =
     subst (λ x. Right (x ∷ log)) (sym is) (right (subst (λ x. Lawful pairs words (x ∷ log)) is law))
+
+-- an event that isn't one of those that take rows takes none
+pub takes_none : (e : Event) → ((c b n : ℕ) → e ≢ Reserve c b n)
+    → ((c x : ℕ) (rows : List Row) → e ≢ Install c x rows)
+    → ((c r w : ℕ) (rows : List Row) → e ≢ Root c r w rows)
+    → ((c r i w : ℕ) (rows : List Row) → e ≢ Place c r i w rows)
+    → ((c : ℕ) (bases : List ℕ) → e ≢ Lose c bases) → TakesNoRows e
+takes_none (Reserve c b n) reserve install root place lose = absurd (reserve c b n refl)
+takes_none (Install c x rows) reserve install root place lose = absurd (install c x rows refl)
+takes_none (Root c r w rows) reserve install root place lose = absurd (root c r w rows refl)
+takes_none (Place c r i w rows) reserve install root place lose = absurd (place c r i w rows refl)
+takes_none (Lose c bases) reserve install root place lose = absurd (lose c bases refl)
+takes_none (Enter c) reserve install root place lose = tt
+takes_none (Okay c x) reserve install root place lose = tt
+takes_none (Decide c x said) reserve install root place lose = tt
+takes_none (Resolve c x) reserve install root place lose = tt
+takes_none (Count c n) reserve install root place lose = tt
+takes_none (Mark c n) reserve install root place lose = tt
+takes_none (Pass c n i w) reserve install root place lose = tt
+takes_none (Finish c n k) reserve install root place lose = tt
+takes_none (Draw c r i) reserve install root place lose = tt
+
+-- of those that take no rows, an Okay and a Pass write nothing
+module _ (r : Replica) (t : Snapshot) where
+  pub nothing_written : (e : Event) → ((c : ℕ) → e ≢ Enter c)
+      → ((c x : ℕ) (said : Bool) → e ≢ Decide c x said) → ((c x : ℕ) → e ≢ Resolve c x)
+      → ((c n : ℕ) → e ≢ Count c n) → ((c n : ℕ) → e ≢ Mark c n)
+      → ((c n k : ℕ) → e ≢ Finish c n k) → ((c b i : ℕ) → e ≢ Draw c b i)
+      → TakesNoRows e → Mirrors r t → Mirrors r (after t e)
+  nothing_written (Enter c) enter decide resolve count mark finish draw none h = absurd (enter c refl)
+  nothing_written (Decide c x said) enter decide resolve count mark finish draw none h =
+      absurd (decide c x said refl)
+  nothing_written (Resolve c x) enter decide resolve count mark finish draw none h =
+      absurd (resolve c x refl)
+  nothing_written (Count c n) enter decide resolve count mark finish draw none h =
+      absurd (count c n refl)
+  nothing_written (Mark c n) enter decide resolve count mark finish draw none h =
+      absurd (mark c n refl)
+  nothing_written (Finish c n k) enter decide resolve count mark finish draw none h =
+      absurd (finish c n k refl)
+  nothing_written (Draw c b i) enter decide resolve count mark finish draw none h =
+      absurd (draw c b i refl)
+  nothing_written (Okay c x) enter decide resolve count mark finish draw none h = h
+  nothing_written (Pass c n i w) enter decide resolve count mark finish draw none h = h
+  nothing_written (Reserve c b n) enter decide resolve count mark finish draw none h = absurd none
+  nothing_written (Install c x rows) enter decide resolve count mark finish draw none h = absurd none
+  nothing_written (Root c b w rows) enter decide resolve count mark finish draw none h = absurd none
+  nothing_written (Place c b i w rows) enter decide resolve count mark finish draw none h = absurd none
+  nothing_written (Lose c bases) enter decide resolve count mark finish draw none h = absurd none
 
 -- an Install holds as much as before, until its rows are taken away
 pub held_installed : (t : Snapshot) (base : ℕ) (rows : List Row) → (installed t base rows).held

@@ -13,7 +13,7 @@ use Rattle.ist_core.specs.Leaves.{HasLeaves, row_here, no_slot}
 use Rattle.ist_core.proofs.SlotLemmas.{no_row, slot_once, same_inner}
 use Rattle.ist_check_events.specs.declared.replicas.Replica.{Replica}
 use Rattle.ist_check_events.specs.Mirroring.{Mirrors}
-use Rattle.ist_check_builds.specs.Reading.{IsReading}
+use Rattle.ist_check_builds.specs.Reading.{IsReadingOf}
 use Rattle.ist_check_builds.specs.declared.readings.Reading.{Reading}
 use Rattle.ist_check_builds.specs.declared.readings.Reading.TheVariants.{
   Nothing,
@@ -128,7 +128,7 @@ module _ (t : Snapshot) where
 -- ---- readings
 
 -- what has no leaves in any table isn't an inner row
-pub other_reading : (o : Option Ref) (child : ℕ) → IsReading Other o → o ≢ Some (InnerAt child)
+pub other_reading : (o : Option Ref) (child : ℕ) → IsReadingOf Other o → o ≢ Some (InnerAt child)
 other_reading o child none e =
     none all [] (subst (λ r. HasLeaves all r []) (sym e) (row_here empty refl no_slot))
   where
@@ -140,7 +140,7 @@ other_reading o child none e =
 
 -- a reading that is no inner row
 pub no_row_read : (read : Reading) (o : Option Ref) (child : ℕ) → ((base : ℕ) → read ≢ OneRow base)
-    → IsReading read o
+    → IsReadingOf read o
     → o ≢ Some (InnerAt child)
 no_row_read Nothing o child other is e = let k = sym is ∙ e in cc
 no_row_read (OneLeaf base) o child other is e = let k = sym is ∙ e in cc

@@ -1,4 +1,4 @@
--- What one part more adds to the keys, the slots and the rows of a new table. Serves `opening.rt`.
+-- What one part more adds to a list made by an index, and to the rows of a new table. Serves `opening.rt`.
 use Rattle.std.proofs.Common.{
   ◌≡◌,
   ◌∙◌,
@@ -13,51 +13,35 @@ use Rattle.std.proofs.Common.{
   ◌++◌,
   length,
   map,
-  take,
-  drop,
   get_or,
   Some,
   None,
-  refl,
   sym,
   ap,
   subst,
+  refl,
   arith,
-  length-drop,
 }
 use Rattle.std.specs.List.{range_with_len}
 use Rattle.std.specs.Ordering.{nat_cmp}
 use Rattle.std.specs.BTreeMap as tree
 use Rattle.std.specs.BTreeMap.{BTreeMap}
-use Rattle.std.proofs.lemmas.List.{length-take-le}
 use Rattle.std.proofs.lemmas.List.FromFn.{map-range_with_len_more}
 use Rattle.ist_core.specs.declared.pairs.Pair.{Pair}
 use Rattle.ist_core.specs.declared.states.InnerRow.{InnerRow}
-use Rattle.ist_core.specs.Arithmetic.{degree, part_len, part_start}
+use Rattle.ist_core.specs.Arithmetic.{degree, part_len}
 use Rattle.ist_core.specs.RowLayout.{first_row}
 use Rattle.ist_core.specs.References.{word_of}
 use Rattle.ist_core.specs.Pieces.{Piece, Leaf, Inner, with_row}
 use Rattle.ist_core.specs.Snapshots.{Snapshot}
-use Rattle.ist_core.specs.StartLayout.{
-  tree_at,
-  placed_parts,
-  top_row,
-  rows_within,
-  rows_from,
-  pieces_of,
-}
-use Rattle.ist_core.proofs.PartLemmas.{part_end-le}
+use Rattle.ist_core.specs.StartLayout.{tree_at, placed_parts, top_row, rows_within, rows_from, pieces_of}
 use Rattle.ist_check_events.specs.declared.replicas.Replica.{Replica}
 use Rattle.ist_check_events.specs.Mirroring.{Mirrors}
-use Rattle.ist_check_state.specs.Laying.{with_pieces, part_of, part_base, rows_behind}
-use Rattle.ist_check_state.proofs.LayingLemmas.{
-  with_pieces-none,
-  with_pieces-append,
-  placed_by_index,
-  rows_from-many,
-  rows_behind-first,
-  rows_behind-last,
-}
+use Rattle.ist_image.specs.Placing.{part_of, part_base, rows_behind}
+use Rattle.ist_image.proofs.PlacingLemmas.{rows_from-many, rows_behind-first, rows_behind-last}
+use Rattle.ist_image.proofs.PlacedLemmas.{length-part_of, slots_are}
+use Rattle.ist_check_state.specs.Laying.{with_pieces, Publishes}
+use Rattle.ist_check_state.proofs.LayingLemmas.{with_pieces-none, with_pieces-append}
 
 -- a list made by an index, with one more
 pub made_more : (f : ℕ → ℕ) (a j here x : ℕ) (old new : List ℕ) → old ≡ map f (range_with_len a j)
@@ -66,66 +50,41 @@ made_more f a j here x old new e i at v =
     i ∙ ap (λ xs. xs ++ x ∷ []) e ∙ ap (λ y. map f (range_with_len a j) ++ y ∷ []) v
     ∙ sym (map-range_with_len_more f a j here at)
 
--- ---- parts
-
--- a part that is cut out by its start and its length
-pub cut_part : (pairs : List Pair) (j start len : ℕ) → start ≡ part_start (length pairs) j
-    → len ≡ part_len (length pairs) j
-    → take (start + len - start) (drop start pairs) ≡ part_of pairs j
-cut_part pairs j start len e i =
-    let whole : start + len - start ≡ len = omega arith in
-    ap (λ k. take k (drop start pairs)) (whole ∙ i) ∙ ap (λ k. take (part_len (length pairs) j)
-    (drop k pairs)) e
-
-pub length-cut_part : (pairs : List Pair) (start len : ℕ) → start + len ≤ length pairs
-    → length (take (start + len - start) (drop start pairs)) ≡ len
-length-cut_part pairs start len h =
-    let whole : start + len - start ≡ len = omega arith in
-    let left = length-drop start pairs in
-    ap (λ k. length (take k (drop start pairs))) whole ∙ length-take-le len (drop start pairs)
-    (omega arith)
-
 -- ---- slots
 
--- a part has as many pairs as its length says
-pub length-part_of : (pairs : List Pair) (n j : ℕ) → length pairs ≡ n → j < degree n
-    → length (part_of pairs j) ≡ part_len n j
-length-part_of pairs n j e h =
-    subst (λ m. j < degree m → length (part_of pairs j) ≡ part_len m j) e
-    (λ k.
-    let m = length pairs in
-    let end = part_end-le m j k in
-    let left = length-drop (part_start m j) pairs in
-    length-take-le (part_len m j) (drop (part_start m j) pairs) (omega arith))
-    h
+-- the words for the trees of the first j parts, whatever the pairs are
+abbrev pub SlotsTo : ℕ → ℕ → ℕ → List ℕ → Type 0
+SlotsTo base n j slots =
+    (pairs : List Pair) → length pairs ≡ n
+    → slots ≡ map (λ i. word_of (tree_at (part_base base n i) (part_of pairs i)))
+    (range_with_len 0 j)
 
--- the word for the tree of part j
-abbrev pub slot_word : ℕ → List Pair → ℕ → ℕ
-slot_word base pairs i = word_of (tree_at (part_base base (length pairs) i) (part_of pairs i))
+-- the word for the tree of one part more
+pub slot_more : (base : ℕ) {n j at len word : ℕ} {old new : List ℕ} → j < degree n
+    → at ≡ part_base base n j → len ≡ part_len n j
+    → ((pairs : List Pair) → length pairs ≡ len → word ≡ word_of (tree_at at pairs))
+    → new ≡ old ++ word ∷ [] → SlotsTo base n j old → SlotsTo base n (j + 1) new
+slot_more base {n = n} {j = j} {word = word} {old = old} {new = new} below e i is pushed
+    so_far pairs long =
+    made_more (λ i. word_of (tree_at (part_base base n i) (part_of pairs i))) 0 j j word old new
+    (so_far pairs long) pushed (omega arith)
+    (is (part_of pairs j) (length-part_of pairs n j long below ∙ sym i)
+    ∙ ap (λ b. word_of (tree_at b (part_of pairs j))) e)
 
--- the slots are the words for all parts
-pub slots_are : (base n : ℕ) (pairs : List Pair) → length pairs ≡ n
-    → map (λ i. word_of (tree_at (part_base base n i) (part_of pairs i)))
-    (range_with_len 0 (degree n))
-    ≡ map (λ part. word_of (tree_at part.0 part.1)) (placed_parts base pairs)
-slots_are base n pairs e =
-    ap (λ m. map (λ i. word_of (tree_at (part_base base m i) (part_of pairs i)))
-    (range_with_len 0 (degree m))) (sym e)
-    ∙ twice (range_with_len 0 (degree (length pairs)))
-    ∙ ap (map (λ (part : ℕ × List Pair). word_of (tree_at part.0 part.1)))
-    (sym (placed_by_index base pairs))
-  where
-    twice : (js : List ℕ)
-        → map (λ i. word_of (tree_at (part_base base (length pairs) i) (part_of pairs i))) js
-        ≡ map (λ (part : ℕ × List Pair). word_of (tree_at part.0 part.1))
-        (map (λ i. (part_base base (length pairs) i, part_of pairs i)) js)
-    twice [] = refl
-    twice (j ∷ js) = ap (λ ws. slot_word base pairs j ∷ ws) (twice js)
+-- those of all parts are the slots of the top row
+pub slots_whole : (base : ℕ) {n j : ℕ} {slots : List ℕ} → j ≡ degree n → SlotsTo base n j slots
+    → (pairs : List Pair) → length pairs ≡ n
+    → slots ≡ map (λ part. word_of (tree_at part.0 part.1)) (placed_parts base pairs)
+slots_whole base {n = n} end all pairs long =
+    all pairs long
+    ∙ ap (λ d. map (λ i. word_of (tree_at (part_base base n i) (part_of pairs i)))
+    (range_with_len 0 d)) end
+    ∙ slots_are base n pairs long
 
 -- ---- rows
 
 -- the rows of the last part and those behind it
-pub part_laid : (r : Replica) (t : Snapshot) (base at j : ℕ) (pairs part : List Pair)
+laid_in_front : (r : Replica) (t : Snapshot) (base at j : ℕ) (pairs part : List Pair)
     → j < degree (length pairs)
     → at ≡ part_base base (length pairs) j → part ≡ part_of pairs j
     → Mirrors r (record t {
@@ -133,7 +92,7 @@ pub part_laid : (r : Replica) (t : Snapshot) (base at j : ℕ) (pairs part : Lis
           (with_pieces t.pieces (rows_behind base pairs (j + 1))) (rows_from at part);
     })
     → Mirrors r (record t { pieces = with_pieces t.pieces (rows_behind base pairs j) })
-part_laid r t base at j pairs part h e i m =
+laid_in_front r t base at j pairs part h e i m =
     let behind = rows_behind base pairs (j + 1) in
     subst (λ ps. Mirrors r (record t { pieces = ps }))
     (ap (λ b. with_pieces (with_pieces t.pieces behind) (rows_from b part)) e
@@ -144,52 +103,61 @@ part_laid r t base at j pairs part h e i m =
     ∙ ap (with_pieces t.pieces) (sym (rows_behind-first base pairs j h)))
     m
 
+-- the rows of the parts from part j on, and then those of the part before them
+pub part_laid : (base : ℕ) (pairs : List Pair) {r s u : Replica} {at j : ℕ} {part : List Pair} → 0 < j
+    → j ≤ degree (length pairs) → at ≡ part_base base (length pairs) (j - 1)
+    → part ≡ part_of pairs (j - 1) → Publishes r s (rows_behind base pairs j)
+    → Publishes s u (rows_from at part) → Publishes r u (rows_behind base pairs (j - 1))
+part_laid base pairs {s = s} {u = u} {at = at} {j = j} {part = part} some most e i so_far here t m =
+    let next : j ≡ j - 1 + 1 = omega arith in
+    let there = subst (λ k. Mirrors s (record t {
+      pieces = with_pieces t.pieces (rows_behind base pairs k);
+    })) next (so_far t m) in
+    laid_in_front u t base at (j - 1) pairs part (omega arith) e i
+    (here (record t { pieces = with_pieces t.pieces (rows_behind base pairs (j - 1 + 1)) }) there)
+
 -- behind the last part nothing is laid
-pub none_laid : (r : Replica) (t : Snapshot) (base d : ℕ) (pairs : List Pair)
-    → d ≡ degree (length pairs) → Mirrors r t
-    → Mirrors r (record t { pieces = with_pieces t.pieces (rows_behind base pairs d) })
-none_laid r t base d pairs e m =
+pub none_laid : (base : ℕ) (pairs : List Pair) {r : Replica} {d : ℕ} → d ≡ degree (length pairs)
+    → Publishes r r (rows_behind base pairs d)
+none_laid base pairs {r = r} e t m =
     subst (λ rows. Mirrors r (record t { pieces = with_pieces t.pieces rows }))
     (sym (ap (rows_behind base pairs) e ∙ rows_behind-last base pairs)) m
 
 -- the top row is laid last
-pub top_laid : (r : Replica) (t : Snapshot) (base : ℕ) (pairs : List Pair) (row : InnerRow)
-    → 2 ≤ length pairs
-    → Inner row ≡ top_row base pairs
-    → Mirrors r (record t {
-      pieces = with_row (with_pieces t.pieces (rows_behind base pairs 0)) base
-          (Some (Inner row));
-    })
-    → Mirrors r (record t { pieces = with_pieces t.pieces (rows_from base pairs) })
-top_laid r t base pairs row two e m =
-    subst (λ rows. Mirrors r (record t { pieces = with_pieces t.pieces rows }))
+pub top_laid : (base : ℕ) (pairs : List Pair) {r s u : Replica} {row : InnerRow}
+    → 2 ≤ length pairs → Inner row ≡ top_row base pairs
+    → Publishes r s (rows_behind base pairs 0)
+    → ((t : Snapshot) → Mirrors s t
+    → Mirrors u (record t { pieces = with_row t.pieces base (Some (Inner row)) }))
+    → Publishes r u (rows_from base pairs)
+top_laid base pairs {u = u} two e parts put t m =
+    let behind = rows_behind base pairs 0 in
+    subst (λ rows. Mirrors u (record t { pieces = with_pieces t.pieces rows }))
     (sym (rows_from-many base pairs two))
-    (subst (λ p. Mirrors r (record t
-    { pieces = with_row (with_pieces t.pieces (rows_behind base pairs 0)) base (Some p) })) e m)
+    (subst (λ p. Mirrors u (record t {
+      pieces = with_row (with_pieces t.pieces behind) base (Some p);
+    })) e (put (record t { pieces = with_pieces t.pieces behind }) (parts t m)))
 
 -- the one row of a pair, and none of no pair
-pub leaf_laid : (r : Replica) (t : Snapshot) (base : ℕ) (pairs : List Pair) (default : Pair)
-    → length pairs ≡ 1
-    → Mirrors r (record t {
+pub leaf_laid : (base : ℕ) (pairs : List Pair) (default : Pair) {r s : Replica} → length pairs ≡ 1
+    → ((t : Snapshot) → Mirrors r t → Mirrors s (record t {
       pieces = with_row t.pieces base
           (Some (Leaf record {
             key = (get_or pairs 0 default).key;
-            value =
-                (get_or pairs 0 default).value;
+            value = (get_or pairs 0 default).value;
           }));
-    })
-    → Mirrors r (record t { pieces = with_pieces t.pieces (rows_from base pairs) })
+    }))
+    → Publishes r s (rows_from base pairs)
 unfolding rows_within
-leaf_laid r t base [] default one m = absurd (omega arith)
-leaf_laid r t base (p ∷ []) default one m = m
-leaf_laid r t base (p ∷ q ∷ pairs) default one m = absurd (omega arith)
+leaf_laid base [] default one put t m = absurd (omega arith)
+leaf_laid base (p ∷ []) default one put t m = put t m
+leaf_laid base (p ∷ q ∷ pairs) default one put t m = absurd (omega arith)
 
-pub nothing_laid : (r : Replica) (t : Snapshot) (base : ℕ) (pairs : List Pair) → length pairs < 1
-    → Mirrors r t
-    → Mirrors r (record t { pieces = with_pieces t.pieces (rows_from base pairs) })
+pub nothing_laid : (base : ℕ) (pairs : List Pair) {r : Replica} → length pairs < 1
+    → Publishes r r (rows_from base pairs)
 unfolding rows_within
-nothing_laid r t base [] none m = m
-nothing_laid r t base (p ∷ pairs) none m = absurd (omega arith)
+nothing_laid base [] none t m = m
+nothing_laid base (p ∷ pairs) none t m = absurd (omega arith)
 
 -- the rows of a whole table
 all_laid : (r : Replica) (t : Snapshot) (rows : List (ℕ × Piece))

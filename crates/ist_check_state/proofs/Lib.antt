@@ -5,6 +5,7 @@ pub mod EventLemmas
 pub mod TableLemmas
 pub mod BuildTableLemmas
 pub mod DecisionLemmas
+pub mod StartedLemmas
 pub mod RefusingLemmas
 pub mod HangingLemmas
 pub mod AddedSlotLemmas
@@ -12,13 +13,16 @@ pub mod LinkingLemmas
 pub mod SlotTableLemmas
 pub mod LinkTableLemmas
 pub mod CallLemmas
+pub mod CallEventLemmas
 pub mod CallingLemmas
 pub mod YesLemmas
 pub mod UpdateLemmas
+pub mod UpdateEventLemmas
 pub mod EntryLemmas
-pub mod LayingSizeLemmas
 pub mod LayingLemmas
 pub mod LaidLemmas
 pub mod StayingLemmas
 pub mod WayTableLemmas
+pub mod WayToRowLemmas
 pub mod WaitingLemmas
+mod LargeTableLemmas

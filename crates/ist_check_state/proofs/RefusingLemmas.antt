@@ -41,7 +41,8 @@ use Rattle.ist_core.proofs.RowLemmas.{changed_at-same}
 use Rattle.ist_check_events.specs.Answers.{Holds}
 use Rattle.ist_check_events.specs.Remembering.{HasRefusal, KnowsRefusals, pair_key}
 use Rattle.ist_check_state.specs.Remembered.{Refuses}
-use Rattle.ist_check_state.proofs.DecisionLemmas.{is_sound, came_step, came_decided, decided_stays}
+use Rattle.ist_check_state.proofs.DecisionLemmas.{came_step, came_decided, decided_stays}
+use Rattle.ist_check_state.proofs.StartedLemmas.{is_sound}
 
 module _ (pairs : List Pair) (words : ℕ) (log : Log) where
   -- a refusal stays

@@ -38,7 +38,7 @@ use Rattle.ist_core.proofs.OrderLemmas.{names, child_above}
 use Rattle.ist_core.proofs.PlaceLemmas.{anchor_free}
 use Rattle.ist_core.proofs.SlotLemmas.{anchor_slot}
 use Rattle.ist_check_events.specs.declared.pasts.Slot.{Slot}
-use Rattle.ist_check_events.specs.Remembering.{WasChild, Rises, KnowsSlots}
+use Rattle.ist_check_events.specs.Remembering.{WasChild, SlotsRise, KnowsSlots}
 use Rattle.ist_check_state.specs.Hanging.{Hangs, hangs_here, HasSlot, AddsSlots, HangsOnce}
 use Rattle.ist_check_state.proofs.HangingLemmas.{hangs_child, hangs_linked, hangs_on}
 
@@ -136,7 +136,7 @@ module _ (pairs : List Pair) (words : ℕ) (opens : CanOpen pairs words) where
 
   -- the slots of rows that were linked are of lower nodes
   rises : (log : Log) → EachEnabled (start pairs words) log → (slots : BTreeMap ℕ Slot)
-      → AreOfLinked slots log → Rises slots
+      → AreOfLinked slots log → SlotsRise slots
   rises log h slots of child slot e =
       let was =
       ever_before (start pairs words)

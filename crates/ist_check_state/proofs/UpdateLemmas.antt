@@ -35,7 +35,7 @@ use Rattle.ist_core.proofs.GrowingLemmas.{change_there}
 use Rattle.ist_check_events.specs.declared.pasts.LastUpdate.{LastUpdate}
 use Rattle.ist_check_events.specs.Remembering.{IsUncounted, LacksCount, KnowsUpdates}
 use Rattle.ist_check_state.specs.Entries.{Renews, CountsIn}
-use Rattle.ist_check_state.proofs.DecisionLemmas.{rows_grow}
+use Rattle.ist_check_state.proofs.StartedLemmas.{rows_grow}
 use Rattle.ist_check_state.proofs.YesLemmas.{
   in_later,
   in_between,

@@ -1,7 +1,5 @@
 -- Which keys lead to a slot of a node, and where the way to a row in it jumps to.
 use Rattle.std.specs.Prelude.{◌≡◌, ◌↔◌, ◌⊎◌, ◌≤◌, ◌<◌, ◌^◌, ℕ, List}
-use Rattle.std.specs.Ordering.{nat_cmp}
-use Rattle.std.specs.BTreeMap as tree
 use Rattle.std.specs.BTreeMap.{BTreeMap}
 use Rattle.std.specs.List.Sorted.{IsStrictlyIncreasing}
 use Rattle.ist_core.specs.Arithmetic.{child_count}

@@ -2,6 +2,7 @@
 pub mod Room
 pub mod Remembered
 -- what the functions inside this crate promise each other
+pub mod Advancing
 pub mod Hanging
 pub mod Calls
 pub mod Entries

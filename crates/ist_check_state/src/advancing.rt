@@ -7,6 +7,7 @@ ghost use Rattle.ist_core.specs.Pieces.{as_change, as_rebuild};
 ghost use Rattle.ist_core.specs.Pieces as pieces;
 ghost use Rattle.ist_check_events.specs.Mirroring.{Mirrors};
 ghost use Rattle.ist_check_state.specs.Room.{HasRoom};
+ghost use Rattle.ist_check_state.specs.Advancing.{TakesNoRows};
 
 use crate::holding::{give_up, give_up_rows};
 use crate::installing::install;
@@ -27,40 +28,10 @@ pub fn advance(alloc: Global, replica: &mut Replica, event: &Event) -> Result<()
         → Mirrors replica.new (after.after t event.now)) }
 {
     match event {
-        Event::Enter { .. } => {
-            replica.callers += 1;
-            Ok(())
-        }
         Event::Reserve { caller, base, size } => reserve(replica, *caller, *base, *size),
         Event::Install { change, rows, .. } => {
             install(alloc, replica, *change, rows.as_slice())?;
             give_up_rows(alloc, replica, rows.as_slice())
-        }
-        Event::Okay { .. } => Ok(()),
-        Event::Decide { change, yes, .. } => {
-            decide(
-                replica,
-                *change,
-                if *yes { DECIDED_YES } else { DECIDED_NO },
-            );
-            Ok(())
-        }
-        Event::Resolve { change, .. } => {
-            resolve(replica, *change);
-            Ok(())
-        }
-        Event::Count { node, .. } => {
-            count_at(replica, *node);
-            Ok(())
-        }
-        Event::Mark { node, .. } => {
-            set_status(replica, *node, MARKED_WORD);
-            Ok(())
-        }
-        Event::Pass { .. } => Ok(()),
-        Event::Finish { node, keys, .. } => {
-            set_status(replica, *node, 4 * *keys + 3);
-            Ok(())
         }
         Event::Root {
             rebuild,
@@ -68,10 +39,6 @@ pub fn advance(alloc: Global, replica: &mut Replica, event: &Event) -> Result<()
             rows,
             ..
         } => { root(alloc, replica, *rebuild, *word, rows.as_slice()) }
-        Event::Draw { rebuild, .. } => {
-            draw(replica, *rebuild);
-            Ok(())
-        }
         Event::Place {
             rebuild,
             part,
@@ -83,6 +50,34 @@ pub fn advance(alloc: Global, replica: &mut Replica, event: &Event) -> Result<()
             give_up(replica, bases.as_slice());
             Ok(())
         }
+        _ => {
+            write_word(replica, event);
+            Ok(())
+        }
+    }
+}
+
+/// Brings the replica forward by an event that takes no rows: it writes one word at most.
+fn write_word(replica: &mut Replica, event: &Event)
+    requires room { HasRoom replica.old event.now }
+    ensures exact { TakesNoRows event.now → (t : Snapshot) → Mirrors replica.old t
+        → Mirrors replica.new (after.after t event.now) }
+{
+    match event {
+        Event::Enter { .. } => replica.callers += 1,
+        Event::Decide { change, yes, .. } => {
+            decide(
+                replica,
+                *change,
+                if *yes { DECIDED_YES } else { DECIDED_NO },
+            );
+        }
+        Event::Resolve { change, .. } => resolve(replica, *change),
+        Event::Count { node, .. } => count_at(replica, *node),
+        Event::Mark { node, .. } => set_status(replica, *node, MARKED_WORD),
+        Event::Finish { node, keys, .. } => set_status(replica, *node, 4 * *keys + 3),
+        Event::Draw { rebuild, .. } => draw(replica, *rebuild),
+        _ => {}
     }
 }
 

@@ -42,7 +42,7 @@ pub fn remember_call(
     }
 }
 
-/// AddsSlots the target of the rebuild that the change starts, if it starts one.
+/// Adds the target of the rebuild that the change starts, if it starts one.
 fn call_by_start(
     replica: &Replica,
     called: &mut BTreeSet<u64>,
@@ -65,7 +65,7 @@ fn call_by_start(
     }
 }
 
-/// AddsSlots the row that the word names, or the target of the rebuild that it names.
+/// Adds the row that the word names, or the target of the rebuild that it names.
 fn call_by_word(replica: &Replica, called: &mut BTreeSet<u64>, word: u64) -> Result<(), AllocError>
     ensures exact { OnOk result ((t : Snapshot) → Mirrors replica.now t → (node : ℕ)
         → (Holds called.new node ↔ (Holds called.old node ⊎ WordCalls t word node))) }
@@ -82,7 +82,7 @@ fn call_by_word(replica: &Replica, called: &mut BTreeSet<u64>, word: u64) -> Res
     }
 }
 
-/// AddsSlots the target of the rebuild, if there is one at the base.
+/// Adds the target of the rebuild, if there is one at the base.
 fn call_target(
     replica: &Replica,
     called: &mut BTreeSet<u64>,

@@ -1,7 +1,7 @@
 //! Brings the checker's copy of a table forward by an event.
 //!
-//! Read `writes.rt`, then `advancing.rt`. Stands on `ist_core`, `ist_layout`, `ist_math`, `ist_check_events`
-//! and `ist_check_builds`, and on the laws of `ist_links` and `ist_rebuilds`.
+//! Read `writes.rt`, then `advancing.rt`. Stands on `ist_core`, `ist_layout`, `ist_math`, `ist_image`,
+//! `ist_check_events` and `ist_check_builds`, and on the laws of `ist_links` and `ist_rebuilds`.
 #![tactic(auto)]
 
 mod advancing;

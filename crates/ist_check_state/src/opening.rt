@@ -5,11 +5,11 @@ ghost use Rattle.ist_core.specs.Lawful.{CanOpen};
 ghost use Rattle.ist_core.specs.Parts as cuts;
 ghost use Rattle.ist_core.specs.Pieces.{Inner};
 ghost use Rattle.ist_core.specs.References.{word_of as the_word};
-ghost use Rattle.ist_core.specs.Snapshots.{Snapshot};
 ghost use Rattle.ist_core.specs.StartLayout as layout;
 ghost use Rattle.ist_core.specs.StartLayout.{start, tree_at, placed_parts, rows_from};
 ghost use Rattle.ist_check_events.specs.Mirroring.{Mirrors};
-ghost use Rattle.ist_check_state.specs.Laying.{with_pieces, rows_behind, FitsAt};
+ghost use Rattle.ist_image.specs.Placing.{rows_behind, FitsAt};
+ghost use Rattle.ist_check_state.specs.Laying.{Publishes};
 
 use crate::publishing::{put_inner, put_leaf};
 use ist_check_events::Replica;
@@ -53,10 +53,10 @@ fn put_tree(
     base: u64,
     pairs: &[Pair],
 ) -> Result<(), AllocError>
+    requires few { length pairs.now < 2 ^ 28 }
     requires fits { FitsAt base (length pairs.now) }
-    ensures exact { OnOk result ((t : Snapshot) → Mirrors replica.old t
-        → Mirrors replica.new
-        (record t { pieces = with_pieces t.pieces (rows_from base pairs.now) })) }
+    ensures exact { OnOk result
+        (Publishes replica.old replica.new (rows_from base pairs.now)) }
 {
     match pairs {
         [] => Ok(()),
@@ -86,10 +86,10 @@ fn put_parts(
     pairs: &[Pair],
 ) -> Result<(), AllocError>
     requires several { 2 ≤ length pairs.now }
+    requires few { length pairs.now < 2 ^ 28 }
     requires fits { FitsAt base (length pairs.now) }
-    ensures exact { OnOk result ((t : Snapshot) → Mirrors replica.old t
-        → Mirrors replica.new
-        (record t { pieces = with_pieces t.pieces (rows_behind base pairs.now 0) })) }
+    ensures exact { OnOk result
+        (Publishes replica.old replica.new (rows_behind base pairs.now 0)) }
 {
     let count = pairs.len() as u64;
     let mut at = base + ideal_words(count);
@@ -108,6 +108,7 @@ fn put_parts(
 /// The first row of the tree of two pairs or more.
 fn top_row(alloc: Global, base: u64, pairs: &[Pair]) -> Result<InnerRow, AllocError>
     requires several { 2 ≤ length pairs.now }
+    requires few { length pairs.now < 2 ^ 28 }
     requires fits { FitsAt base (length pairs.now) }
     ensures value { IfOk result (λ row. Inner row ≡ layout.top_row base pairs.now) }
 {
@@ -141,6 +142,7 @@ fn keys_of(alloc: Global, pairs: &[Pair]) -> Result<Words, AllocError>
 /// The words for the trees of the parts of so many pairs, below an inner row at the base.
 fn slots_of(alloc: Global, base: u64, count: u64) -> Result<Words, AllocError>
     requires several { 2 ≤ count }
+    requires few { count < 2 ^ 28 }
     requires fits { FitsAt base count }
     ensures value { IfOk result (λ slots. (pairs : List APair) → length pairs ≡ count
         → slots ≡ map (λ part. the_word (tree_at part.0 part.1)) (placed_parts base pairs)) }

@@ -101,7 +101,7 @@ fn note_refusal(
     }
 }
 
-/// AddsSlots a caller and a node.
+/// Adds a caller and a node.
 fn put_refusal(refused: &mut BTreeSet<u128>, owner: u64, on: u64) -> Result<(), AllocError>
     ensures exact { OnOk result ((caller : ℕ) → (node : ℕ) → node < 2 ^ 64
         → (Holds refused.new (the_key caller node)

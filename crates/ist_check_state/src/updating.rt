@@ -77,7 +77,7 @@ fn is_update(kind: u64) -> bool
     kind == PUT_KIND || kind == REMOVE_KIND
 }
 
-/// AddsSlots the node to the caller's entry, if it has one.
+/// Adds the node to the caller's entry, if it has one.
 fn note_count(
     updates: &mut BTreeMap<u64, LastUpdate>,
     caller: u64,

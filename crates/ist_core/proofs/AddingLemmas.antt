@@ -13,7 +13,7 @@ use Rattle.ist_core.proofs.ElementLemmas.{each-among}
 use Rattle.ist_core.proofs.RowLemmas.{with_row-some, with_inners-some, with_inners-other}
 use Rattle.ist_core.proofs.PublishingLemmas.{base_among, row_among}
 use Rattle.ist_core.proofs.InstallLemmas.{with_installed, publishes_install}
-use Rattle.ist_core.proofs.MoveLemmas.{IsSound}
+use Rattle.ist_core.proofs.MoveLemmas.{HeldLieApart}
 use Rattle.ist_core.proofs.FreshLemmas.{IsFresh, fresh_from}
 
 -- the second rows are the first with some that are born now
@@ -22,7 +22,7 @@ pub record Adds (ps qs : Pieces) (Born : ℕ → Piece → Type 0) : Type 0 wher
   pub from : (base : ℕ) (p : Piece) → qs base ≡ Some p → (ps base ≡ Some p) ⊎ Born base p
 
 -- no row stands where one is held
-pub held_free : (t : Snapshot) (caller : ℕ) (rows : List Row) → HoldsRows t caller rows → IsSound t
+pub held_free : (t : Snapshot) (caller : ℕ) (rows : List Row) → HoldsRows t caller rows → HeldLieApart t
     → (base : ℕ) → Among base (bases_of rows) → t.pieces base ≡ None
 held_free t caller rows holds sound base i =
     let it = row_among base rows i in
@@ -32,7 +32,7 @@ held_free t caller rows holds sound base i =
 
 -- where held rows are published, what stood there stays
 pub held_keeps : (t : Snapshot) (caller : ℕ) (rows : List Row) (qs : Pieces)
-    → HoldsRows t caller rows → IsSound t
+    → HoldsRows t caller rows → HeldLieApart t
     → ((base : ℕ) → ¬ (Among base (bases_of rows)) → qs base ≡ t.pieces base)
     → (base : ℕ) (p : Piece) → t.pieces base ≡ Some p → qs base ≡ Some p
 held_keeps t caller rows qs holds sound others base p e = others base
@@ -43,7 +43,7 @@ held_keeps t caller rows qs holds sound others base p e = others base
 
 -- inner rows that are published
 pub adds-with_inners : (t : Snapshot) (caller : ℕ) (rows : List Row) → HoldsRows t caller rows
-    → IsSound t → Adds t.pieces (with_inners t.pieces rows) (λ base p. Among base (bases_of rows))
+    → HeldLieApart t → Adds t.pieces (with_inners t.pieces rows) (λ base p. Among base (bases_of rows))
 adds-with_inners t caller rows holds sound =
     record {
       keeps = held_keeps t caller rows (with_inners t.pieces rows) holds sound
@@ -64,7 +64,7 @@ IsInstalled first log at change fresh fits base p = ((base ≡ at) × (p ≡ Cha
 pub adds_install : (first : Snapshot) (log : Log) (caller at : ℕ) (change : ChangeRow)
     (fresh : List Row) (fits : FitsKind first log change fresh)
     → HoldsRows (state first log) caller (row_at at (Change change) ∷ fresh)
-    → IsSound (state first log)
+    → HeldLieApart (state first log)
     → Adds (state first log).pieces (with_installed (state first log).pieces at change fresh)
     (IsInstalled first log at change fresh fits)
 adds_install first log caller at change fresh fits holds sound =

@@ -15,7 +15,7 @@ use Rattle.ist_core.specs.Installing.{CanInstall}
 use Rattle.ist_core.specs.Enabled.{Enabled}
 use Rattle.ist_core.specs.Growing.{Grows, AllGrow}
 use Rattle.ist_core.proofs.RowLemmas.{changed_at-some}
-use Rattle.ist_core.proofs.MoveLemmas.{IsSound}
+use Rattle.ist_core.proofs.MoveLemmas.{HeldLieApart}
 use Rattle.ist_core.proofs.InstallLemmas.{with_installed}
 use Rattle.ist_core.proofs.AddingLemmas.{IsInstalled, adds_install, adds-with_inners}
 use Rattle.ist_core.proofs.GrowingLemmas.{grows_same, grows-with_slot, grows-with_root, all_grow-changed_at}
@@ -79,7 +79,7 @@ added_comes first log event qs at f grows pieces from base q e =
     ⊎_elim (λ old. from_old it.0 old grew) (λ born. from_born it.0 born grew) (from base it.0 it.1)
 
 install_comes : (first : Snapshot) (log : Log) (caller change : ℕ) (rows : List Row)
-    → CanInstall first log caller change rows → IsSound (state first log) → (base : ℕ) (q : Piece)
+    → CanInstall first log caller change rows → HeldLieApart (state first log) → (base : ℕ) (q : Piece)
     → (state first (Install caller change rows ∷ log)).pieces base ≡ Some q
     → Comes first log (Install caller change rows) base q
 install_comes first log caller change rows h s base q e =
@@ -101,7 +101,7 @@ install_comes first log caller change rows h s base q e =
 
 -- each row behind an enabled event comes from somewhere
 pub comes : (first : Snapshot) (log : Log) (event : Event) → Enabled first log event
-    → IsSound (state first log) → (base : ℕ) (q : Piece)
+    → HeldLieApart (state first log) → (base : ℕ) (q : Piece)
     → (state first (event ∷ log)).pieces base ≡ Some q → Comes first log event base q
 comes first log (Install caller change rows) h s base q e = install_comes first log caller change
     rows h s base q e

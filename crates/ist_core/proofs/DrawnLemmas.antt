@@ -23,7 +23,7 @@ use Rattle.ist_core.specs.Lawful.{EachEnabled, state_of}
 use Rattle.ist_core.proofs.ElementLemmas.{each-among}
 use Rattle.ist_core.proofs.RowLemmas.{changed_at-same, changed_at-some}
 use Rattle.ist_core.proofs.PieceLemmas.{among-pieces_of}
-use Rattle.ist_core.proofs.MoveLemmas.{IsSound}
+use Rattle.ist_core.proofs.MoveLemmas.{HeldLieApart}
 use Rattle.ist_core.proofs.SoundLemmas.{sound}
 use Rattle.ist_core.proofs.StartLemmas.{sound_start}
 use Rattle.ist_core.proofs.InstallLemmas.{with_installed}
@@ -175,7 +175,7 @@ module _ (rebuild last : ℕ) where
           l)
 
   most_step : (first : Snapshot) (log : Log) (event : Event) → Enabled first log event
-      → IsSound (state first log) → DrawnAtMost (state first log).pieces (last + length (past log))
+      → HeldLieApart (state first log) → DrawnAtMost (state first log).pieces (last + length (past log))
       → DrawnAtMost (state first (event ∷ log)).pieces (last + length (past (event ∷ log)))
   unfolding past
   most_step first log (Install caller base rows) h s old =

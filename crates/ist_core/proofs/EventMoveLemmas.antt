@@ -21,7 +21,7 @@ use Rattle.ist_core.proofs.ElementLemmas.{each-append}
 use Rattle.ist_core.proofs.SizeLemmas.{size_of-with_slot, size_of-with_status, size_of-with_decision, size_of-with_root, size_of-counted, size_of-drawn, fair_positive}
 use Rattle.ist_core.proofs.PublishingLemmas.{Stands, publishes-with_inners, ideal_stands}
 use Rattle.ist_core.proofs.InstallLemmas.{with_installed, publishes_install}
-use Rattle.ist_core.proofs.MoveLemmas.{IsSound, Moves, moves_same, moves_changed, moves_lost}
+use Rattle.ist_core.proofs.MoveLemmas.{HeldLieApart, Moves, moves_same, moves_changed, moves_lost}
 use Rattle.ist_core.proofs.PublishMoveLemmas.{moves_published}
 
 -- a reserved row has a word
@@ -32,7 +32,7 @@ reserve_positive t caller base size h =
     (fair_positive t (sizes_held t caller ++ size ∷ []) h.fair)).1.0
 
 moves_install : (first : Snapshot) (log : Log) (caller base : ℕ) (rows : List Row)
-    → CanInstall first log caller base rows → IsSound (state first log)
+    → CanInstall first log caller base rows → HeldLieApart (state first log)
     → Moves (state first log) (after (state first log) (Install caller base rows))
     (Install caller base rows)
 moves_install first log caller base rows h sound =
@@ -67,7 +67,7 @@ root_stands ps word k leaves target rows (root_top base row many is top unset on
     (λ bases. Each (λ b. Stands ps b) bases) (sym one) ((Inner row, top.published), tt)
 
 moves_root : (t : Snapshot) (caller rebuild word : ℕ) (rows : List Row)
-    → CanRoot t caller rebuild word rows → IsSound t
+    → CanRoot t caller rebuild word rows → HeldLieApart t
     → Moves t (after t (Root caller rebuild word rows)) (Root caller rebuild word rows)
 moves_root t caller rebuild word rows h sound =
     moves_published t caller rows h.held sound (after t (Root caller rebuild word rows))
@@ -78,7 +78,7 @@ moves_root t caller rebuild word rows h sound =
     h.root)) refl refl refl
 
 moves_place : (t : Snapshot) (caller rebuild i word : ℕ) (rows : List Row)
-    → CanPlace t caller rebuild i word rows → IsSound t
+    → CanPlace t caller rebuild i word rows → HeldLieApart t
     → Moves t (after t (Place caller rebuild i word rows)) (Place caller rebuild i word rows)
 moves_place t caller rebuild i word rows h sound =
     let qs = with_inners t.pieces rows in
@@ -91,7 +91,7 @@ moves_place t caller rebuild i word rows h sound =
 
 -- each event that reserves nothing moves rows
 pub moves : (first : Snapshot) (log : Log) (event : Event) → reserved_by event ≡ 0
-    → Enabled first log event → IsSound (state first log)
+    → Enabled first log event → HeldLieApart (state first log)
     → Moves (state first log) (state first (event ∷ log)) event
 moves first log (Enter caller) z h s = moves_same _ _ _ refl refl refl
 moves first log (Reserve caller base size) z h s = let some = reserve_positive (state first log)

@@ -15,7 +15,7 @@ use Rattle.ist_core.specs.Enabled.{Enabled}
 use Rattle.ist_core.specs.Lawful.{EachEnabled, Lawful, state_of}
 use Rattle.ist_core.specs.Growing.{AllGrow}
 use Rattle.ist_core.proofs.ElementLemmas.{among-append}
-use Rattle.ist_core.proofs.MoveLemmas.{IsSound, Moves, without-kept}
+use Rattle.ist_core.proofs.MoveLemmas.{HeldLieApart, Moves, without-kept}
 use Rattle.ist_core.proofs.SoundLemmas.{IsReserve, moves_or_reserves, sound}
 use Rattle.ist_core.proofs.StartLemmas.{sound_start}
 use Rattle.ist_core.proofs.GrowingLemmas.{all_grow_same, all_grow_on}
@@ -50,7 +50,7 @@ lost_held t log caller base bases h i = ⊎_elim pair build h.cause
 
 -- a row that is lost now is gone
 gone_now : (first : Snapshot) (log : Log) (event : Event) (base : ℕ) → Enabled first log event
-    → IsSound (state first log) → Loses base event → IsGone (state first (event ∷ log)) base
+    → HeldLieApart (state first log) → Loses base event → IsGone (state first (event ∷ log)) base
 gone_now first log (Lose caller bases) base h s l =
     let it = lost_held (state first log) log caller base bases h l in
     let row : HeldRow = record { caller = caller; base = base; size = it.0 } in
@@ -105,7 +105,7 @@ gone_reserve first log event r base g =
       used = omega arith;
     }
 
-gone : (first : Snapshot) (log : Log) (base : ℕ) → IsSound first → EachEnabled first log
+gone : (first : Snapshot) (log : Log) (base : ℕ) → HeldLieApart first → EachEnabled first log
     → Happened (Loses base) log → IsGone (state first log) base
 gone first [] base s h l = absurd l
 gone first (event ∷ log) base s h (inl now) = gone_now first log event base h.1

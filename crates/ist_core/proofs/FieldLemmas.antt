@@ -18,7 +18,7 @@ use Rattle.ist_core.specs.Building.{CanRoot}
 use Rattle.ist_core.specs.Enabled.{Enabled}
 use Rattle.ist_core.proofs.ElementLemmas.{each-among}
 use Rattle.ist_core.proofs.RowLemmas.{changed_at-some}
-use Rattle.ist_core.proofs.MoveLemmas.{IsSound}
+use Rattle.ist_core.proofs.MoveLemmas.{HeldLieApart}
 use Rattle.ist_core.proofs.InstallLemmas.{with_installed}
 use Rattle.ist_core.proofs.AddingLemmas.{IsInstalled, adds_install, adds-with_inners}
 use Rattle.ist_core.proofs.StepLemmas.{rows_resolved, rows_placed, holds_installed, known}
@@ -71,7 +71,7 @@ module _ (field : Piece → ℕ) (none : ℕ) (rare : IsRare field none) where
 
   -- behind the rows that a Root publishes
   pub has_rooted : (t : Snapshot) (caller rebuild word : ℕ) (rows : List Row)
-      → CanRoot t caller rebuild word rows → IsSound t → (base value : ℕ) → value ≢ none
+      → CanRoot t caller rebuild word rows → HeldLieApart t → (base value : ℕ) → value ≢ none
       → Has (with_inners t.pieces rows) base value → Has t.pieces base value
   has_rooted t caller rebuild word rows h s base value set has =
       let qs = with_inners t.pieces rows in
@@ -83,7 +83,7 @@ module _ (field : Piece → ℕ) (none : ℕ) (rare : IsRare field none) where
 
   -- behind any other event that leaves the field
   pub has_step : (first : Snapshot) (log : Log) (event : Event) → Enabled first log event
-      → IsSound (state first log) → IsPlainEvent event → (base value : ℕ) → value ≢ none
+      → HeldLieApart (state first log) → IsPlainEvent event → (base value : ℕ) → value ≢ none
       → Has (state first (event ∷ log)).pieces base value → Has (state first log).pieces base value
   has_step first log (Install caller at rows) h s plain base value set has =
       let t = state first log in

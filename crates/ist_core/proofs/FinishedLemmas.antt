@@ -24,7 +24,7 @@ use Rattle.ist_core.specs.Lawful.{EachEnabled, CanOpen, state_of}
 use Rattle.ist_core.proofs.ElementLemmas.{each-among}
 use Rattle.ist_core.proofs.RowLemmas.{changed_at-some}
 use Rattle.ist_core.proofs.PieceLemmas.{among-pieces_of}
-use Rattle.ist_core.proofs.MoveLemmas.{IsSound}
+use Rattle.ist_core.proofs.MoveLemmas.{HeldLieApart}
 use Rattle.ist_core.proofs.SoundLemmas.{sound}
 use Rattle.ist_core.proofs.StartLemmas.{sound_start}
 use Rattle.ist_core.proofs.AddingLemmas.{IsInstalled}
@@ -124,7 +124,7 @@ MayFinish t log node = (caller : ℕ) × (keys : ℕ) × CanFinish t log caller 
 
 -- what is finished was finished, or is so now
 finished_was : (first : Snapshot) (log : Log) (event : Event) → Enabled first log event
-    → IsSound (state first log) → (node k : ℕ) → IsFinishedWith (state first (event ∷ log)) node k
+    → HeldLieApart (state first log) → (node k : ℕ) → IsFinishedWith (state first (event ∷ log)) node k
     → IsFinishedWith (state first log) node k ⊎ MayFinish (state first log) log node
 finished_was first log event h s node k f = at event h
     (finished_has (state first (event ∷ log)) node k f)

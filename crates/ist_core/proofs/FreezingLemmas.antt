@@ -24,7 +24,7 @@ use Rattle.ist_core.specs.Lawful.{EachEnabled, CanOpen, state_of}
 use Rattle.ist_core.specs.Growing.{StatusGoesOn, status_stays, is_marked, is_finished, is_closed}
 use Rattle.ist_core.specs.Freezing.{HasVainChange, KeepsWord, holds_it, holds_change, IsClosedOver}
 use Rattle.ist_core.proofs.RowLemmas.{changed_at-same, changed_at-other}
-use Rattle.ist_core.proofs.MoveLemmas.{IsSound}
+use Rattle.ist_core.proofs.MoveLemmas.{HeldLieApart}
 use Rattle.ist_core.proofs.SoundLemmas.{sound}
 use Rattle.ist_core.proofs.StartLemmas.{sound_start}
 use Rattle.ist_core.proofs.GrowingLemmas.{inner_there, change_there}
@@ -89,7 +89,7 @@ vain_on t u log event node i word h there slot none =
 
 -- an event that writes no slot, and is neither an Okay nor a Decide
 keeps_quiet : (first : Snapshot) (log : Log) (event : Event) → Enabled first log event
-    → IsSound (state first log) → WritesNoSlot event → IsNoDecide event
+    → HeldLieApart (state first log) → WritesNoSlot event → IsNoDecide event
     → ((base : ℕ) → ¬ (Okays base event))
     → (node i word : ℕ)
     → Keeping (state first log) log event (state first (event ∷ log)) node i word
@@ -99,7 +99,7 @@ keeps_quiet first log event h s none still unseen node i word (holds_change v) =
     (change_stays first log event h s still v.base v.change v.published) (slot_stays first log event h s none node i (word_of (ChangeAt v.base)) v.in_slot) (unseen v.base)
 
 -- a change with an Okay is published
-okay_published : (first : Snapshot) (log : Log) (base : ℕ) → IsSound first → EachEnabled first log
+okay_published : (first : Snapshot) (log : Log) (base : ℕ) → HeldLieApart first → EachEnabled first log
     → Happened (Okays base) log
     → (r : ChangeRow) × ((state first log).pieces base ≡ Some (Change r))
 okay_published first [] base s h k = absurd k
@@ -128,7 +128,7 @@ okay_published first (event ∷ log) base s h (inr before) =
 
 module _ (pairs : List Pair) (words : ℕ) (opens : CanOpen pairs words) (log : Log) (enabled : EachEnabled (start pairs words) log) where
   -- what is known of the rows behind the log
-  rows_sound : IsSound (state_of pairs words log)
+  rows_sound : HeldLieApart (state_of pairs words log)
   rows_sound = sound (start pairs words) log (sound_start pairs words) enabled
 
   free_there : (state_of pairs words log).pieces anchor ≡ None

@@ -10,7 +10,7 @@ use Rattle.ist_core.specs.Logs.{Log, state}
 use Rattle.ist_core.specs.After.{with_fresh}
 use Rattle.ist_core.specs.Installing.{new_leaf, new_rebuild, pair_row, pair_over, FitsKind, a_put, a_pair, a_remove, a_start, a_finish}
 use Rattle.ist_core.proofs.RowLemmas.{with_row-same, with_row-some, with_row-other}
-use Rattle.ist_core.proofs.MoveLemmas.{IsSound}
+use Rattle.ist_core.proofs.MoveLemmas.{HeldLieApart}
 use Rattle.ist_core.proofs.InstallLemmas.{inner_of-pair_row, with_installed}
 
 -- the row is one that the change publishes beside its own
@@ -78,7 +78,7 @@ put_stands ps at base o new p read here is =
     (with_row-same ps at new ∙ ap (λ x. Some x) (sym is)))
 
 -- rows of different sizes that a caller holds have different bases
-pub sizes_apart : (t : Snapshot) (caller base other size more : ℕ) → IsSound t
+pub sizes_apart : (t : Snapshot) (caller base other size more : ℕ) → HeldLieApart t
     → HoldsRow t caller base size → HoldsRow t caller other more → size ≢ more → base ≢ other
 sizes_apart t caller base other size more sound h k differ same =
     differ (ap (λ row. row.size) (sound.once record { caller = caller; base = base; size = size }
@@ -92,7 +92,7 @@ pair_size key base other_key other =
     other)) ≡ 7) [ true ↦ refl | false ↦ refl ]
 
 module _ (first : Snapshot) (log : Log) (caller at : ℕ) (change : ChangeRow) (fresh : List Row)
-    (sound : IsSound (state first log)) where
+    (sound : HeldLieApart (state first log)) where
   -- a fresh row is held, and is not at the change's base
   fresh_apart : (size : ℕ) (base : ℕ) → HoldsRow (state first log) caller at 9
       → HoldsRow (state first log) caller base size → size ≢ 9 → base ≢ at

@@ -17,7 +17,7 @@ use Rattle.ist_core.specs.Deciding.{CanResolve}
 use Rattle.ist_core.specs.Building.{CanRoot, CanPlace}
 use Rattle.ist_core.proofs.ElementLemmas.{each-among}
 use Rattle.ist_core.proofs.ReferenceLemmas.{ref_of-unset, ref_of-word_of}
-use Rattle.ist_core.proofs.MoveLemmas.{IsSound}
+use Rattle.ist_core.proofs.MoveLemmas.{HeldLieApart}
 use Rattle.ist_core.proofs.FreshLemmas.{IsFresh}
 use Rattle.ist_core.proofs.AddingLemmas.{IsInstalled, adds-with_inners, held_free}
 use Rattle.ist_core.proofs.StepLemmas.{rows_resolved, rows_placed, known}
@@ -123,7 +123,7 @@ tree_says t ps parent at ref rows all base p i e =
     }))
 
 pub one_home_root : (t : Snapshot) (caller rebuild word : ℕ) (rows : List Row)
-    → (h : CanRoot t caller rebuild word rows) → IsSound t → WordsName t → HasOneHome t
+    → (h : CanRoot t caller rebuild word rows) → HeldLieApart t → WordsName t → HasOneHome t
     → HasOneHome (after t (Root caller rebuild word rows))
 one_home_root t caller rebuild word rows h sound names home =
     let u = after t (Root caller rebuild word rows) in
@@ -153,7 +153,7 @@ one_home_root t caller rebuild word rows h sound names home =
     same_ref o a b e f = cc
 
 pub one_home_place : (t : Snapshot) (caller rebuild i word : ℕ) (rows : List Row)
-    → (h : CanPlace t caller rebuild i word rows) → IsSound t → WordsName t → HasOneHome t
+    → (h : CanPlace t caller rebuild i word rows) → HeldLieApart t → WordsName t → HasOneHome t
     → HasOneHome (after t (Place caller rebuild i word rows))
 one_home_place t caller rebuild i word rows h sound names home =
     let u = after t (Place caller rebuild i word rows) in
@@ -185,7 +185,7 @@ abbrev pub NewPair : (first : Snapshot) (log : Log) (change : ChangeRow) (fresh 
 NewPair first log change fresh (a_pair h) node i child = (node ≡ change.node) × (i ≡ change.index) × (child ≡ h.pair)
 NewPair first log change fresh _ node i child = ⊥
 
-module _ (first : Snapshot) (log : Log) (caller at : ℕ) (change : ChangeRow) (fresh : List Row) (sound : IsSound (state first log))
+module _ (first : Snapshot) (log : Log) (caller at : ℕ) (change : ChangeRow) (fresh : List Row) (sound : HeldLieApart (state first log))
     (holds : HoldsRows (state first log) caller (row_at at (Change change) ∷ fresh))
     (in_slot : SlotHolds (state first log) change.node change.index change.from) where
   -- it is new

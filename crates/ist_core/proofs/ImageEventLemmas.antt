@@ -24,7 +24,7 @@ use Rattle.ist_core.specs.Rows.{Apart, IsWithin}
 use Rattle.ist_core.specs.Writing.{touch_of, touched, touch_of_resolve, touch_of_count, touch_of_draw, touch_of_place, touch_in_root, place_of_slot, RowsStand}
 use Rattle.ist_core.proofs.ElementLemmas.{each-among}
 use Rattle.ist_core.proofs.RowLemmas.{with_inners-some}
-use Rattle.ist_core.proofs.MoveLemmas.{IsSound}
+use Rattle.ist_core.proofs.MoveLemmas.{HeldLieApart}
 use Rattle.ist_core.proofs.InstallLemmas.{with_installed}
 use Rattle.ist_core.proofs.AddingLemmas.{IsInstalled, adds_install, adds-with_inners}
 use Rattle.ist_core.proofs.StepLemmas.{rows_resolved, rows_placed, holds_installed}
@@ -212,7 +212,7 @@ image_draw t caller rebuild part words r e a image =
 pub record SlotsReady (t : Snapshot) : Type 0 where
   pub free : t.pieces anchor ≡ None
   pub shaped : (base : ℕ) (r : InnerRow) → t.pieces base ≡ Some (Inner r) → HasDegree r
-  pub sound : IsSound t
+  pub sound : HeldLieApart t
 
 -- where no row stands, none is published by rows that are held
 pub still_free : (t : Snapshot) (qs : Pieces) (base : ℕ)

@@ -11,7 +11,7 @@ use Rattle.ist_core.specs.Slots.{SlotHolds}
 use Rattle.ist_core.specs.Installing.{HasRoomFor, nothing, same_key, new_leaf, new_rebuild, pair_row, pair_over, FitsKind, a_put, a_pair, a_remove, a_start, a_finish}
 use Rattle.ist_core.specs.Growing.{AllGrow}
 use Rattle.ist_core.proofs.ReferenceLemmas.{ref_of-unset, ref_of-word_of, word_of-ref_of}
-use Rattle.ist_core.proofs.MoveLemmas.{IsSound}
+use Rattle.ist_core.proofs.MoveLemmas.{HeldLieApart}
 use Rattle.ist_core.proofs.InstallLemmas.{with_installed}
 use Rattle.ist_core.proofs.FreshLemmas.{IsFresh, fresh_stands}
 use Rattle.ist_core.proofs.AddingLemmas.{IsInstalled}
@@ -90,7 +90,7 @@ from_plain first log change fresh (a_finish h) base e = let x : Some (RebuildAt 
     (ChangeAt base) = sym h.from ∙ e in cc
 
 module _ (first : Snapshot) (log : Log) (caller at : ℕ) (change : ChangeRow) (fresh : List Row)
-    (sound : IsSound (state first log))
+    (sound : HeldLieApart (state first log))
     (holds : HoldsRows (state first log) caller (row_at at (Change change) ∷ fresh))
     (in_slot : SlotHolds (state first log) change.node change.index change.from)
     (names : WordsName (state first log))

@@ -15,7 +15,7 @@ use Rattle.ist_core.specs.After.{after}
 use Rattle.ist_core.specs.Leaves.{PlacedLeaf, HasLeaves}
 use Rattle.ist_core.specs.Building.{CanRoot, CanPlace}
 use Rattle.ist_core.specs.Growing.{AllGrow}
-use Rattle.ist_core.proofs.MoveLemmas.{IsSound}
+use Rattle.ist_core.proofs.MoveLemmas.{HeldLieApart}
 use Rattle.ist_core.proofs.AddingLemmas.{adds-with_inners, held_free}
 use Rattle.ist_core.proofs.GrowingLemmas.{inner_there}
 use Rattle.ist_core.proofs.StepLemmas.{rows_placed, known}
@@ -57,7 +57,7 @@ target_lies t rebuild row leaves there names home free lie reached =
 
 -- a Root puts a tree over the leaves of its target where they lie
 pub lies_root : (t : Snapshot) (caller rebuild word : ℕ) (rows : List Row)
-    → (h : CanRoot t caller rebuild word rows) → IsSound t → WordsName t → HasOneHome t
+    → (h : CanRoot t caller rebuild word rows) → HeldLieApart t → WordsName t → HasOneHome t
     → t.pieces anchor ≡ None
     → AllGrow t.pieces (after t (Root caller rebuild word rows)).pieces
     → LiesOn t (after t (Root caller rebuild word rows)) → LeavesLie t
@@ -103,7 +103,7 @@ lies_root t caller rebuild word rows h sound names home free grows on lie =
 
 -- a Place puts one over a part of them into the slot of this part
 pub lies_place : (t : Snapshot) (caller rebuild i word : ℕ) (rows : List Row)
-    → (h : CanPlace t caller rebuild i word rows) → IsSound t → WordsName t → HasOneHome t
+    → (h : CanPlace t caller rebuild i word rows) → HeldLieApart t → WordsName t → HasOneHome t
     → t.pieces anchor ≡ None
     → AllGrow t.pieces (after t (Place caller rebuild i word rows)).pieces
     → LiesOn t (after t (Place caller rebuild i word rows))

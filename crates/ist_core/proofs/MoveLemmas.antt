@@ -13,7 +13,7 @@ use Rattle.ist_core.proofs.RowLemmas.{changed_at-none, changed_at-some}
 use Rattle.ist_core.proofs.PublishingLemmas.{among_bases, tests_base, Stands}
 
 -- rows lie below the first free word, and what is held is not published, and is held once
-pub record IsSound (t : Snapshot) : Type 0 where
+pub record HeldLieApart (t : Snapshot) : Type 0 where
   pub below : (base : ℕ) (p : Piece) → t.pieces base ≡ Some p → base < t.next
   pub held_below : (h : HeldRow) → Among h t.held → h.base < t.next
   pub unpublished : (h : HeldRow) → Among h t.held → t.pieces h.base ≡ None

@@ -20,7 +20,7 @@ use Rattle.ist_core.specs.Enabled.{Enabled}
 use Rattle.ist_core.specs.Growing.{Grows, AllGrow}
 use Rattle.ist_core.proofs.ElementLemmas.{each-among}
 use Rattle.ist_core.proofs.RowLemmas.{with_row-same}
-use Rattle.ist_core.proofs.MoveLemmas.{IsSound}
+use Rattle.ist_core.proofs.MoveLemmas.{HeldLieApart}
 use Rattle.ist_core.proofs.InstallLemmas.{with_installed}
 use Rattle.ist_core.proofs.AddingLemmas.{IsInstalled, adds_install, adds-with_inners}
 use Rattle.ist_core.proofs.GrowingLemmas.{all_grow_added, all_grow-changed_at, grows-with_slot, grows-with_root}
@@ -103,7 +103,7 @@ unfolding AllName
 all_name t o = o.rows
 
 names_install : (first : Snapshot) (log : Log) (caller base : ℕ) (rows : List Row)
-    → (h : CanInstall first log caller base rows) → IsSound (state first log)
+    → (h : CanInstall first log caller base rows) → HeldLieApart (state first log)
     → (state first log).pieces anchor ≡ None
     → IsGoodBase base
     → ((at : ℕ) (p : Piece) → with_installed (state first log).pieces base h.change h.fresh at ≡
@@ -150,7 +150,7 @@ side_names ps node i change from to =
     [ true ↦ to | false ↦ from ]
 
 names_resolve : (first : Snapshot) (log : Log) (caller base : ℕ)
-    → (h : CanResolve (state first log) caller base) → IsSound (state first log)
+    → (h : CanResolve (state first log) caller base) → HeldLieApart (state first log)
     → (state first log).pieces anchor ≡ None
     → WordsName (state first log) → WordsName (after (state first log) (Resolve caller base))
 names_resolve first log caller base h sound free o =
@@ -176,7 +176,7 @@ tree_born ps rows all base p i e =
     known (λ x. RowNames ps base x) (ps base) p (Inner it.row) e it.published it.names
 
 names_root : (first : Snapshot) (log : Log) (caller rebuild word : ℕ) (rows : List Row)
-    → (h : CanRoot (state first log) caller rebuild word rows) → IsSound (state first log)
+    → (h : CanRoot (state first log) caller rebuild word rows) → HeldLieApart (state first log)
     → WordsName (state first log)
     → WordsName (after (state first log) (Root caller rebuild word rows))
 unfolding AllName
@@ -209,7 +209,7 @@ names_root first log caller rebuild word rows h sound o =
     }
 
 names_place : (first : Snapshot) (log : Log) (caller rebuild i word : ℕ) (rows : List Row)
-    → (h : CanPlace (state first log) caller rebuild i word rows) → IsSound (state first log)
+    → (h : CanPlace (state first log) caller rebuild i word rows) → HeldLieApart (state first log)
     → WordsName (state first log)
     → WordsName (after (state first log) (Place caller rebuild i word rows))
 unfolding AllName
@@ -243,7 +243,7 @@ names_place first log caller rebuild i word rows h sound o =
 
 -- an enabled event keeps what words name, where bases are good
 pub names_step : (first : Snapshot) (log : Log) (event : Event) → Enabled first log event
-    → IsSound (state first log) → (state first log).pieces anchor ≡ None
+    → HeldLieApart (state first log) → (state first log).pieces anchor ≡ None
     → ((caller base : ℕ) (rows : List Row) (h : CanInstall first log caller base rows) → IsGoodBase
     base × ((at : ℕ) (p : Piece) → with_installed (state first log).pieces base h.change h.fresh
     at ≡ Some p → IsGoodBase at))

@@ -17,7 +17,7 @@ use Rattle.ist_core.specs.Lawful.{EachEnabled, state_of}
 use Rattle.ist_core.specs.Rows.{IsSetAside, at_start, by_caller, Apart, IsWithin}
 use Rattle.ist_core.proofs.ElementLemmas.{among-append}
 use Rattle.ist_core.proofs.PieceLemmas.{among-pieces_of}
-use Rattle.ist_core.proofs.MoveLemmas.{IsSound, Moves}
+use Rattle.ist_core.proofs.MoveLemmas.{HeldLieApart, Moves}
 use Rattle.ist_core.proofs.EventMoveLemmas.{reserve_positive}
 use Rattle.ist_core.proofs.SoundLemmas.{moves_or_reserves, sound}
 use Rattle.ist_core.proofs.StartLemmas.{sound_start}
@@ -200,8 +200,8 @@ module _ (pairs : List Pair) (words : ℕ) where
   lost_free log (Draw c rebuild part) base l e = absurd l
   lost_free log (Place c rebuild i word rows) base l e = absurd l
 
-  placed_moves : (log : Log) (event : Event) → IsSound (state_of pairs words log)
-      → IsSound (state_of pairs words (event ∷ log)) → IsPlaced log (state_of pairs words log)
+  placed_moves : (log : Log) (event : Event) → HeldLieApart (state_of pairs words log)
+      → HeldLieApart (state_of pairs words (event ∷ log)) → IsPlaced log (state_of pairs words log)
       → Moves (state_of pairs words log) (state_of pairs words (event ∷ log)) event
       → IsPlaced (event ∷ log) (state_of pairs words (event ∷ log))
   placed_moves log event s v k m =

@@ -9,10 +9,10 @@ use Rattle.ist_core.specs.Snapshots.{Snapshot, bases_of, without, HoldsRow, Hold
 use Rattle.ist_core.proofs.ElementLemmas.{each-among}
 use Rattle.ist_core.proofs.RowLemmas.{changed_at-none, changed_at-some}
 use Rattle.ist_core.proofs.PublishingLemmas.{row_among, Publishes}
-use Rattle.ist_core.proofs.MoveLemmas.{IsSound, Moves, StandsWith, without-kept, without-fate, stays-changed_at}
+use Rattle.ist_core.proofs.MoveLemmas.{HeldLieApart, Moves, StandsWith, without-kept, without-fate, stays-changed_at}
 
 module _ (t : Snapshot) (caller : ℕ) (rows : List Row) (holds : HoldsRows t caller rows)
-    (sound : IsSound t) where
+    (sound : HeldLieApart t) where
   -- the held row that is published
   held_row : Row → HeldRow
   held_row row = record { caller = caller; base = row.base; size = length row.words }

@@ -19,7 +19,7 @@ use Rattle.ist_core.specs.Installing.{CanInstall}
 use Rattle.ist_core.specs.Deciding.{CanResolve}
 use Rattle.ist_core.specs.Building.{CanPlace}
 use Rattle.ist_core.specs.Enabled.{Enabled}
-use Rattle.ist_core.proofs.MoveLemmas.{IsSound}
+use Rattle.ist_core.proofs.MoveLemmas.{HeldLieApart}
 use Rattle.ist_core.proofs.InstallLemmas.{with_installed}
 use Rattle.ist_core.proofs.AddingLemmas.{adds_install, adds-with_inners}
 use Rattle.ist_core.proofs.StepLemmas.{rows_resolved, rows_placed, holds_installed}
@@ -49,7 +49,7 @@ pub record WritesSlot (t u : Snapshot) (node i new old : ℕ) : Type 0 where
       → ((w ≡ old) × (at ≡ node) × (j ≡ i)) ⊎ SlotHolds u at j w
 
 pub install_writes : (first : Snapshot) (log : Log) (caller base : ℕ) (rows : List Row)
-    → (h : CanInstall first log caller base rows) → IsSound (state first log)
+    → (h : CanInstall first log caller base rows) → HeldLieApart (state first log)
     → (state first log).pieces anchor ≡ None
     → WritesSlot (state first log)
     (after (state first log) (Install caller base rows)) h.change.node h.change.index
@@ -97,7 +97,7 @@ elsewhere node word old ne = at (node == anchor) refl
     at false e = refl
 
 pub place_writes : (t : Snapshot) (caller rebuild i word : ℕ) (rows : List Row)
-    → (h : CanPlace t caller rebuild i word rows) → IsSound t → t.pieces anchor ≡ None
+    → (h : CanPlace t caller rebuild i word rows) → HeldLieApart t → t.pieces anchor ≡ None
     → WritesSlot t (after t (Place caller rebuild i word rows)) h.root i word unset_word
 place_writes t caller rebuild i word rows h sound free =
     let u = after t (Place caller rebuild i word rows) in
@@ -154,7 +154,7 @@ slots_same t u word pieces node i w h = slot_kept t u word
 
 -- an event that writes no slot leaves each as it is
 pub slot_stays : (first : Snapshot) (log : Log) (event : Event) → Enabled first log event
-    → IsSound (state first log) → WritesNoSlot event → (node i w : ℕ)
+    → HeldLieApart (state first log) → WritesNoSlot event → (node i w : ℕ)
     → SlotHolds (state first log) node i w → SlotHolds (state first (event ∷ log)) node i w
 unfolding KeepsSlots
 slot_stays first log (Install caller change rows) h s none = absurd none
@@ -192,7 +192,7 @@ IsNoDecide _ = Unit {0}
 
 -- an event that decides nothing leaves each change as it is
 pub change_stays : (first : Snapshot) (log : Log) (event : Event) → Enabled first log event
-    → IsSound (state first log) → IsNoDecide event → (at : ℕ) (r : ChangeRow)
+    → HeldLieApart (state first log) → IsNoDecide event → (at : ℕ) (r : ChangeRow)
     → (state first log).pieces at ≡ Some (Change r)
     → (state first (event ∷ log)).pieces at ≡ Some (Change r)
 change_stays first log (Install caller base rows) h s none at r e =

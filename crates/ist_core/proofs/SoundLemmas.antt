@@ -12,10 +12,10 @@ use Rattle.ist_core.specs.Logs.{Log, state, Happened, Reserves, Loses}
 use Rattle.ist_core.specs.Enabled.{Enabled, CanReserve}
 use Rattle.ist_core.specs.Lawful.{EachEnabled}
 use Rattle.ist_core.proofs.ElementLemmas.{among-append, among_left, among_right}
-use Rattle.ist_core.proofs.MoveLemmas.{IsSound, Moves, StandsWith}
+use Rattle.ist_core.proofs.MoveLemmas.{HeldLieApart, Moves, StandsWith}
 use Rattle.ist_core.proofs.EventMoveLemmas.{reserve_positive, moves}
 
-sound_moves : (t u : Snapshot) (event : Event) → IsSound t → Moves t u event → IsSound u
+sound_moves : (t u : Snapshot) (event : Event) → HeldLieApart t → Moves t u event → HeldLieApart u
 sound_moves t u event s m =
     record {
       below = λ base p e.
@@ -27,7 +27,7 @@ sound_moves t u event s m =
       once = λ g h i j e. s.once g h (m.kept g i) (m.kept h j) e;
     }
 
-module _ (t : Snapshot) (caller base size : ℕ) (h : CanReserve t caller base size) (s : IsSound t)
+module _ (t : Snapshot) (caller base size : ℕ) (h : CanReserve t caller base size) (s : HeldLieApart t)
   where
     -- the row that is reserved
     new_row : HeldRow
@@ -51,7 +51,7 @@ module _ (t : Snapshot) (caller base size : ℕ) (h : CanReserve t caller base s
         at None e = e
         at (Some p) e = let low = s.below base p e in let is = h.base_is in absurd (omega arith)
 
-    sound_reserve : IsSound (after t (Reserve caller base size))
+    sound_reserve : HeldLieApart (after t (Reserve caller base size))
     unfolding new_row
     sound_reserve =
         record {
@@ -87,7 +87,7 @@ pub record IsReserve (first : Snapshot) (log : Log) (event : Event) : Type 0 whe
 
 -- each enabled event moves rows, or reserves one
 pub moves_or_reserves : (first : Snapshot) (log : Log) (event : Event) → Enabled first log event
-    → IsSound (state first log)
+    → HeldLieApart (state first log)
     → Moves (state first log) (state first (event ∷ log)) event ⊎ IsReserve first log event
 moves_or_reserves first log (Reserve caller base size) h s = inr record
     { caller = caller; base = base; size = size; is = refl; can = h }
@@ -119,17 +119,17 @@ moves_or_reserves first log (Lose caller bases) h s = inl
 
 -- an enabled event leaves rows sound
 sound_step : (first : Snapshot) (log : Log) (event : Event) → Enabled first log event
-    → IsSound (state first log) → IsSound (state first (event ∷ log))
+    → HeldLieApart (state first log) → HeldLieApart (state first (event ∷ log))
 sound_step first log event h s =
     ⊎_elim
     (λ m. sound_moves (state first log) (state first (event ∷ log)) event s m)
-    (λ r. subst (λ e. IsSound (after (state first log) e)) (sym r.is)
+    (λ r. subst (λ e. HeldLieApart (after (state first log) e)) (sym r.is)
     (sound_reserve (state first log) r.caller r.base r.size r.can s))
     (moves_or_reserves first log event h s)
 
 -- rows lie soundly behind a log from a sound state
-pub sound : (first : Snapshot) (log : Log) → IsSound first → EachEnabled first log
-    → IsSound (state first log)
+pub sound : (first : Snapshot) (log : Log) → HeldLieApart first → EachEnabled first log
+    → HeldLieApart (state first log)
 sound first [] s h = s
 sound first (event ∷ log) s h = sound_step first log event h.1 (sound first log s h.0)
 
@@ -160,7 +160,7 @@ known_reserve t log c b z caller base size (inl (inr stands)) = inl (inr stands)
 known_reserve t log c b z caller base size (inr lost) = inr (inr lost)
 
 known_step : (first : Snapshot) (log : Log) (event : Event) (caller base size : ℕ)
-    → Enabled first log event → IsSound (state first log)
+    → Enabled first log event → HeldLieApart (state first log)
     → Known (state first log) log caller base size
     → Known (state first (event ∷ log)) (event ∷ log) caller base size
 known_step first log event caller base size h s k =
@@ -193,7 +193,7 @@ held_now t (Place caller rebuild i word rows) c b z h = absurd h
 held_now t (Lose caller bases) c b z h = absurd h
 
 -- each row that was reserved is known
-pub known : (first : Snapshot) (log : Log) (caller base size : ℕ) → IsSound first
+pub known : (first : Snapshot) (log : Log) (caller base size : ℕ) → HeldLieApart first
     → EachEnabled first log → Happened (Reserves caller base size) log
     → Known (state first log) log caller base size
 known first [] caller base size s h r = absurd r

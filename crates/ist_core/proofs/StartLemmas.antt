@@ -16,7 +16,7 @@ use Rattle.ist_core.proofs.ShapeLemmas.{ideal_words_many}
 use Rattle.ist_core.proofs.PartLemmas.{sum-part_lens}
 use Rattle.ist_core.proofs.WordLemmas.{ideal_words_one}
 use Rattle.ist_core.proofs.PieceLemmas.{among-pieces_of}
-use Rattle.ist_core.proofs.MoveLemmas.{IsSound}
+use Rattle.ist_core.proofs.MoveLemmas.{HeldLieApart}
 
 -- an element of what is made of each element is made of one of them
 among-flat_map : {A B : Type 0} (f : A → List B) (y : B) (xs : List A) → Among y (flat_map f xs)
@@ -73,7 +73,7 @@ low_rows (suc fuel) base (pair ∷ more ∷ pairs) at p (inr i) =
     omega arith
 
 -- a new table is sound
-pub sound_start : (pairs : List Pair) (words : ℕ) → IsSound (start pairs words)
+pub sound_start : (pairs : List Pair) (words : ℕ) → HeldLieApart (start pairs words)
 sound_start pairs words =
     record {
       below = λ base p e. low_rows (length pairs) first_row pairs base p

@@ -14,7 +14,7 @@ use Rattle.ist_core.specs.Deciding.{CanResolve}
 use Rattle.ist_core.specs.Building.{CanRoot, CanPlace}
 use Rattle.ist_core.specs.Enabled.{Enabled}
 use Rattle.ist_core.specs.Growing.{Grows, AllGrow, is_marked, is_finished}
-use Rattle.ist_core.proofs.MoveLemmas.{IsSound}
+use Rattle.ist_core.proofs.MoveLemmas.{HeldLieApart}
 use Rattle.ist_core.proofs.InstallLemmas.{with_installed}
 use Rattle.ist_core.proofs.AddingLemmas.{adds_install, adds-with_inners}
 use Rattle.ist_core.proofs.GrowingLemmas.{all_grow_same, all_grow_on, all_grow_added, all_grow-changed_at, grows-with_slot, grows-with_status, grows-with_decision, grows-with_root, grows-counted, grows-drawn}
@@ -51,7 +51,7 @@ pub known : (P : Piece → Type 0) (o : Option Piece) (p q : Piece) → o ≡ So
 known P o p q h k x = let same : q ≡ p = cc in subst P same x
 
 grow_install : (first : Snapshot) (log : Log) (caller base : ℕ) (rows : List Row)
-    → CanInstall first log caller base rows → IsSound (state first log)
+    → CanInstall first log caller base rows → HeldLieApart (state first log)
     → AllGrow (state first log).pieces (after (state first log) (Install caller base rows)).pieces
 grow_install first log caller base rows h sound =
     let t = state first log in
@@ -73,7 +73,7 @@ grow_resolve t caller base h =
     (λ p _. grows-with_slot h.change.index (side_of h.change) p))
 
 grow_root : (t : Snapshot) (caller rebuild word : ℕ) (rows : List Row)
-    → CanRoot t caller rebuild word rows → IsSound t
+    → CanRoot t caller rebuild word rows → HeldLieApart t
     → AllGrow t.pieces (after t (Root caller rebuild word rows)).pieces
 grow_root t caller rebuild word rows h sound =
     let qs = with_inners t.pieces rows in
@@ -85,7 +85,7 @@ grow_root t caller rebuild word rows h sound =
     (adds.keeps rebuild (Rebuild h.row) h.published) (grows-with_root h.row word h.rootless)))
 
 grow_place : (t : Snapshot) (caller rebuild i word : ℕ) (rows : List Row)
-    → CanPlace t caller rebuild i word rows → IsSound t
+    → CanPlace t caller rebuild i word rows → HeldLieApart t
     → AllGrow t.pieces (after t (Place caller rebuild i word rows)).pieces
 grow_place t caller rebuild i word rows h sound =
     let qs = with_inners t.pieces rows in
@@ -97,7 +97,7 @@ grow_place t caller rebuild i word rows h sound =
 
 -- an enabled event lets the rows grow
 pub grow_step : (first : Snapshot) (log : Log) (event : Event) → Enabled first log event
-    → IsSound (state first log)
+    → HeldLieApart (state first log)
     → AllGrow (state first log).pieces (state first (event ∷ log)).pieces
 grow_step first log (Enter caller) h s = all_grow_same _
 grow_step first log (Reserve caller base size) h s = all_grow_same _

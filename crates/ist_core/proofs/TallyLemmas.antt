@@ -25,7 +25,7 @@ use Rattle.ist_core.specs.Lawful.{EachEnabled, state_of}
 use Rattle.ist_core.proofs.ElementLemmas.{each_append, each-among}
 use Rattle.ist_core.proofs.RowLemmas.{changed_at-some}
 use Rattle.ist_core.proofs.PieceLemmas.{among-pieces_of}
-use Rattle.ist_core.proofs.MoveLemmas.{IsSound}
+use Rattle.ist_core.proofs.MoveLemmas.{HeldLieApart}
 use Rattle.ist_core.proofs.SoundLemmas.{sound}
 use Rattle.ist_core.proofs.StartLemmas.{sound_start}
 use Rattle.ist_core.proofs.InstallLemmas.{with_installed}
@@ -184,7 +184,7 @@ module _ (node : ℕ) where
           (⊎_elim (λ l. let is = ap count_in l in omega arith) (λ l. absurd (k.1 (sym l.0))) it.2)
 
   most_step : (first : Snapshot) (log : Log) (event : Event) → Enabled first log event
-      → IsSound (state first log) → CountsAtMost (state first log).pieces (counts node log)
+      → HeldLieApart (state first log) → CountsAtMost (state first log).pieces (counts node log)
       → CountsAtMost (state first (event ∷ log)).pieces (counts node (event ∷ log))
   unfolding counts
   most_step first log (Install caller base rows) h s old =

@@ -20,8 +20,8 @@ spent pairs [] = first_row + ideal_words (length pairs)
 spent pairs (event ∷ log) = spent pairs log + reserved_by event
 
 -- a row of this size that the caller reserved at the base is held by it, or published, or was lost
-pub data IsKnown (t : Snapshot) (log : Log) (caller base size : ℕ) : Type 0 where
-  still_held : HoldsRow t caller base size → IsKnown t log caller base size
+pub data IsAccountedFor (t : Snapshot) (log : Log) (caller base size : ℕ) : Type 0 where
+  still_held : HoldsRow t caller base size → IsAccountedFor t log caller base size
   is_published : (p : Piece) → t.pieces base ≡ Some p → size_of p ≡ size
-      → IsKnown t log caller base size
-  was_lost : Happened (Loses base) log → IsKnown t log caller base size
+      → IsAccountedFor t log caller base size
+  was_lost : Happened (Loses base) log → IsAccountedFor t log caller base size

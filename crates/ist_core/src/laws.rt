@@ -6,7 +6,7 @@ ghost use Rattle.ist_core.specs.Snapshots.{Snapshot, Shows};
 ghost use Rattle.ist_core.specs.Leaves.{HasContents};
 ghost use Rattle.ist_core.specs.Logs.{Log, Happened, Reserves};
 ghost use Rattle.ist_core.specs.Lawful.{Lawful, state_of};
-ghost use Rattle.ist_core.specs.Spending.{spent, IsKnown};
+ghost use Rattle.ist_core.specs.Spending.{spent, IsAccountedFor};
 ghost use Rattle.ist_core.specs.Laws.{PublishedRowsAreSetAside, HeldRowsAreSetAside, RowsLieWithin, RowsLieApart, RowsHaveOneSize};
 ghost use Rattle.ist_core.specs.Laws.{HeldRowsAreUnpublished, RowsAreHeldOnce, LostRowsAreUnpublished, LostRowsAreFree, RowsGrow};
 ghost use Rattle.ist_core.specs.Laws.{CountsAreFew, CountsAreLow, DrawsAreFew, CallersAreFew};
@@ -40,7 +40,7 @@ pub fn words_are_spent()
 pub fn rows_are_known()
     ensures known { (pairs : List Pair) (words : ℕ) (log : Log) → Lawful pairs words log
         → (caller base size : ℕ) → Happened (Reserves caller base size) log
-        → IsKnown (state_of pairs words log) log caller base size }
+        → IsAccountedFor (state_of pairs words log) log caller base size }
 {}
 
 /// A reserved row has one fate: what is held is held once and isn't published, and what was lost is

@@ -13,6 +13,7 @@ use Rattle.ist_core.specs.Parts.{parts, first_keys}
 use Rattle.ist_core.specs.Pieces.{Piece, words_of, size_of}
 use Rattle.ist_core.specs.StartLayout.{tree_at, placed_parts, top_row, rows_within, rows_from}
 use Rattle.ist_core.proofs.PartLemmas.{part_end-le}
+use Rattle.ist_core.proofs.WordLemmas.{ideal_words_one}
 use Rattle.ist_core.proofs.LayoutLemmas.{Fills, fills_rows, keys_of_parts, slots_of-top_row}
 use Rattle.ist_image.specs.Placing.{part_of, part_base, rows_behind, row_words, tree_words}
 use Rattle.ist_image.proofs.PlacingLemmas.{
@@ -148,6 +149,14 @@ row_set old mid new base d pairs two e i m =
     m ∙ ap (λ k. sets mid k slots) at
     ∙ ap (λ ws. sets ws (suc (suc (suc (suc base))) + length keys) slots) is
     ∙ sym (sets-append (fields (degree n)) (suc (suc (suc (suc base)))) keys slots)
+
+-- there is room for the two words of one pair
+pub leaf_room : (base n whole : ℕ) → 1 ≤ n → n < 2 → base + ideal_words n ≤ whole
+    → base + 2 ≤ whole
+leaf_room base n whole least most room =
+    let one : n ≡ 1 = omega arith in
+    let size = ap ideal_words one ∙ ideal_words_one in
+    omega arith
 
 -- the words of no pair, and of one
 pub nothing_set : (words : List ℕ) (base : ℕ) (pairs : List Pair) → length pairs < 1

@@ -22,7 +22,7 @@ use Rattle.ist_core.specs.Statuses.{decided_yes, undecided}
 use Rattle.ist_core.proofs.FreezingLemmas.{change_read, same_change}
 use Rattle.ist_core.proofs.GrowingLemmas.{change_there}
 use Rattle.ist_core.proofs.InstallNamingLemmas.{from_plain}
-use Rattle.ist_core.proofs.MoveLemmas.{IsSound}
+use Rattle.ist_core.proofs.MoveLemmas.{HeldLieApart}
 use Rattle.ist_core.proofs.PlaceLemmas.{absent, anchor_free, no_piece}
 use Rattle.ist_core.proofs.SlotStepLemmas.{install_writes, place_writes, resolve_writes, slot_stays}
 use Rattle.ist_core.proofs.StepLemmas.{holds_installed}
@@ -82,7 +82,7 @@ unresolved_before pairs words (event ∷ log) h base none (inr before) =
 
 -- no row stands where one is installed
 pub install_free : (first : Snapshot) (log : Log) (caller base : ℕ) (rows : List Row)
-    → CanInstall first log caller base rows → IsSound (state first log)
+    → CanInstall first log caller base rows → HeldLieApart (state first log)
     → (state first log).pieces base ≡ None
 install_free first log caller base rows h s =
     s.unpublished record { caller = caller; base = base; size = 9 }

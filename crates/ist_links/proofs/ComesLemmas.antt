@@ -18,14 +18,14 @@ use Rattle.ist_core.proofs.BornLemmas.{Born}
 use Rattle.ist_core.proofs.PlaceLemmas.{one_piece}
 use Rattle.ist_links.proofs.OriginLemmas.{ChangeComes, KeepsStatuses, RebuildComes, StatusComes, change-counted, change-drawn, change-with_root, change-with_slot, change-with_status, change_was, finished_now, is_begun, is_decided, is_drawn, is_installed, is_new, is_rooted, marked_now, rebuild-counted, rebuild-with_decision, rebuild-with_slot, rebuild-with_status, rebuild_was, status-counted, status-drawn, status-with_decision, status-with_root, status-with_slot, status-with_status, status_was}
 use Rattle.ist_links.proofs.PublishedLemmas.{born_open, installed_change, installed_rebuild, new_rebuild_row, published_inner}
-use Rattle.ist_links.proofs.TurnLemmas.{Came, Turned, as_it_was, by_count, by_decide, by_draw, by_finish, by_install, by_mark, by_place, by_resolve, by_root, came, from_new, from_old}
+use Rattle.ist_links.proofs.TurnLemmas.{Came, BecameBy, as_it_was, by_count, by_decide, by_draw, by_finish, by_install, by_mark, by_place, by_resolve, by_root, came, from_new, from_old}
 use Rattle.ist_core.proofs.BornLemmas as born
 
 module _ (pairs : List Pair) (words : ℕ) where
   -- where a change that stood there comes from
   turned_change : (log : Log) (event : Event) (base : ℕ) (x : ChangeRow) (p : Piece)
       → (state_of pairs words log).pieces base ≡ Some p
-      → Turned (start pairs words) log base p (Change x) event
+      → BecameBy (start pairs words) log base p (Change x) event
       → ChangeComes (start pairs words) log base x event
   turned_change log event base x p old (as_it_was is) = change_was (old ∙ ap (λ y. Some y) (sym is))
   turned_change log _ base x p old (by_install {change = change} h here is) =
@@ -95,7 +95,7 @@ module _ (pairs : List Pair) (words : ℕ) where
   -- where a rebuild that stood there comes from
   turned_rebuild : (log : Log) (event : Event) (base : ℕ) (x : RebuildRow) (p : Piece)
       → (state_of pairs words log).pieces base ≡ Some p
-      → Turned (start pairs words) log base p (Rebuild x) event
+      → BecameBy (start pairs words) log base p (Rebuild x) event
       → RebuildComes (start pairs words) log base x event
   turned_rebuild log event base x p old (as_it_was is) =
       rebuild_was (old ∙ ap (λ y. Some y) (sym is))
@@ -184,7 +184,7 @@ module _ (pairs : List Pair) (words : ℕ) where
   -- where the status of a row that stood there comes from
   turned_status : (log : Log) (event : Event) (base : ℕ) (x : InnerRow) (p : Piece)
       → (state_of pairs words log).pieces base ≡ Some p
-      → Turned (start pairs words) log base p (Inner x) event
+      → BecameBy (start pairs words) log base p (Inner x) event
       → StatusComes (start pairs words) log base x.status event
   turned_status log event base x p old (as_it_was is) =
       status_was x (old ∙ ap (λ y. Some y) (sym is)) refl

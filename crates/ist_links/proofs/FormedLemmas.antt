@@ -23,7 +23,7 @@ use Rattle.ist_core.proofs.FreshLemmas.{IsFresh, fresh_stands}
 use Rattle.ist_core.proofs.GrowingLemmas.{all_grow-changed_at, grows-with_slot}
 use Rattle.ist_core.proofs.InstallLemmas.{with_installed}
 use Rattle.ist_core.proofs.InstallNamingLemmas.{pair_is_inner}
-use Rattle.ist_core.proofs.MoveLemmas.{IsSound}
+use Rattle.ist_core.proofs.MoveLemmas.{HeldLieApart}
 use Rattle.ist_core.proofs.StepLemmas.{holds_installed}
 use Rattle.ist_links.proofs.FormLemmas.{IsFormed, finished_grows, formed_decided, formed_grows, leaf_of_grows, of_finish, of_leaf_put, of_pair_put, of_remove, of_start, room_grows}
 use Rattle.ist_links.proofs.InductionLemmas.{changes_by, grow_behind, rebuilds_by, sound_behind}
@@ -33,7 +33,7 @@ use Rattle.ist_core.specs.Installing as kinds
 -- a fresh row of an Install stands behind it, or what became of it
 pub fresh_behind : (first : Snapshot) (log : Log) (caller base : ℕ) (rows : List Row)
     (h : CanInstall first log caller base rows)
-    → IsSound (state first log) → (at : ℕ) (p : Piece)
+    → HeldLieApart (state first log) → (at : ℕ) (p : Piece)
     → IsFresh first log h.change h.fresh h.fits at p
     → (q : Piece) × ((state first (Install caller base rows ∷ log)).pieces at ≡ Some q) × Grows p q
 fresh_behind first log caller base rows h s at p is =

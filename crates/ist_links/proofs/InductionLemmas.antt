@@ -16,7 +16,7 @@ use Rattle.ist_core.specs.Lawful.{EachEnabled, state_of}
 use Rattle.ist_core.specs.Logs.{Log}
 use Rattle.ist_core.specs.Pieces.{Change, Rebuild}
 use Rattle.ist_core.specs.StartLayout.{start}
-use Rattle.ist_core.proofs.MoveLemmas.{IsSound}
+use Rattle.ist_core.proofs.MoveLemmas.{HeldLieApart}
 use Rattle.ist_core.proofs.SoundLemmas.{sound}
 use Rattle.ist_core.proofs.StartLemmas.{sound_start}
 use Rattle.ist_core.proofs.StepLemmas.{grow_step}
@@ -28,7 +28,7 @@ use Rattle.ist_links.proofs.QuietLemmas.{start_quiet}
 module _ (pairs : List Pair) (words : ℕ) where
   -- rows lie soundly behind a lawful log
   pub sound_behind : (log : Log) → EachEnabled (start pairs words) log
-      → IsSound (state_of pairs words log)
+      → HeldLieApart (state_of pairs words log)
   sound_behind log h = sound (start pairs words) log (sound_start pairs words) h
 
   -- rows grow by each event

@@ -24,7 +24,7 @@ use Rattle.ist_core.proofs.GrowingLemmas.{leaf_there}
 use Rattle.ist_core.proofs.InstallLemmas.{with_installed}
 use Rattle.ist_core.proofs.InstallNamingLemmas.{pair_is_inner}
 use Rattle.ist_core.proofs.MentionLemmas.{child_mentioned}
-use Rattle.ist_core.proofs.MoveLemmas.{IsSound}
+use Rattle.ist_core.proofs.MoveLemmas.{HeldLieApart}
 use Rattle.ist_core.proofs.OrderLemmas.{names}
 use Rattle.ist_core.proofs.ParentLemmas.{one_home}
 use Rattle.ist_core.proofs.PlaceLemmas.{anchor_free, no_piece}
@@ -158,7 +158,7 @@ module _ (pairs : List Pair) (words : ℕ) (opens : CanOpen pairs words) where
       at can.fits (fresh_behind (start pairs words) log caller base rows can s)
       (fresh_stands (start pairs words) log caller base can.change can.fresh s (state_of pairs words log).pieces can.fits holds)
     where
-      s : IsSound (state_of pairs words log)
+      s : HeldLieApart (state_of pairs words log)
       s = sound_behind pairs words log h.0
 
       holds : HoldsRows (state_of pairs words log) caller (row_at base (Change can.change) ∷ can.fresh)

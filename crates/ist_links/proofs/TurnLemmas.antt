@@ -22,7 +22,7 @@ use Rattle.ist_core.specs.Statuses.{finished_word, marked_word}
 use Rattle.ist_core.proofs.AddingLemmas.{Adds, IsInstalled, adds-with_inners, adds_install}
 use Rattle.ist_core.proofs.BornLemmas.{Born}
 use Rattle.ist_core.proofs.InstallLemmas.{with_installed}
-use Rattle.ist_core.proofs.MoveLemmas.{IsSound}
+use Rattle.ist_core.proofs.MoveLemmas.{HeldLieApart}
 use Rattle.ist_core.proofs.PlaceLemmas.{anchor_free, no_piece}
 use Rattle.ist_core.proofs.RowLemmas.{changed_at-some}
 use Rattle.ist_core.proofs.SoundLemmas.{sound}
@@ -31,35 +31,35 @@ use Rattle.ist_core.proofs.StepLemmas.{holds_installed, rows_placed, rows_resolv
 use Rattle.ist_core.proofs.BornLemmas as born
 
 -- what the event makes of the row p at the base is q: p itself, or p with the one field changed that the event writes
-pub data Turned (first : Snapshot) (log : Log) (base : ℕ) (p q : Piece) : Event → Type 0 where
-  as_it_was : {event : Event} → q ≡ p → Turned first log base p q event
+pub data BecameBy (first : Snapshot) (log : Log) (base : ℕ) (p q : Piece) : Event → Type 0 where
+  as_it_was : {event : Event} → q ≡ p → BecameBy first log base p q event
   by_install : {caller change : ℕ} {rows : List Row} (h : CanInstall first log caller change rows)
       → base ≡ h.change.node → q ≡ with_slot h.change.index (word_of (ChangeAt change)) p
-      → Turned first log base p q (Install caller change rows)
+      → BecameBy first log base p q (Install caller change rows)
   by_resolve : {caller change : ℕ} (h : CanResolve (state first log) caller change)
       → base ≡ h.change.node → q ≡ with_slot h.change.index (side_of h.change) p
-      → Turned first log base p q (Resolve caller change)
+      → BecameBy first log base p q (Resolve caller change)
   by_place : {caller rebuild i word : ℕ} {rows : List Row}
       (h : CanPlace (state first log) caller rebuild i word rows)
       → base ≡ h.root → q ≡ with_slot i word p
-      → Turned first log base p q (Place caller rebuild i word rows)
+      → BecameBy first log base p q (Place caller rebuild i word rows)
   by_decide : {caller : ℕ} {said : Bool} → CanDecide (state first log) log caller base said
       → q ≡ with_decision (decision_word said) p
-      → Turned first log base p q (Decide caller base said)
+      → BecameBy first log base p q (Decide caller base said)
   by_count : {caller : ℕ} → CanCount first log caller base → q ≡ counted p
-      → Turned first log base p q (Count caller base)
+      → BecameBy first log base p q (Count caller base)
   by_mark : {caller : ℕ} → CanMark (state first log) log caller base → q ≡ with_status marked_word p
-      → Turned first log base p q (Mark caller base)
+      → BecameBy first log base p q (Mark caller base)
   by_finish : {caller keys : ℕ} → CanFinish (state first log) log caller base keys
-      → q ≡ with_status (finished_word keys) p → Turned first log base p q (Finish caller base keys)
+      → q ≡ with_status (finished_word keys) p → BecameBy first log base p q (Finish caller base keys)
   by_root : {caller word : ℕ} {rows : List Row} → CanRoot (state first log) caller base word rows
-      → q ≡ with_root word p → Turned first log base p q (Root caller base word rows)
+      → q ≡ with_root word p → BecameBy first log base p q (Root caller base word rows)
   by_draw : {caller part : ℕ} → CanDraw (state first log) log caller base part → q ≡ drawn p
-      → Turned first log base p q (Draw caller base part)
+      → BecameBy first log base p q (Draw caller base part)
 
 -- a row behind the event stood there before it, or is published by it
 pub data Came (first : Snapshot) (log : Log) (event : Event) (base : ℕ) (q : Piece) : Type 0 where
-  from_old : (p : Piece) → (state first log).pieces base ≡ Some p → Turned first log base p q event
+  from_old : (p : Piece) → (state first log).pieces base ≡ Some p → BecameBy first log base p q event
       → Came first log event base q
   from_new : Born first log base q event → (state first log).pieces base ≡ None
       → Came first log event base q
@@ -102,7 +102,7 @@ added_changed ps qs New at f adds base q e stood = here (ps base) refl
 -- an event that writes one row
 turned_one : (first : Snapshot) (log : Log) (event : Event) (at : ℕ) (f : Piece → Piece)
     → (state first (event ∷ log)).pieces ≡ changed_at (state first log).pieces at f
-    → ((base : ℕ) (p q : Piece) → base ≡ at → q ≡ f p → Turned first log base p q event)
+    → ((base : ℕ) (p q : Piece) → base ≡ at → q ≡ f p → BecameBy first log base p q event)
     → (base : ℕ) (q : Piece) → (state first (event ∷ log)).pieces base ≡ Some q
     → Came first log event base q
 turned_one first log event at f pieces turned base q e =
@@ -122,7 +122,7 @@ turned_added : (first : Snapshot) (log : Log) (event : Event) (qs : Pieces)
     (New : ℕ → Piece → Type 0) (at : ℕ) (f : Piece → Piece)
     → Adds (state first log).pieces qs New
     → (state first (event ∷ log)).pieces ≡ changed_at qs at f
-    → ((base : ℕ) (p q : Piece) → base ≡ at → q ≡ f p → Turned first log base p q event)
+    → ((base : ℕ) (p q : Piece) → base ≡ at → q ≡ f p → BecameBy first log base p q event)
     → ((base : ℕ) (p : Piece) → New base p → qs base ≡ Some p → Born first log base p event)
     → (base : ℕ) (q : Piece) → (state first (event ∷ log)).pieces base ≡ Some q
     → (base ≡ at → (state first log).pieces base ≡ None → ⊥) → Came first log event base q
@@ -154,7 +154,7 @@ module _ (pairs : List Pair) (words : ℕ) where
       → Came (start pairs words) log event base q
   came log event h base q e = at event h h.1 e
     where
-      s : IsSound (state_of pairs words log)
+      s : HeldLieApart (state_of pairs words log)
       s = sound (start pairs words) log (sound_start pairs words) h.0
 
       at : (event : Event) → EachEnabled (start pairs words) (event ∷ log)
@@ -189,25 +189,25 @@ module _ (pairs : List Pair) (words : ℕ) where
           turned_added (start pairs words) log (Root caller rebuild word rows)
           (with_inners t.pieces rows) (λ b p. Among b (bases_of rows)) rebuild (with_root word)
           (adds-with_inners t caller rows k.held s) refl
-          (λ b p x here is. subst (λ n. Turned (start pairs words) log n p x (Root caller rebuild word rows)) (sym here) (by_root k is)) (λ b p new there. born.by_root new there) base q there
+          (λ b p x here is. subst (λ n. BecameBy (start pairs words) log n p x (Root caller rebuild word rows)) (sym here) (by_root k is)) (λ b p new there. born.by_root new there) base q there
           (λ here none. no_piece (t.pieces base) (Rebuild k.row) none (subst (λ n. t.pieces n ≡ Some (Rebuild k.row)) (sym here) k.published))
       at (Decide caller change said) all k there =
           turned_one (start pairs words) log (Decide caller change said) change
           (with_decision (decision_word said)) refl
-          (λ b p x here is. subst (λ n. Turned (start pairs words) log n p x (Decide caller change said)) (sym here) (by_decide k is)) base q there
+          (λ b p x here is. subst (λ n. BecameBy (start pairs words) log n p x (Decide caller change said)) (sym here) (by_decide k is)) base q there
       at (Count caller node) all k there =
           turned_one (start pairs words) log (Count caller node) node counted refl
-          (λ b p x here is. subst (λ n. Turned (start pairs words) log n p x (Count caller node)) (sym here) (by_count k is)) base q there
+          (λ b p x here is. subst (λ n. BecameBy (start pairs words) log n p x (Count caller node)) (sym here) (by_count k is)) base q there
       at (Mark caller node) all k there =
           turned_one (start pairs words) log (Mark caller node) node (with_status marked_word) refl
-          (λ b p x here is. subst (λ n. Turned (start pairs words) log n p x (Mark caller node)) (sym here) (by_mark k is)) base q there
+          (λ b p x here is. subst (λ n. BecameBy (start pairs words) log n p x (Mark caller node)) (sym here) (by_mark k is)) base q there
       at (Finish caller node keys) all k there =
           turned_one (start pairs words) log (Finish caller node keys) node
           (with_status (finished_word keys)) refl
-          (λ b p x here is. subst (λ n. Turned (start pairs words) log n p x (Finish caller node keys)) (sym here) (by_finish k is)) base q there
+          (λ b p x here is. subst (λ n. BecameBy (start pairs words) log n p x (Finish caller node keys)) (sym here) (by_finish k is)) base q there
       at (Draw caller rebuild part) all k there =
           turned_one (start pairs words) log (Draw caller rebuild part) rebuild drawn refl
-          (λ b p x here is. subst (λ n. Turned (start pairs words) log n p x (Draw caller rebuild part)) (sym here) (by_draw k is)) base q there
+          (λ b p x here is. subst (λ n. BecameBy (start pairs words) log n p x (Draw caller rebuild part)) (sym here) (by_draw k is)) base q there
       at (Enter caller) all k there =
           turned_none (start pairs words) log (Enter caller) refl base q there
       at (Reserve caller b size) all k there =

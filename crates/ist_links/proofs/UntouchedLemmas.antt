@@ -26,7 +26,7 @@ use Rattle.ist_core.proofs.SlotLemmas.{no_row, same_inner}
 use Rattle.ist_links.proofs.ChangeLemmas.{node_was_linked}
 use Rattle.ist_links.proofs.ClosedLemmas.{closed_was_linked, linked_now, mark_linked, passed_was_linked}
 use Rattle.ist_links.proofs.InductionLemmas.{grow_behind}
-use Rattle.ist_links.proofs.TurnLemmas.{Came, Turned, as_it_was, by_count, by_decide, by_draw, by_finish, by_install, by_mark, by_place, by_resolve, by_root, came, from_new, from_old}
+use Rattle.ist_links.proofs.TurnLemmas.{Came, BecameBy, as_it_was, by_count, by_decide, by_draw, by_finish, by_install, by_mark, by_place, by_resolve, by_root, came, from_new, from_old}
 use Rattle.ist_core.specs.Links as chains
 
 -- ---- chains
@@ -73,7 +73,7 @@ module _ (pairs : List Pair) (words : ℕ) (opens : CanOpen pairs words) where
   untouched_turned : (log : Log) (event : Event) → EachEnabled (start pairs words) (event ∷ log)
       → (node : ℕ) (r s : InnerRow)
       → ¬ (WasLinked (start pairs words) log node)
-      → Turned (start pairs words) log node (Inner r) (Inner s) event
+      → BecameBy (start pairs words) log node (Inner r) (Inner s) event
       → Stays (start pairs words) log node r s event
   untouched_turned log event h node r s never (as_it_was is) =
       subst (λ x. Stays (start pairs words) log node r x event) (inner_row r s (sym is)) stays_so
@@ -120,7 +120,7 @@ module _ (pairs : List Pair) (words : ℕ) (opens : CanOpen pairs words) where
       at s (from_old p old turned) =
           let same = one_piece ((state_of pairs words log).pieces node) p (Inner r) old e in
           untouched_turned log event h node r s never
-          (subst (λ x. Turned (start pairs words) log node x (Inner s) event) same turned)
+          (subst (λ x. BecameBy (start pairs words) log node x (Inner s) event) same turned)
       at s (from_new new none) =
           absurd (no_piece ((state_of pairs words log).pieces node) (Inner r) none e)
 

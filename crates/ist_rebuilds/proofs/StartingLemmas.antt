@@ -16,7 +16,7 @@ use Rattle.ist_core.specs.Snapshots.{HoldsRows, Snapshot}
 use Rattle.ist_core.specs.StartLayout.{start}
 use Rattle.ist_core.specs.Statuses.{decided_yes, start_kind, undecided}
 use Rattle.ist_core.proofs.FreezingLemmas.{same_change}
-use Rattle.ist_core.proofs.MoveLemmas.{IsSound}
+use Rattle.ist_core.proofs.MoveLemmas.{HeldLieApart}
 use Rattle.ist_core.proofs.NamingLemmas.{IsRebuildFor, RootNames, SideNames, WordsName}
 use Rattle.ist_core.proofs.OrderLemmas.{names}
 use Rattle.ist_core.proofs.PlaceLemmas.{anchor_free, no_piece}
@@ -105,7 +105,7 @@ module _ (pairs : List Pair) (words : ℕ) (opens : CanOpen pairs words) where
       → (state_of pairs words log).pieces rebuild ≡ None
   start_new log caller base rows h can rebuild to = at can.fits
     where
-      s : IsSound (state_of pairs words log)
+      s : HeldLieApart (state_of pairs words log)
       s = sound_behind pairs words log h.0
 
       at : FitsKind (start pairs words) log can.change can.fresh

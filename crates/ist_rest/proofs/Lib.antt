@@ -1,5 +1,6 @@
 pub mod RowLemmas
 pub mod SettleLemmas
+pub mod SlotReadLemmas
 pub mod UnderLemmas
 pub mod PublishedLemmas
 pub mod ReadOnceLemmas

@@ -16,7 +16,7 @@ use Rattle.ist_core.specs.Logs.{Log}
 use Rattle.ist_core.specs.Enabled.{Enabled}
 use Rattle.ist_core.specs.Lawful.{EachEnabled, state_of}
 use Rattle.ist_core.proofs.PublishingLemmas.{among_bases}
-use Rattle.ist_core.proofs.MoveLemmas.{IsSound}
+use Rattle.ist_core.proofs.MoveLemmas.{HeldLieApart}
 use Rattle.ist_core.proofs.SoundLemmas.{sound}
 use Rattle.ist_core.proofs.StartLemmas.{sound_start}
 use Rattle.ist_rule.specs.declared.view.Who.TheVariants.{Caller}
@@ -100,7 +100,7 @@ held_distinct pairs words [] enabled = tt
 held_distinct pairs words (event ∷ log) enabled =
     at (held_distinct pairs words log enabled.0) event enabled.1
   where
-    s : IsSound (state_of pairs words log)
+    s : HeldLieApart (state_of pairs words log)
     s = sound (start pairs words) log (sound_start pairs words) enabled.0
 
     P : List HeldRow → Type 0
@@ -176,7 +176,7 @@ held_by_step pairs words log event number enabled other = at event enabled.1 oth
     t : Snapshot
     t = state_of pairs words log
 
-    s : IsSound (state_of pairs words log)
+    s : HeldLieApart (state_of pairs words log)
     s = sound (start pairs words) log (sound_start pairs words) enabled.0
 
     -- a caller that isn't the number's

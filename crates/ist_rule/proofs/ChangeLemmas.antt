@@ -13,7 +13,7 @@ use Rattle.ist_core.specs.Growing.{Grows, ChangeGrows, change_grows}
 use Rattle.ist_core.specs.Logs.{Log, state}
 use Rattle.ist_core.specs.Installing.{CanInstall, pair_over, pair_row, FitsKind, a_put, a_pair, a_remove, a_start, a_finish}
 use Rattle.ist_core.specs.Enabled.{Enabled}
-use Rattle.ist_core.proofs.MoveLemmas.{IsSound}
+use Rattle.ist_core.proofs.MoveLemmas.{HeldLieApart}
 use Rattle.ist_core.proofs.RowLemmas.{with_inners-some}
 use Rattle.ist_core.proofs.FreshLemmas.{IsFresh}
 use Rattle.ist_core.proofs.BornLemmas.{Born, by_install, by_root, by_place, Comes, from_old, from_born, comes}
@@ -86,7 +86,7 @@ born_change first log base r _ _ (by_place {rows = rows} i e) (change_grows {old
 
 -- where a change behind an event comes from
 pub change_comes : (first : Snapshot) (log : Log) (event : Event) → Enabled first log event
-    → IsSound (state first log)
+    → HeldLieApart (state first log)
     → (base : ℕ) (r : ChangeRow) → (state first (event ∷ log)).pieces base ≡ Some (Change r)
     → ChangeComes first log base r event
 change_comes first log event h s base r e = at (comes first log event h s base (Change r) e)

@@ -19,7 +19,7 @@ use Rattle.ist_core.specs.Lawful.{EachEnabled, state_of}
 use Rattle.ist_core.proofs.ElementLemmas.{among-append, among_left, each-among}
 use Rattle.ist_core.proofs.PieceLemmas.{among-pieces_of}
 use Rattle.ist_core.proofs.PublishingLemmas.{row_among}
-use Rattle.ist_core.proofs.MoveLemmas.{IsSound, without-fate}
+use Rattle.ist_core.proofs.MoveLemmas.{HeldLieApart, without-fate}
 use Rattle.ist_core.proofs.ShapedLemmas.{each-flat_map}
 use Rattle.ist_core.proofs.SoundLemmas.{sound, moves_or_reserves}
 use Rattle.ist_core.proofs.StartLemmas.{sound_start}
@@ -34,7 +34,7 @@ use Rattle.ist_rule.proofs.CallLemmas.{installs_not, between_on}
 -- ---- what others leave
 
 -- a held row at a base of rows that a caller holds is that caller's
-pub rows_holder : (t : Snapshot) (caller : ℕ) (rows : List Row) → IsSound t
+pub rows_holder : (t : Snapshot) (caller : ℕ) (rows : List Row) → HeldLieApart t
     → HoldsRows t caller rows → (h : HeldRow) → Among h t.held
     → Among h.base (bases_of rows) → h.caller ≡ caller
 rows_holder t caller rows s held h i among =
@@ -48,7 +48,7 @@ rows_holder t caller rows s held h i among =
     held it.1) (sym it.2))
 
 -- the same for bases with sizes
-sizes_holder : (t : Snapshot) (caller : ℕ) (bases sizes : List ℕ) → IsSound t
+sizes_holder : (t : Snapshot) (caller : ℕ) (bases sizes : List ℕ) → HeldLieApart t
     → HoldsSizes t caller bases sizes → (h : HeldRow) → Among h t.held
     → Among h.base bases → h.caller ≡ caller
 sizes_holder t caller [] sizes s held h i among = absurd among
@@ -59,7 +59,7 @@ sizes_holder t caller (base ∷ bases) (size ∷ sizes) s held h i (inr more) =
     sizes_holder t caller bases sizes s held.1 h i more
 
 -- what is lost is the caller's own
-pub lost_holder : (t : Snapshot) (log : Log) (caller : ℕ) (bases : List ℕ) → IsSound t
+pub lost_holder : (t : Snapshot) (log : Log) (caller : ℕ) (bases : List ℕ) → HeldLieApart t
     → CanLose t log caller bases → (h : HeldRow) → Among h t.held
     → Among h.base bases → h.caller ≡ caller
 lost_holder t log caller bases s can h i among =
@@ -80,7 +80,7 @@ held-resolved t (Some change) = refl
 
 -- a held row stays where another makes the event
 pub held_by_others : (first : Snapshot) (log : Log) (event : Event) → Enabled first log event
-    → IsSound (state first log) → (h : HeldRow)
+    → HeldLieApart (state first log) → (h : HeldRow)
     → Among h (state first log).held → whose event ≢ Caller h.caller
     → Among h (state first (event ∷ log)).held
 held_by_others first log (Install caller change rows) can s h i other =

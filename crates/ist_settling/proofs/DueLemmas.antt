@@ -22,7 +22,7 @@ use Rattle.ist_core.proofs.CountLemmas.{counts}
 use Rattle.ist_core.proofs.PlaceLemmas.{absent, no_piece}
 use Rattle.ist_core.proofs.TallyLemmas.{count_at_most}
 use Rattle.ist_links.proofs.InductionLemmas.{grow_behind}
-use Rattle.ist_links.proofs.TurnLemmas.{Came, Turned, as_it_was, by_count, by_decide, by_draw, by_finish, by_install, by_mark, by_place, by_resolve, by_root, came, from_new, from_old}
+use Rattle.ist_links.proofs.TurnLemmas.{Came, BecameBy, as_it_was, by_count, by_decide, by_draw, by_finish, by_install, by_mark, by_place, by_resolve, by_root, came, from_new, from_old}
 use Rattle.ist_core.proofs.CallerLemmas.{known_step}
 use Rattle.ist_settling.specs.Settling.{MadeDue, due_before, due_now}
 use Rattle.ist_core.proofs.BornLemmas as born
@@ -167,7 +167,7 @@ module _ (pairs : List Pair) (words : ℕ) (opens : CanOpen pairs words) where
 
   turned_count : (log : Log) (event : Event) (node : ℕ) (x : InnerRow) (p : Piece)
       → (state_of pairs words log).pieces node ≡ Some p
-      → Turned (start pairs words) log node p (Inner x) event
+      → BecameBy (start pairs words) log node p (Inner x) event
       → CountComes (start pairs words) log node x event
   turned_count log event node x p old (as_it_was is) =
       count_was x (old ∙ ap (λ y. Some y) (sym is)) refl refl

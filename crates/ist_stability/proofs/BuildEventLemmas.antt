@@ -24,7 +24,7 @@ use Rattle.ist_core.proofs.ElementLemmas.{each-among}
 use Rattle.ist_core.proofs.FateLemmas.{enabled_before, grow_between}
 use Rattle.ist_core.proofs.GrowingLemmas.{inner_there, leaf_there, rebuild_there}
 use Rattle.ist_core.proofs.KeepingLemmas.{finished_leaves_stay}
-use Rattle.ist_core.proofs.MoveLemmas.{IsSound}
+use Rattle.ist_core.proofs.MoveLemmas.{HeldLieApart}
 use Rattle.ist_core.proofs.PlaceLemmas.{anchor_free}
 use Rattle.ist_core.proofs.PublishingLemmas.{row_among}
 use Rattle.ist_links.proofs.FormLemmas.{finished_with_grows, started_grows}
@@ -60,7 +60,7 @@ draws_own caller rebuild part (Place c o i word rows) is = absurd is
 draws_own caller rebuild part (Lose c bases) is = absurd is
 
 -- no row is published where a caller holds one
-held_free : (t : Snapshot) (caller : ℕ) (rows : List Row) → IsSound t → HoldsRows t caller rows
+held_free : (t : Snapshot) (caller : ℕ) (rows : List Row) → HeldLieApart t → HoldsRows t caller rows
     → (base : ℕ)
     → Among base (bases_of rows) → t.pieces base ≡ None
 held_free t caller rows s held base among =

@@ -19,7 +19,7 @@ use Rattle.ist_core.specs.Pieces.{as_change}
 use Rattle.ist_core.specs.Snapshots.{HoldsRow, HoldsRows, Snapshot, bases_of, sizes_held, without}
 use Rattle.ist_core.specs.StartLayout.{start}
 use Rattle.ist_core.proofs.ElementLemmas.{among-filter, among_filter, each-among}
-use Rattle.ist_core.proofs.MoveLemmas.{IsSound}
+use Rattle.ist_core.proofs.MoveLemmas.{HeldLieApart}
 use Rattle.ist_core.proofs.PublishingLemmas.{among_bases, row_among}
 use Rattle.ist_links.proofs.InductionLemmas.{sound_behind}
 use Rattle.ist_core.specs.Authors.{GoesOnByOthers, author, no_more, one_more}
@@ -27,7 +27,7 @@ use Rattle.ist_core.specs.Authors.{GoesOnByOthers, author, no_more, one_more}
 -- ---- whose a held row is
 
 -- a held row at a base of rows that a caller holds is that caller's
-rows_holder : (t : Snapshot) (caller : ℕ) (rows : List Row) → IsSound t → HoldsRows t caller rows
+rows_holder : (t : Snapshot) (caller : ℕ) (rows : List Row) → HeldLieApart t → HoldsRows t caller rows
     → (h : HeldRow) → Among h t.held → Among h.base (bases_of rows) → h.caller ≡ caller
 rows_holder t caller rows s held h i among =
     let it = row_among h.base rows among in
@@ -36,7 +36,7 @@ rows_holder t caller rows s held h i among =
     (each-among (λ x. HoldsRow t caller x.base (length x.words)) it.0 rows held it.1) (sym it.2))
 
 -- the same for bases with sizes
-sizes_holder : (t : Snapshot) (caller : ℕ) (bases sizes : List ℕ) → IsSound t
+sizes_holder : (t : Snapshot) (caller : ℕ) (bases sizes : List ℕ) → HeldLieApart t
     → HoldsSizes t caller bases sizes → (h : HeldRow) → Among h t.held → Among h.base bases
     → h.caller ≡ caller
 sizes_holder t caller [] sizes s held h i among = absurd among
@@ -47,7 +47,7 @@ sizes_holder t caller (base ∷ bases) (size ∷ sizes) s held h i (inr more) =
     sizes_holder t caller bases sizes s held.1 h i more
 
 -- what is lost is the caller's own
-lost_holder : (t : Snapshot) (log : Log) (caller : ℕ) (bases : List ℕ) → IsSound t
+lost_holder : (t : Snapshot) (log : Log) (caller : ℕ) (bases : List ℕ) → HeldLieApart t
     → CanLose t log caller bases → (h : HeldRow) → Among h t.held → Among h.base bases
     → h.caller ≡ caller
 lost_holder t log caller bases s can h i among =
@@ -107,7 +107,7 @@ held-resolved t (Some change) = refl
 
 -- an event of another leaves what a caller holds, in its order
 own_step : (first : Snapshot) (log : Log) (event : Event) → Enabled first log event
-    → IsSound (state first log) → (number : ℕ) → author event ≢ Some number
+    → HeldLieApart (state first log) → (number : ℕ) → author event ≢ Some number
     → filter (λ h. h.caller == number) (state first (event ∷ log)).held
     ≡ filter (λ h. h.caller == number) (state first log).held
 own_step first log (Install caller change rows) can s number other =

@@ -1,6 +1,6 @@
 //! The events of a log, one a line.
 
-use crate::fields::{Fields, number_of, parts_of};
+use crate::fields::{Fields, numeral_value, parts_of};
 use ist_core::{Bases, Event, Row, Rows, Words};
 use std::alloc::{AllocError, Global};
 
@@ -170,7 +170,7 @@ fn read_numbers(alloc: Global, text: &[u8]) -> Result<Option<Vec<u64>>, AllocErr
         return Ok(Some(numbers));
     }
     for part in text.split(|byte| *byte == b',') {
-        match number_of(part) {
+        match numeral_value(part) {
             None => return Ok(None),
             Some(number) => numbers.push(number)?,
         }

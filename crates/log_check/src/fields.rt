@@ -34,7 +34,7 @@ impl<'a> Fields<'a> {
 
     /// The number in the next field, if that is one: ASCII digits that say less than 2^64.
     pub fn number(&mut self) -> Option<u64> {
-        number_of(self.take()?)
+        numeral_value(self.take()?)
     }
 
     /// Is no field left?
@@ -44,7 +44,7 @@ impl<'a> Fields<'a> {
 }
 
 /// The number that some bytes are: one or more ASCII digits that say less than 2^64.
-pub fn number_of(bytes: &[u8]) -> Option<u64> {
+pub fn numeral_value(bytes: &[u8]) -> Option<u64> {
     if bytes.is_empty() {
         return None;
     }

@@ -30,20 +30,20 @@ abbrev pub are_refused : List Text → Bool
 are_refused words = not (length (fault_of tele (with_name words)) == 0)
 
 -- the number that a text says in digits; a plus may stand before them
-abbrev pub number_of : Text → ℕ
-number_of text = digits_value 10 (without_leading_plus text)
+abbrev pub number_said : Text → ℕ
+number_said text = digits_value 10 (without_leading_plus text)
 
 -- the number that was found for the option of this name
-abbrev pub given : Text → List Row → Option ℕ
-given name rows = option_map number_of (first_of name rows)
+abbrev pub option_value : Text → List Row → Option ℕ
+option_value name rows = option_map number_said (first_of name rows)
 
 -- the options by what `clap` found in the words
 abbrev pub options_at : List Row → Options
 options_at rows = record {
-  workers = unwrap_or (given (codes "workers") rows) 4;
-  words = unwrap_or (given (codes "words") rows) 33554432;
-  generate = given (codes "generate") rows;
-  seed = unwrap_or (given (codes "seed") rows) 1;
+  workers = unwrap_or (option_value (codes "workers") rows) 4;
+  words = unwrap_or (option_value (codes "words") rows) 33554432;
+  generate = option_value (codes "generate") rows;
+  seed = unwrap_or (option_value (codes "seed") rows) 1;
 }
 
 -- what the words ask for

@@ -1,7 +1,7 @@
 //! The command, and what it makes of words.
 ghost use Rattle.std.specs.Prelude.{◌≡◌, ◌≤◌, true, false, map, codes, [], Err, IfOk, IsOk, IfSome, option_map};
 ghost use Rattle.clap.specs.Words.{app_of, first_value, found_of, rule_of, rows_of, fault_of, matches_of};
-ghost use Rattle.tele_command.specs.CommandLine.{tele, number_option, number_of, options_at};
+ghost use Rattle.tele_command.specs.CommandLine.{tele, number_option, number_said, options_at};
 ghost use Rattle.tele_command.specs.Numbers.{IsNumber, AreNumbers};
 
 use crate::options::{Options, Refusal};
@@ -62,7 +62,7 @@ fn matches_of<'a, S: AsStr>(alloc: Global, words: &'a [S]) -> Result<ArgMatches<
 /// The number that was found for an option.
 fn number(matches: &ArgMatches, name: &str) -> Option<u64>
     requires fits { IfSome (first_value (found_of matches.now) name.now) IsNumber }
-    ensures value { result ≡ option_map number_of (first_value (found_of matches.now) name.now) }
+    ensures value { result ≡ option_map number_said (first_value (found_of matches.now) name.now) }
 {
     match matches.get_str(name)?.parse::<u64>() {
         Ok(number) => Some(number),

@@ -21,7 +21,7 @@ use Rattle.tele_generations.specs.Shelves.{IsShelved}
 use Rattle.tele_generations.specs.Rounds.{RanInGenerations, EndsTheRound}
 use Rattle.tele_generations.specs.declared.rests.Turn.{Turn}
 use Rattle.tele_generations.specs.declared.ways.Way.{Way}
-use Rattle.tele_generations.specs.Ways.{Rests, HasTables, IsOnItsWay, GoesOnTo}
+use Rattle.tele_generations.specs.Ways.{Rests, HasTables, IsOnItsWay, GoesOnBehind}
 use Rattle.tele_generations.proofs.LeadLemmas.{tables_more, tables_end}
 use Rattle.tele_generations.proofs.TableLemmas.{asks_more, table_map, turn, puts_few, rest_some}
 use Rattle.tele_generations.proofs.TableLemmas.{rest_none, behind_rises, few_behind}
@@ -155,7 +155,7 @@ module _ {C : Type 0} {words_of : C → List ℕ} {workers first words : ℕ} {p
 -- the round goes on, and less is left
 pub way_goes_on : {workers : ℕ} {pairs : List Pair} {tasks : List Task} {way next : Way}
     {made : Turn} {full : Full} {table : List ℕ} {ended : Option Full}
-    → GoesOnTo way made full next
+    → GoesOnBehind way made full next
     → IsOnItsWay workers pairs tasks way.fulls.items way.answers.items way.pairs.items
     way.left.items way.words
     → RanOnTable workers way.words way.pairs.items way.left.items table made.answers.items
@@ -182,7 +182,7 @@ way_goes_on {workers = workers} {pairs = pairs} {tasks = tasks} {way = way} {nex
 pub tables_go_on : {C : Type 0} {words_of : C → List ℕ} {workers first : ℕ} {pairs : List Pair}
     {tasks : List Task} {before middle after : Option (List C)} {way next : Way} {made : Turn}
     {full : Full} (closed : C) {ended : Option Full}
-    → GoesOnTo way made full next
+    → GoesOnBehind way made full next
     → HasTables words_of workers first pairs tasks before middle way.fulls.items way.pairs.items
     way.left.items way.words
     → RanOnTable workers way.words way.pairs.items way.left.items (words_of closed)

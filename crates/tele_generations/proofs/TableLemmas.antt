@@ -10,6 +10,7 @@ use Rattle.ist_core.specs.declared.pairs.Pair.{Pair}
 use Rattle.ist_core.specs.declared.ports.Full.{Full}
 use Rattle.ist_core.specs.Map.{Map, map_of, pairs_of, replay}
 use Rattle.ist_core.specs.Logs.{Log}
+use Rattle.ist_finished.specs.Finishing.{is_put}
 use Rattle.ist_histories.specs.Telling.{map_now}
 use Rattle.ist_histories.proofs.ContentLemmas.{pairs_rise_at}
 use Rattle.tele_lanes.specs.declared.task_lists.Task.{Task}
@@ -27,7 +28,6 @@ use Rattle.tele_rounds.proofs.WholeLemmas.{nothing_left}
 use Rattle.plain_map.specs.Rising.{IsRising}
 use Rattle.plain_map.proofs.EntriesLemmas.{pairs_of-map_of}
 use Rattle.tele_generations.specs.Generations.{RanFull, MayAsk, all_done, puts_done}
-use Rattle.tele_generations.specs.Generations.{is_put}
 use Rattle.tele_generations.specs.Tables.{RanOnTable, HasPairs}
 use Rattle.tele_generations.proofs.DoneLemmas.{length-all_done, left_some}
 

@@ -11,17 +11,12 @@ use Rattle.ist_core.specs.Arithmetic.{degree}
 use Rattle.ist_core.specs.RowLayout.{place_limit, next_place}
 use Rattle.ist_core.specs.Map.{map_of, pairs_of, map_after, replay}
 use Rattle.ist_core.specs.Resting.{StandsFor}
+use Rattle.ist_finished.specs.Finishing.{is_put}
 use Rattle.tele_lanes.specs.declared.task_lists.Task.{Task}
 use Rattle.tele_lanes.specs.Lines.{commands_of}
 use Rattle.tele_lanes.specs.Lanes.{TasksInLineOrder}
 use Rattle.tele_rounds.specs.Runs.{LaneRun, LanesRan, AreWhole, told_of_runs, done_of_runs}
 use Rattle.tele_rounds.specs.Runs.{left_of_runs}
-
--- is the command a put?
-abbrev pub is_put : Command → Bool
-is_put (Put key value) = true
-is_put (Remove key) = false
-is_put (Get key) = false
 
 -- may the command want words?
 abbrev pub may_want_words : Command → Bool

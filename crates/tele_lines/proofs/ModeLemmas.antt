@@ -5,7 +5,7 @@ use Rattle.tele_lines.specs.declared.items.Cause.{Cause}
 use Rattle.tele_lines.specs.declared.items.Item.{Item}
 use Rattle.tele_lines.specs.declared.items.Version.{Version}
 use Rattle.tele_lines.specs.declared.items.Said.{Said}
-use Rattle.tele_lines.specs.Lines.{longest, without_return, words_of}
+use Rattle.tele_lines.specs.Lines.{longest, without_return, words_in_line}
 use Rattle.tele_lines.specs.Readings.{Mode, next_mode, by_letter, by_words, asks_one, asks_two, is_note, letter_of, reading}
 
 -- a line leaves the version in force
@@ -49,7 +49,7 @@ pub reading-keeps : (limit number : ℕ) (mode : Mode) (line : List ℕ) → IsS
 reading-keeps limit number None line some = absurd (cc some)
 reading-keeps limit number (Some v) line some =
     either v (nat_le number limit) _ _
-    (either v (nat_le (length (without_return line)) longest) _ _ (by_words-keeps v (words_of (without_return line))) refl) refl
+    (either v (nat_le (length (without_return line)) longest) _ _ (by_words-keeps v (words_in_line (without_return line))) refl) refl
 
 -- the version stays over two lines if it stays over each
 pub steady_twice : (one two three : Mode) → (IsSome one → two ≡ one) → (IsSome two → three ≡ two) → IsSome one → three ≡ one

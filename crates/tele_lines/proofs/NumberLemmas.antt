@@ -6,7 +6,7 @@ use Rattle.std.specs.Char.{is_ascii_digit}
 use Rattle.std.proofs.Common.{inl, inr}
 use Rattle.std.proofs.lemmas.Bool.{cases_lt, lt-ltb}
 use Rattle.std.proofs.lemmas.Grind.{common_steps}
-use Rattle.tele_lines.specs.Numerals.{number_of}
+use Rattle.tele_lines.specs.Numerals.{numeral_value}
 
 -- the value behind one more digit
 abbrev pub with_digit : ℕ → ℕ → ℕ
@@ -68,7 +68,7 @@ number_from-at_once (digit ∷ digits) value h =
 
 -- some digits are read from 0 on
 pub number_from-zero : (digits : List ℕ) → 0 < length digits
-    → number_from 0 digits ≡ number_of digits
+    → number_from 0 digits ≡ numeral_value digits
 number_from-zero digits some =
     let e : nat_lt 0 (length digits) ≡ true = lt-ltb 0 (length digits) some in
     number_from-at_once digits 0 (omega arith) ∙ sym (rw e refl)

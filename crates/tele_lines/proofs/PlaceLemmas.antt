@@ -9,11 +9,11 @@ use Rattle.tele_lines.specs.declared.items.Said.TheVariants.{Skips, Chooses, Ask
 use Rattle.tele_lines.specs.Lines.{lines_of, whole_lines}
 use Rattle.tele_lines.specs.Readings.{version_in, next_mode, reading}
 use Rattle.tele_lines.specs.Answer.{Read, Good, Bad, then_read, read_from}
-use Rattle.tele_lines.specs.Progress.{Place, Continues, behind, given, read_at, GoesTo, TakesLine, MeetsLine}
+use Rattle.tele_lines.specs.Progress.{Place, Continues, behind, reads_given, read_at, GoesTo, TakesLine, MeetsLine}
 
 -- a line, and those behind it
 then_given : (place : Place) (said : Said) (others : List Read) → Continues said
-    → then_read (place.count + 1) place.mode said others ≡ given place said ++ others
+    → then_read (place.count + 1) place.mode said others ≡ reads_given place said ++ others
 then_given place Skips others goes_on = refl
 then_given place (Chooses version) others goes_on = refl
 then_given place (Asks item) others goes_on = refl
@@ -23,7 +23,7 @@ then_given place (Fails cause) others goes_on = absurd goes_on
 reads_first : (place : Place) (said : Said) (line : List ℕ) (lines others : List (List ℕ))
     → lines ≡ line ∷ others
     → reading place.limit (place.count + 1) place.mode line ≡ said → Continues said
-    → read_at place lines ≡ given place said ++ read_at (behind place said) others
+    → read_at place lines ≡ reads_given place said ++ read_at (behind place said) others
 reads_first place said line lines others cut says goes_on =
     ap (read_at place) cut
     ∙ ap (λ s. then_read (place.count + 1) place.mode s (read_from place.limit (place.count + 1 + 1) (next_mode place.mode s) others)) says
@@ -33,7 +33,7 @@ reads_first place said line lines others cut says goes_on =
 goes_behind : (place : Place) (said : Said) (bytes : List ℕ) (ended : Bool) (now : Option (List ℕ))
     → Continues said
     → TakesLine place said bytes ended now
-    → GoesTo place (behind place said) ended (given place said) bytes now
+    → GoesTo place (behind place said) ended (reads_given place said) bytes now
 goes_behind place said bytes ended now goes_on takes = record {
   taken = takes.taken;
   rest = takes.rest;
@@ -55,11 +55,11 @@ pub one_behind : (place new : Place) (said : Said) (before here now : Option (Li
     (ended : Bool)
     → Keeps before here → new ≡ behind place said → Continues said
     → IfSome here (λ bytes. TakesLine place said bytes ended now)
-    → IfSome before (λ bytes. GoesTo place new ended (given place said) bytes now)
+    → IfSome before (λ bytes. GoesTo place new ended (reads_given place said) bytes now)
 one_behind place new said None here now ended keeps is goes_on takes = tt
 one_behind place new said (Some bytes) here now ended keeps is goes_on takes =
     let there : TakesLine place said bytes ended now = subst (λ u. IfSome u (λ bytes. TakesLine place said bytes ended now)) keeps takes in
-    subst (λ p. GoesTo place p ended (given place said) bytes now) (sym is) (goes_behind place said bytes ended now goes_on there)
+    subst (λ p. GoesTo place p ended (reads_given place said) bytes now) (sym is) (goes_behind place said bytes ended now goes_on there)
 
 -- a bad line was met
 pub one_bad : (place : Place) (cause : Cause) (before here : Option (List ℕ)) → Keeps before here
@@ -133,7 +133,7 @@ reads_if one two mid found (Some bytes) here a b =
 -- an item that was given, as its number and its version are then
 pub item_if : (one two new : Place) (ended : Bool) (item : Item) (before now : Option (List ℕ))
     → new ≡ behind two (Asks item)
-    → IfSome before (λ bytes. GoesTo one new ended (given two (Asks item)) bytes now)
+    → IfSome before (λ bytes. GoesTo one new ended (reads_given two (Asks item)) bytes now)
     → IfSome before
     (λ bytes. GoesTo one new ended (Good new.count (version_in new.mode) item ∷ []) bytes now)
 item_if one two new ended item before now is goes =

@@ -9,7 +9,7 @@ use Rattle.memchr.specs.Find.{IsFirstByte}
 use Rattle.tele_lines.specs.declared.items.Said.{Said}
 use Rattle.tele_lines.specs.declared.items.Said.TheVariants.{Fails}
 use Rattle.tele_lines.specs.declared.items.Cause.TheVariants.{Long, Lines}
-use Rattle.tele_lines.specs.Lines.{longest, lines_of, without_return, words_of}
+use Rattle.tele_lines.specs.Lines.{longest, lines_of, without_return, words_in_line}
 use Rattle.tele_lines.specs.Readings.{by_words, reading}
 use Rattle.tele_io.specs.Bytes.{Keeps}
 use Rattle.tele_lines.specs.Buffers.{is_newline, IsUnbroken, BreaksAt, IsOpenEnded, EndsAt, Fills, unread_of}
@@ -105,7 +105,7 @@ said_long place line h =
     let long : longest < length (without_return line) = omega (arith, length-without_return line) in
     let too : nat_le (length (without_return line)) longest ≡ false = grind (arith, common_steps) in
     ap (λ b. if nat_le (place.count + 1) place.limit
-    then (if b then by_words place.mode (words_of (without_return line)) else Fails Long) else Fails Lines) too
+    then (if b then by_words place.mode (words_in_line (without_return line)) else Fails Long) else Fails Lines) too
 
 -- two lines that are too long say the same
 pub too_long : (place : Place) (one two : List ℕ) → longest + 1 < length one

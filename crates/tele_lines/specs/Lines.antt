@@ -38,5 +38,5 @@ abbrev pub without_return : List ℕ → List ℕ
 without_return line = if ends_with nat_eq line (codes "\r") then take (length line - 1) line else line
 
 -- the words: the longest runs of bytes that aren't blank
-abbrev pub words_of : List ℕ → List (List ℕ)
-words_of line = filter (λ word. nat_lt 0 (length word)) (slice_split is_blank line)
+abbrev pub words_in_line : List ℕ → List (List ℕ)
+words_in_line line = filter (λ word. nat_lt 0 (length word)) (slice_split is_blank line)

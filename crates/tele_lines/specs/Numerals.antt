@@ -16,8 +16,8 @@ abbrev pub is_numeral : List ℕ → Bool
 is_numeral digits = nat_lt 0 (length digits) && list_all is_ascii_digit digits
 
 -- the number that some bytes are, if they are a numeral below 2 ^ 64
-abbrev pub number_of : List ℕ → Option ℕ
-number_of bytes = if is_numeral bytes && nat_lt (value_of bytes) (2 ^ 64) then Some (value_of bytes) else None
+abbrev pub numeral_value : List ℕ → Option ℕ
+numeral_value bytes = if is_numeral bytes && nat_lt (value_of bytes) (2 ^ 64) then Some (value_of bytes) else None
 
 -- by how much a signed number is kept greater than it is
 abbrev pub shift : ℕ
@@ -38,13 +38,13 @@ kept_above (Some value) = if nat_lt value shift then Some (shift + value) else N
 kept_above None = None
 
 -- what a signed numeral is kept as: a minus and digits, or digits alone
-abbrev pub kept_of : List ℕ → Option ℕ
-kept_of bytes = if starts_with nat_eq bytes (codes "-") then kept_below (number_of (drop 1 bytes)) else kept_above (number_of bytes)
+abbrev pub kept_value : List ℕ → Option ℕ
+kept_value bytes = if starts_with nat_eq bytes (codes "-") then kept_below (numeral_value (drop 1 bytes)) else kept_above (numeral_value bytes)
 
 -- the number that a word is in a version
 abbrev pub number_in : Version → List ℕ → Option ℕ
-number_in One word = number_of word
-number_in Two word = kept_of word
+number_in One word = numeral_value word
+number_in Two word = kept_value word
 
 -- how a number is printed in a version
 abbrev pub number_text : Version → ℕ → List ℕ

@@ -34,9 +34,9 @@ abbrev pub behind : Place → Said → Place
 behind place said = record { limit = place.limit; count = place.count + 1; mode = next_mode place.mode said }
 
 -- what a line gives to whoever reads on: an item with its number and its version, or nothing
-abbrev pub given : Place → Said → List Read
-given place (Asks item) = Good (place.count + 1) (version_in place.mode) item ∷ []
-given place _ = []
+abbrev pub reads_given : Place → Said → List Read
+reads_given place (Asks item) = Good (place.count + 1) (version_in place.mode) item ∷ []
+reads_given place _ = []
 
 -- how many lines a reader allows
 abbrev pub limit_of : Lines → ℕ

@@ -9,7 +9,7 @@ use Rattle.tele_lines.specs.declared.items.Version.{Version}
 use Rattle.tele_lines.specs.declared.items.Version.TheVariants.{One, Two}
 use Rattle.tele_lines.specs.declared.items.Said.{Said}
 use Rattle.tele_lines.specs.declared.items.Said.TheVariants.{Skips, Chooses, Asks, Fails}
-use Rattle.tele_lines.specs.Lines.{longest, without_return, words_of}
+use Rattle.tele_lines.specs.Lines.{longest, without_return, words_in_line}
 use Rattle.tele_lines.specs.Numerals.{number_in}
 
 -- the version in force: none before the first line that says something
@@ -98,5 +98,5 @@ by_words mode (word ∷ more) = if is_note word then Skips else by_letter mode (
 abbrev pub reading : ℕ → ℕ → Mode → List ℕ → Said
 reading limit number mode line =
     if nat_le number limit
-    then (if nat_le (length (without_return line)) longest then by_words mode (words_of (without_return line)) else Fails Long)
+    then (if nat_le (length (without_return line)) longest then by_words mode (words_in_line (without_return line)) else Fails Long)
     else Fails Lines

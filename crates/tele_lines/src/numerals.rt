@@ -1,6 +1,6 @@
 //! The numbers of a line, and how signed ones are kept.
 ghost use Rattle.std.specs.Prelude.{◌≡◌};
-ghost use Rattle.tele_lines.specs.Numerals.{number_of, kept_of, number_in, signed_of};
+ghost use Rattle.tele_lines.specs.Numerals.{numeral_value, kept_value, number_in, signed_of};
 
 use crate::items::Version;
 
@@ -31,7 +31,7 @@ pub fn signed(kept: u64) -> i64
 
 /// The number that some bytes are: one or more ASCII digits that say less than 2^64.
 fn number(bytes: &[u8]) -> Option<u64>
-    ensures value { result ≡ number_of bytes.now }
+    ensures value { result ≡ numeral_value bytes.now }
 {
     if bytes.is_empty() {
         return None;
@@ -49,7 +49,7 @@ fn number(bytes: &[u8]) -> Option<u64>
 
 /// What a signed numeral is kept as: a minus and digits, or digits alone.
 fn kept(bytes: &[u8]) -> Option<u64>
-    ensures value { result ≡ kept_of bytes.now }
+    ensures value { result ≡ kept_value bytes.now }
 {
     match bytes.strip_prefix(b"-") {
         Some(digits) => match number(digits) {

@@ -31,7 +31,7 @@ impl Lines {
     ghost use Rattle.tele_lines.specs.Readings.{reading};
     ghost use Rattle.tele_lines.specs.Lines.{lines_of};
     ghost use Rattle.tele_lines.specs.Answer.{Bad, Good};
-    ghost use Rattle.tele_lines.specs.Progress.{Continues, GoesTo, given, read_at, version_of, mode_of, behind, place_of, limit_of, count_of, stop_of, has_ended, kept_of, unread, TellsEnd, Waits, IsDone, TakesLine, MeetsLine};
+    ghost use Rattle.tele_lines.specs.Progress.{Continues, GoesTo, reads_given, read_at, version_of, mode_of, behind, place_of, limit_of, count_of, stop_of, has_ended, kept_of, unread, TellsEnd, Waits, IsDone, TakesLine, MeetsLine};
     ghost use Rattle.tele_lines.specs.Buffers.{EndsAt};
 
     /// A reader that has read nothing, and allows so many lines.
@@ -149,7 +149,7 @@ impl Lines {
         ensures line { IfOk result (λ next. IfSome next (λ said. Continues said →
             IfSome (unread self.old (S.left source.old)) (λ bytes.
             GoesTo (place_of self.old) (place_of self.new) self.new.ended
-            (given (place_of self.old) said) bytes (unread self.new (S.left source.new))))) }
+            (reads_given (place_of self.old) said) bytes (unread self.new (S.left source.new))))) }
         ensures place { IfOk result (λ next. IfSome next (λ said. Continues said →
             place_of self.new ≡ behind (place_of self.old) said)) }
 

@@ -1,6 +1,6 @@
 //! What one line says.
 ghost use Rattle.std.specs.Prelude.{◌≡◌};
-ghost use Rattle.tele_lines.specs.Lines.{words_of};
+ghost use Rattle.tele_lines.specs.Lines.{words_in_line};
 ghost use Rattle.tele_lines.specs.Words.{BeginsWord};
 ghost use Rattle.tele_lines.specs.Readings.{one_number, two_numbers, version_in, next_mode, chosen, by_letter, letter_of, is_note, by_words, reading};
 
@@ -15,7 +15,7 @@ pub(crate) const LONGEST: usize = 80;
 /// The one number that some words are.
 fn one(version: Version, words: &[u8]) -> Result<u64, Cause>
     requires word { BeginsWord words.now }
-    ensures value { result ≡ one_number version (words_of words.now) }
+    ensures value { result ≡ one_number version (words_in_line words.now) }
 {
     if words.is_empty() {
         return Err(Cause::Fields);
@@ -33,7 +33,7 @@ fn one(version: Version, words: &[u8]) -> Result<u64, Cause>
 /// The two numbers that some words are.
 fn two(version: Version, words: &[u8]) -> Result<(u64, u64), Cause>
     requires word { BeginsWord words.now }
-    ensures value { result ≡ two_numbers version (words_of words.now) }
+    ensures value { result ≡ two_numbers version (words_in_line words.now) }
 {
     if words.is_empty() {
         return Err(Cause::Fields);
@@ -99,7 +99,7 @@ fn is_comment(word: &[u8]) -> bool
 /// What a line with this letter says, behind which these words stand.
 fn say(mode: Option<Version>, letter: Option<u8>, more: &[u8]) -> Said
     requires word { BeginsWord more.now }
-    ensures value { result ≡ by_letter mode letter (words_of more.now) }
+    ensures value { result ≡ by_letter mode letter (words_in_line more.now) }
 {
     let version = mode.unwrap_or(Version::One);
     match letter {

@@ -1,6 +1,6 @@
 //! The words of a line.
 ghost use Rattle.std.specs.Prelude.{◌≡◌, ◌<◌, ◌≤◌, [], ◌∷◌, length, take, drop};
-ghost use Rattle.tele_lines.specs.Lines.{without_return, words_of};
+ghost use Rattle.tele_lines.specs.Lines.{without_return, words_in_line};
 ghost use Rattle.tele_lines.specs.Words.{BeginsWord};
 
 use memchr::memchr2;
@@ -17,7 +17,7 @@ pub(crate) fn trim_return(line: &[u8]) -> &[u8]
 
 /// The bytes from the first word on.
 pub(crate) fn skip_blanks(bytes: &[u8]) -> &[u8]
-    ensures words { words_of result.now ≡ words_of bytes.now }
+    ensures words { words_in_line result.now ≡ words_in_line bytes.now }
     ensures word { BeginsWord result.now }
 {
     for (place, byte) in bytes.iter().enumerate() {
@@ -33,7 +33,8 @@ fn word_len(bytes: &[u8]) -> usize
     requires word { BeginsWord bytes.now }
     requires some { 0 < length bytes.now }
     ensures within { result ≤ length bytes.now }
-    ensures first { words_of bytes.now ≡ take result bytes.now ∷ words_of (drop result bytes.now) }
+    ensures first { words_in_line bytes.now
+        ≡ take result bytes.now ∷ words_in_line (drop result bytes.now) }
 {
     memchr2(b' ', b'\t', bytes).unwrap_or(bytes.len())
 }
@@ -42,7 +43,7 @@ fn word_len(bytes: &[u8]) -> usize
 pub(crate) fn split_word(bytes: &[u8]) -> (&[u8], &[u8])
     requires word { BeginsWord bytes.now }
     requires some { 0 < length bytes.now }
-    ensures words { words_of bytes.now ≡ result.0.now ∷ words_of result.1.now }
+    ensures words { words_in_line bytes.now ≡ result.0.now ∷ words_in_line result.1.now }
     ensures next { BeginsWord result.1.now }
 {
     let len = word_len(bytes);

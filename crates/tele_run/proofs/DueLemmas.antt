@@ -6,7 +6,7 @@ use Rattle.tele_io.proofs.AppendsLemmas.{Appends-append, AppendsPart-append, App
 use Rattle.tele_lines.specs.Lines.{lines_of, whole_lines}
 use Rattle.tele_lines.specs.Answer.{Read, text_of, status_of}
 use Rattle.tele_lines.specs.Progress.{read_at, GoesTo}
-use Rattle.tele_run.specs.Due.{Moment, Takes, due, whole_due, whole_text, GoesOn, Ends}
+use Rattle.tele_run.specs.Due.{Moment, Takes, due, whole_due, whole_text, RunsTo, Ends}
 use Rattle.tele_run.proofs.AnswerLemmas.{text-good}
 
 -- lines were read and taken into the round
@@ -14,7 +14,7 @@ pub went_on : (was now : Moment) (lines given : List Read) (bytes : List ℕ) (e
     (before written unread : Option (List ℕ))
     → was.lines ≡ lines → GoesTo was.place now.place ended given bytes unread
     → Takes was.m (lines ++ given) before written now.m now.lines
-    → GoesOn was bytes before written ended unread now
+    → RunsTo was bytes before written ended unread now
 went_on was now lines given bytes ended before written unread is goes takes =
     let joined : (others : List Read) → was.lines ++ (given ++ others) ≡ (lines ++ given) ++
     others =
@@ -96,12 +96,12 @@ still_going false now lasts going = refl
 -- one step after another
 pub on_and_on : (first mid last : Moment) (bytes : List ℕ) (before written later : Option (List ℕ))
     (ended now_ended : Bool) (unread now : Option (List ℕ)) → (ended ≡ true → now_ended ≡ true)
-    → GoesOn first bytes before written ended unread mid
-    → IfSome unread (λ bytes. GoesOn mid bytes written later now_ended now last)
-    → GoesOn first bytes before later now_ended now last
+    → RunsTo first bytes before written ended unread mid
+    → IfSome unread (λ bytes. RunsTo mid bytes written later now_ended now last)
+    → RunsTo first bytes before later now_ended now last
 on_and_on first mid last bytes before written later ended now_ended unread now lasts one two =
-    let next : GoesOn mid one.bytes written later now_ended now last =
-    subst (λ u. IfSome u (λ bytes. GoesOn mid bytes written later now_ended now last)) one.leaves
+    let next : RunsTo mid one.bytes written later now_ended now last =
+    subst (λ u. IfSome u (λ bytes. RunsTo mid bytes written later now_ended now last)) one.leaves
     two in
     let was : now_ended ≡ false → ended ≡ false = still_going ended now_ended lasts in
     record {
@@ -130,7 +130,7 @@ on_and_on first mid last bytes before written later ended now_ended unread now l
 pub on_and_end : (first mid : Moment) (ending : ℕ) (bytes : List ℕ)
     (before written later : Option (List ℕ))
     (ended : Bool) (unread : Option (List ℕ))
-    → GoesOn first bytes before written ended unread mid
+    → RunsTo first bytes before written ended unread mid
     → IfSome unread (λ bytes. Ends (due mid bytes) written later ending)
     → Ends (due first bytes) before later ending
 on_and_end first mid ending bytes before written later ended unread one two =
@@ -146,7 +146,7 @@ on_and_end first mid ending bytes before written later ended unread one two =
 -- or a part
 pub on_and_part : (first mid : Moment) (bytes : List ℕ) (before written later : Option (List ℕ))
     (ended : Bool) (unread : Option (List ℕ))
-    → GoesOn first bytes before written ended unread mid
+    → RunsTo first bytes before written ended unread mid
     → IfSome unread (λ bytes. AppendsPart written later (due mid bytes).text)
     → AppendsPart before later (due first bytes).text
 on_and_part first mid bytes before written later ended unread one two =

@@ -7,3 +7,4 @@ pub mod JobLemmas
 pub mod MadeLemmas
 pub mod DueLemmas
 pub mod ToldLemmas
+pub mod StepMomentLemmas

@@ -12,7 +12,7 @@ use Rattle.tele_lines.specs.Rounds.{round_limit}
 use Rattle.tele_lines.specs.Buffers.{unread_of}
 use Rattle.tele_lines.specs.Progress.{Place, place_of, version_of, read_at, GoesTo, Waits, unread}
 use Rattle.tele_run.specs.Open.{Open, asked, map_in}
-use Rattle.tele_run.specs.Due.{Moment, moment_of, Takes, due, whole_due, whole_text, GoesOn, Ends}
+use Rattle.tele_run.specs.Due.{Moment, moment_of, Takes, due, whole_due, whole_text, RunsTo, Ends}
 use Rattle.tele_run.specs.Causes.{Stops}
 use Rattle.tele_run.proofs.RoundLemmas.{in_whole-open}
 use Rattle.tele_run.proofs.AnswerLemmas.{status-asked}
@@ -43,7 +43,7 @@ pub went_on_if : (was now : Moment) (lines given : List Read) (unread : Option (
     (before written left : Option (List ℕ)) → was.lines ≡ lines
     → IfSome unread (λ bytes. GoesTo was.place now.place ended given bytes left)
     → Takes was.m (lines ++ given) before written now.m now.lines
-    → IfSome unread (λ bytes. GoesOn was bytes before written ended left now)
+    → IfSome unread (λ bytes. RunsTo was bytes before written ended left now)
 went_on_if was now lines given None ended before written left is goes takes = tt
 went_on_if was now lines given (Some bytes) ended before written left is goes takes =
     went_on was now lines given bytes ended before written left is goes takes
@@ -82,7 +82,7 @@ ended_part_if was lines last (Some bytes) before written is reads part =
     ended_part was lines last bytes before written is reads part
 
 all_is_due : (left before : Option (List ℕ))
-    → IfSome left (λ bytes. GoesOn first_moment bytes before before false (unread_of [] false left)
+    → IfSome left (λ bytes. RunsTo first_moment bytes before before false (unread_of [] false left)
     first_moment)
 all_is_due None before = tt
 all_is_due (Some bytes) before = record {
@@ -101,11 +101,11 @@ all_is_due (Some bytes) before = record {
 -- before the first line all is due
 pub all_due : (left before : Option (List ℕ)) (kept : List ℕ) (ended : Bool) (now : Moment)
     → kept ≡ [] → ended ≡ false → now ≡ first_moment
-    → IfSome left (λ bytes. GoesOn first_moment bytes before before ended
+    → IfSome left (λ bytes. RunsTo first_moment bytes before before ended
     (unread_of kept ended left) now)
 all_due left before kept ended now no_bytes going first =
     let P = λ (kept : List ℕ) (ended : Bool) (now : Moment).
-    IfSome left (λ bytes. GoesOn first_moment bytes before before ended (unread_of kept ended left)
+    IfSome left (λ bytes. RunsTo first_moment bytes before before ended (unread_of kept ended left)
     now) in
     subst (λ n. P kept ended n) (sym first)
     (subst (λ e. P kept e first_moment) (sym going)
@@ -115,9 +115,9 @@ all_due left before kept ended now no_bytes going first =
 pub on_and_on_if : (left : Option (List ℕ)) (mid last : Moment)
     (before written later : Option (List ℕ))
     (ended now_ended : Bool) (unread now : Option (List ℕ)) → (ended ≡ true → now_ended ≡ true)
-    → IfSome left (λ bytes. GoesOn first_moment bytes before written ended unread mid)
-    → IfSome unread (λ bytes. GoesOn mid bytes written later now_ended now last)
-    → IfSome left (λ bytes. GoesOn first_moment bytes before later now_ended now last)
+    → IfSome left (λ bytes. RunsTo first_moment bytes before written ended unread mid)
+    → IfSome unread (λ bytes. RunsTo mid bytes written later now_ended now last)
+    → IfSome left (λ bytes. RunsTo first_moment bytes before later now_ended now last)
 on_and_on_if None mid last before written later ended now_ended unread now lasts one two = tt
 on_and_on_if (Some bytes) mid last before written later ended now_ended unread now lasts one two =
     on_and_on first_moment mid last bytes before written later ended now_ended unread now lasts one
@@ -127,7 +127,7 @@ on_and_on_if (Some bytes) mid last before written later ended now_ended unread n
 pub on_and_end_if : (left : Option (List ℕ)) (mid : Moment) (ending : ℕ)
     (before written later : Option (List ℕ))
     (ended : Bool) (unread : Option (List ℕ))
-    → IfSome left (λ bytes. GoesOn first_moment bytes before written ended unread mid)
+    → IfSome left (λ bytes. RunsTo first_moment bytes before written ended unread mid)
     → IfSome unread (λ bytes. Ends (due mid bytes) written later ending)
     → IfSome left (λ bytes. Ends (due first_moment bytes) before later ending)
 on_and_end_if None mid ending before written later ended unread one two = tt
@@ -138,7 +138,7 @@ on_and_end_if (Some bytes) mid ending before written later ended unread one two 
 pub on_and_part_if : (left : Option (List ℕ)) (mid : Moment)
     (before written later : Option (List ℕ))
     (ended : Bool) (unread : Option (List ℕ))
-    → IfSome left (λ bytes. GoesOn first_moment bytes before written ended unread mid)
+    → IfSome left (λ bytes. RunsTo first_moment bytes before written ended unread mid)
     → IfSome unread (λ bytes. AppendsPart written later (due mid bytes).text)
     → IfSome left (λ bytes. AppendsPart before later (due first_moment bytes).text)
 on_and_part_if None mid before written later ended unread one two = tt
@@ -161,7 +161,7 @@ splits kept bytes false None going is = absurd (cc is)
 -- a failed read, where the reader has kept bytes without a whole line, and the round is open
 stops_at : (bytes : List ℕ) (before written : Option (List ℕ)) (round : Open) (lines : Lines)
     (left : Option (List ℕ))
-    → GoesOn first_moment bytes before written lines.ended (unread lines left)
+    → RunsTo first_moment bytes before written lines.ended (unread lines left)
     (moment_of lines round)
     → Waits lines → length round.tasks < round_limit → Stops bytes left before written
 stops_at bytes before written round lines left one waits few =
@@ -190,7 +190,7 @@ stops_at bytes before written round lines left one waits few =
 
 pub stops_if : (all before written : Option (List ℕ)) (round : Open) (lines : Lines)
     (left : Option (List ℕ))
-    → IfSome all (λ bytes. GoesOn first_moment bytes before written lines.ended (unread lines left)
+    → IfSome all (λ bytes. RunsTo first_moment bytes before written lines.ended (unread lines left)
     (moment_of lines round))
     → Waits lines → length round.tasks < round_limit → IfSome all
     (λ bytes. Stops bytes left before written)

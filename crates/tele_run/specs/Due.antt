@@ -55,7 +55,7 @@ pub record Takes (m : Map) (lines : List Read) (before written : Option (List �
 -- from one moment to a later one: what was printed since, and what is due for the bytes that are
 -- unread now, is what was due for the bytes that were unread then; and unless the input has ended,
 -- what was printed is for whole rounds of lines that a newline ends
-pub record GoesOn (was : Moment) (then_bytes : List ℕ) (before written : Option (List ℕ))
+pub record RunsTo (was : Moment) (then_bytes : List ℕ) (before written : Option (List ℕ))
     (ended : Bool) (unread : Option (List ℕ)) (now : Moment) : Type 0 where
   pub bytes : List ℕ
   pub taken : List ℕ

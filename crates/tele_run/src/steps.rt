@@ -10,7 +10,7 @@ ghost use Rattle.tele_lines.specs.Progress.{limit_of, count_of, stop_of, mode_of
 ghost use Rattle.tele_run.specs.declared.jobs.Job.TheVariants as job;
 ghost use Rattle.tele_run.specs.Causes.{IsAnswer, IsCutShort, IsStatus};
 ghost use Rattle.tele_run.specs.Open.{asked, map_in};
-ghost use Rattle.tele_run.specs.Due.{due, moment_of, Takes, GoesOn, Ends};
+ghost use Rattle.tele_run.specs.Due.{due, moment_of, Takes, RunsTo, Ends};
 
 use crate::outcomes::{ANSWERED, BAD_LINE, NO_MEMORY, READ_FAILED, WRITE_FAILED};
 use crate::replies::print_answers;
@@ -45,7 +45,7 @@ pub(crate) fn step<S: Source, O: Sink>(
     requires chosen { 0 < length round.old.tasks → IsSome (mode_of lines.old) }
 
     ensures goes_on { IfNone result (IfSome (unread lines.old (S.left source.old)) (λ bytes.
-        GoesOn (moment_of lines.old round.old) bytes (O.written out.old) (O.written out.new)
+        RunsTo (moment_of lines.old round.old) bytes (O.written out.old) (O.written out.new)
         (has_ended lines.new) (unread lines.new (S.left source.new))
         (moment_of lines.new round.new))) }
     ensures ends { IfSome result (λ status. IsAnswer status →
@@ -66,7 +66,7 @@ pub(crate) fn step<S: Source, O: Sink>(
     // A failed read leaves an unended line and an open round, and writes nothing.
     ensures passed { result ≡ Some READ_FAILED →
         IfSome (unread lines.old (S.left source.old)) (λ bytes.
-        GoesOn (moment_of lines.old round.old) bytes (O.written out.old) (O.written out.new)
+        RunsTo (moment_of lines.old round.old) bytes (O.written out.old) (O.written out.new)
         (has_ended lines.new) (unread lines.new (S.left source.new))
         (moment_of lines.new round.new)) }
     ensures waits { result ≡ Some READ_FAILED → Waits lines.new }

@@ -1,17 +1,5 @@
-use Rattle.std.proofs.Common.{
-  ◌≡◌,
-  ◌∙◌,
-  true,
-  false,
-  length,
-  reverse,
-  take,
-  take_all,
-  sym,
-  ap,
-  subst,
-  arith,
-}
+use Rattle.std.proofs.Common.{◌≡◌, ◌∙◌, true, false, length, reverse, take, take_all, sym, ap}
+use Rattle.std.proofs.Common.{subst, arith}
 use Rattle.ist_core.specs.Snapshots.{Shows}
 use Rattle.ist_core.specs.StartLayout.{start}
 use Rattle.ist_core.specs.Lawful.{state_of}
@@ -19,13 +7,8 @@ use Rattle.ist_check_events.specs.Mirroring.{Mirrors}
 use Rattle.ist_check_events.specs.Remembering.{KnowsSlots, KnowsWays}
 use Rattle.ist_check.specs.Verdicts.{IsFirstUnlawful}
 use Rattle.ist_check.specs.Knowing.{Knows}
-use Rattle.ist_check.proofs.CheckingLemmas.{
-  reverse_more,
-  first_unlawful,
-  at_number,
-  lawful_more,
-  known_more,
-}
+use Rattle.ist_check.proofs.CheckingLemmas.{reverse_more, first_unlawful, at_number, lawful_more}
+use Rattle.ist_check.proofs.CheckingLemmas.{known_more}
 use Rattle.ist_check.proofs.RoomLemmas.{has_room}
 use Rattle.ist_check.proofs.checking.check.Goals as goal
 

@@ -4,7 +4,7 @@ use Rattle.ist_check_events.specs.Mirroring.{RowHolds}
 use Rattle.ist_check_events.proofs.AnswerLemmas.{iff_trans, never, is_not}
 use Rattle.ist_check_events.proofs.MirrorLemmas.{rebuild_stands}
 use Rattle.ist_check_builds.proofs.GatherLemmas.{if_ok, known_caller}
-use Rattle.ist_check_builds.proofs.FitLemmas.{part_fits, place_publishes, place_root}
+use Rattle.ist_check_builds.proofs.PartFitLemmas.{part_fits, place_publishes, place_root}
 use Rattle.ist_check_builds.proofs.building.can_place.Goals as goal
 
 pub returns-then-not-may_publish : goal.returns-then-not-may_publish

@@ -4,7 +4,7 @@ use Rattle.ist_core.specs.Leaves.{HasLeaves}
 use Rattle.ist_check_events.proofs.AnswerLemmas.{iff_trans, never}
 use Rattle.ist_check_builds.specs.Reading.{Gathers}
 use Rattle.ist_check_builds.specs.Publishing.{IsPartOf}
-use Rattle.ist_check_builds.proofs.FitLemmas.{no_part, part_over}
+use Rattle.ist_check_builds.proofs.PartFitLemmas.{no_part, part_over}
 use Rattle.ist_check_builds.proofs.building.has_part.Goals as goal
 
 pub returns-then-not-branch : goal.returns-then-not-branch

@@ -2,6 +2,7 @@ use Rattle.std.proofs.Common.{◌≤◌, ◌∙◌, ap, length, Some, None, arit
 use Rattle.ist_core.specs.References.{LeafAt}
 use Rattle.ist_check_events.proofs.RowLemmas.{behind}
 use Rattle.ist_check_builds.proofs.BuiltLemmas as built
+use Rattle.ist_check_builds.proofs.BuiltPartLemmas as parts
 use Rattle.ist_check_builds.proofs.BuiltSizeLemmas as sizes
 use Rattle.ist_check_builds.proofs.ideals.+built.Goals as goal
 
@@ -58,12 +59,12 @@ parts_built-built-requires t c =
 pub parts_built-returns-then-left-eq0-clause-exact :
     goal.parts_built-returns-then-left-eq0-clause-exact
 parts_built-returns-then-left-eq0-clause-exact t c =
-    built.parts_end c.args.n c.args.j c.args.left c.args.slots.now c.args.leaves.now c.args.above
+    parts.parts_end c.args.n c.args.j c.args.left c.args.slots.now c.args.leaves.now c.args.above
     c.args.rows.now c.in-empty.len_below c.if-left-eq0.true
 
 pub parts_built-returns-in-None-clause-exact : goal.parts_built-returns-in-None-clause-exact
 parts_built-returns-in-None-clause-exact t c =
-    built.parts_no_first c.args.n c.args.j c.args.left c.args.slots.now c.args.leaves.now
+    parts.parts_no_first c.args.n c.args.j c.args.left c.args.slots.now c.args.leaves.now
     c.args.above c.args.rows.now c.part_end-end.result c.in-len1-up.len_at_least
     c.if-left-eq0-2.false c.part_end-end.ensures.value
     c.in-None.ensures.exact
@@ -71,7 +72,7 @@ parts_built-returns-in-None-clause-exact t c =
 pub parts_built-returns-in-None-parts_built-clause-exact :
     goal.parts_built-returns-in-None-parts_built-clause-exact
 parts_built-returns-in-None-parts_built-clause-exact t c =
-    built.parts_no_more c.args.n c.args.j c.args.left c.args.slots.now c.args.leaves.now
+    parts.parts_no_more c.args.n c.args.j c.args.left c.args.slots.now c.args.leaves.now
     c.args.above c.args.rows.now c.part_end-end.result c.in-len1-up.len_at_least
     c.if-left-eq0-2.false c.part_end-end.ensures.value
     c.in-Some.used c.in-Some.ensures.within c.in-Some.ensures.exact
@@ -80,7 +81,7 @@ parts_built-returns-in-None-parts_built-clause-exact t c =
 pub parts_built-returns-in-Some-parts_built-clause-exact :
     goal.parts_built-returns-in-Some-parts_built-clause-exact
 parts_built-returns-in-Some-parts_built-clause-exact t c =
-    built.parts_more c.args.n c.args.j c.args.left c.args.slots.now c.args.leaves.now c.args.above
+    parts.parts_more c.args.n c.args.j c.args.left c.args.slots.now c.args.leaves.now c.args.above
     c.args.rows.now c.part_end-end.result c.in-len1-up.len_at_least c.if-left-eq0-2.false
     c.part_end-end.ensures.value
     c.in-Some.used c.in-Some.ensures.within c.in-Some.ensures.exact c.in-Some-parts_built.further

@@ -1,4 +1,4 @@
-use Rattle.std.proofs.Common.{◌≡◌, ◌∷◌, [], reverse, true, false, subst, Some}
+use Rattle.std.proofs.Common.{◌∷◌, reverse, true, false, subst, Some}
 use Rattle.ist_core.specs.References.{InnerAt}
 use Rattle.ist_core.specs.Leaves.{HasLeaves}
 use Rattle.ist_check_builds.specs.Reading.{GathersOn, PutsSlots}

@@ -1,13 +1,8 @@
 use Rattle.std.proofs.Common.{reverse, subst, Some}
 use Rattle.ist_core.specs.References.{LeafAt}
 use Rattle.ist_core.specs.Slots.{logical}
-use Rattle.ist_check_builds.specs.Reading.{IsReading}
-use Rattle.ist_check_builds.proofs.GatherLemmas.{
-  if_ok,
-  first_empty,
-  first_gathered,
-  row_gathered,
-}
+use Rattle.ist_check_builds.specs.Reading.{IsReadingOf}
+use Rattle.ist_check_builds.proofs.GatherLemmas.{if_ok, first_empty, first_gathered, row_gathered}
 use Rattle.ist_check_builds.proofs.leaves.add_of_slot.Goals as goal
 
 pub returns-in-Nothing : goal.returns-in-Nothing
@@ -15,7 +10,7 @@ returns-in-Nothing c =
     record {
       exact = λ t h.
           first_empty t.pieces c.args.word (reverse c.args.waiting.now.items) c.args.out.now.items
-          (subst (λ r. IsReading r (logical t.pieces c.args.word)) c.in-Nothing.is
+          (subst (λ r. IsReadingOf r (logical t.pieces c.args.word)) c.in-Nothing.is
           (c.read_slot.ensures.exact t h));
     }
 
@@ -26,7 +21,7 @@ returns-in-OneLeaf c =
           (λ found f t h.
           first_gathered t.pieces c.args.word (reverse c.args.waiting.now.items)
           (Some (LeafAt c.in-OneLeaf.leaf)) c.args.out.now.items c.add_leaf.new.out.items found
-          (subst (λ r. IsReading r (logical t.pieces c.args.word)) c.in-OneLeaf.is
+          (subst (λ r. IsReadingOf r (logical t.pieces c.args.word)) c.in-OneLeaf.is
           (c.read_slot.ensures.exact t h)) (f t h))
           c.add_leaf.ensures.exact;
     }
@@ -38,7 +33,7 @@ returns-in-OneRow c =
           (λ found f t h.
           row_gathered t.pieces c.args.word c.in-OneRow.row c.args.waiting.now.items
           c.put_slots.new.waiting.items c.args.out.now.items found
-          (subst (λ r. IsReading r (logical t.pieces c.args.word)) c.in-OneRow.is
+          (subst (λ r. IsReadingOf r (logical t.pieces c.args.word)) c.in-OneRow.is
           (c.read_slot.ensures.exact t h)) (f t h))
           c.put_slots.ensures.exact;
     }

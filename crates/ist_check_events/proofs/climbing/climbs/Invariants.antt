@@ -1,14 +1,14 @@
 use Rattle.std.proofs.Common.{◌↔◌}
 use Rattle.ist_core.specs.Snapshots.{Snapshot}
 use Rattle.ist_check_events.specs.Mirroring.{Mirrors}
-use Rattle.ist_check_events.specs.Remembering.{Rises}
+use Rattle.ist_check_events.specs.Remembering.{SlotsRise}
 use Rattle.ist_check_events.specs.Ways.{Climbs}
 use Rattle.ist_check_events.proofs.climbing.climbs.Given as goal
 
 -- what is left of the way up has the answer of the whole
 abbrev pub invariant-loop-at : goal.invariant-loop-at
 invariant-loop-at l =
-    (t : Snapshot) → Mirrors l.replica t → Rises l.past.slots
+    (t : Snapshot) → Mirrors l.replica t → SlotsRise l.past.slots
     → Climbs l.past.slots t l.key l.at ↔ Climbs l.past.slots t l.key l.node
 
 abbrev pub decreases-loop-at : goal.decreases-loop-at

@@ -1,8 +1,9 @@
 use Rattle.std.proofs.Common.{◌≡◌, ◌↔◌, IsTrue, sym, subst, arith}
 use Rattle.std.proofs.lemmas.Bool.Decides.{nat_tests}
-use Rattle.ist_check_events.specs.Ways.{ComesBy}
+use Rattle.ist_check_events.specs.Ways.{ClimbsBy}
 use Rattle.ist_check_events.proofs.AnswerLemmas.{iff_trans, never}
-use Rattle.ist_check_events.proofs.WayLemmas.{comes_is, comes_here, comes_low}
+use Rattle.ist_check_events.proofs.WayLemmas.{comes_is}
+use Rattle.ist_check_events.proofs.ClimbLemmas.{comes_here, comes_low}
 use Rattle.ist_check_events.proofs.climbing.was_on_chain.Goals as goal
 
 pub returns-in-None : goal.returns-in-None
@@ -20,9 +21,9 @@ returns-then-at-row c =
     record {
       exact = λ first log k w.
           let slots = c.args.past.now.slots in
-          let here = subst (λ b. IsTrue b ↔ ComesBy slots c.args.row c.args.row)
+          let here = subst (λ b. IsTrue b ↔ ClimbsBy slots c.args.row c.args.row)
           (sym c.contains_key.ensures) (comes_here slots c.args.row) in
-          let left = subst (λ n. ComesBy slots c.args.row n ↔ ComesBy slots c.args.row c.args.node)
+          let left = subst (λ n. ClimbsBy slots c.args.row n ↔ ClimbsBy slots c.args.row c.args.node)
           c.if-at-row.true (c.loop-at.invariant first log k w) in
           iff_trans here (iff_trans left (comes_is first log slots k c.args.node c.args.row));
     }

@@ -1,22 +1,5 @@
-use Rattle.std.proofs.Common.{
-  ◌≡◌,
-  ◌∙◌,
-  ◌+◌,
-  ◌-◌,
-  ◌==◌,
-  ◌∷◌,
-  ◌++◌,
-  [],
-  List,
-  ℕ,
-  map,
-  filter,
-  refl,
-  sym,
-  ap,
-  subst,
-  arith,
-}
+use Rattle.std.proofs.Common.{◌≡◌, ◌∙◌, ◌+◌, ◌-◌, ◌==◌, ◌∷◌, ◌++◌, [], List, ℕ, map, filter, refl}
+use Rattle.std.proofs.Common.{sym, ap, subst, arith}
 use Rattle.ist_core.specs.Snapshots.{sizes_held}
 use Rattle.ist_check_events.specs.Searching.{AreBuilding}
 use Rattle.ist_check_events.proofs.AnswerLemmas.{if_ok}

@@ -1,7 +1,7 @@
 use Rattle.std.proofs.Common.{◌<◌, ◌≤◌, map, length, arith}
 use Rattle.std.proofs.lemmas.List.{length-map}
 use Rattle.ist_check_events.proofs.AddedLemmas.{none_added, other_added, two_added}
-use Rattle.ist_check_events.proofs.ReadingLemmas.{begins_none, begins_more, begins_end}
+use Rattle.ist_check_events.proofs.RestLemmas.{begins_none, begins_more, begins_end}
 use Rattle.ist_check_events.proofs.fairness.add_begun.Goals as goal
 
 pub loop-list-init : goal.loop-list-init

@@ -1,7 +1,7 @@
 use Rattle.std.proofs.Common.{map}
 use Rattle.ist_check_events.proofs.AnswerLemmas.{on_ok}
 use Rattle.ist_check_events.proofs.AddedLemmas.{none_added, other_added}
-use Rattle.ist_check_events.proofs.ReadingLemmas.{nothing_on, other_on, this_on}
+use Rattle.ist_check_events.proofs.RestLemmas.{nothing_on, other_on, this_on}
 use Rattle.ist_check_events.proofs.fairness.add_on.Goals as goal
 
 pub returns-in-empty : goal.returns-in-empty

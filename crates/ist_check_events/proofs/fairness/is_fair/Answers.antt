@@ -1,26 +1,12 @@
-use Rattle.std.proofs.Common.{
-  ◌≡◌,
-  ◌∙◌,
-  ◌<◌,
-  ◌==◌,
-  vec_len,
-  map,
-  drop,
-  length,
-  [],
-  ◌∷◌,
-  ◌++◌,
-  true,
-  ap,
-  arith,
-  length-drop,
-}
+use Rattle.std.proofs.Common.{◌≡◌, ◌∙◌, ◌<◌, ◌==◌, vec_len, map, drop, length, [], ◌∷◌, ◌++◌, true}
+use Rattle.std.proofs.Common.{ap, arith, length-drop}
 use Rattle.ist_core.specs.Elements.{Among}
 use Rattle.ist_check_events.specs.declared.fairness.Reading.{Reading}
 use Rattle.ist_check_events.specs.Searching.{all_spare}
 use Rattle.ist_check_events.proofs.AnswerLemmas.{iff_trans}
 use Rattle.ist_check_events.proofs.FairLemmas.{fair_is}
-use Rattle.ist_check_events.proofs.ReadingLemmas.{first_reading, rest_none, end_read}
+use Rattle.ist_check_events.proofs.ReadingLemmas.{first_reading, end_read}
+use Rattle.ist_check_events.proofs.RestLemmas.{rest_none}
 use Rattle.ist_check_events.proofs.fairness.is_fair.Goals as goal
 
 pub loop-size-init : goal.loop-size-init

@@ -4,10 +4,8 @@ use Rattle.ist_core.specs.Installing.{Finishes, FitsKind, a_put, a_pair, a_remov
 use Rattle.ist_check_events.proofs.AnswerLemmas.{iff_trans, is_not}
 use Rattle.ist_check_events.proofs.InstallLemmas.{fits_finish}
 use Rattle.ist_check_events.proofs.installing.fits_kind.Goals as goal
-use Rattle.ist_check_events.proofs.installing.fits_kind.Goals.{
-  then-comes_by_key+else-puts_leaf+else-puts_pair+else-removes,
-  else-comes_by_key,
-}
+use Rattle.ist_check_events.proofs.installing.fits_kind.Goals.{then-comes_by_key+else-puts_leaf+else-puts_pair+else-removes}
+use Rattle.ist_check_events.proofs.installing.fits_kind.Goals.{else-comes_by_key}
 
 pub returns-then-puts_leaf : goal.returns-then-puts_leaf
 returns-then-puts_leaf c =

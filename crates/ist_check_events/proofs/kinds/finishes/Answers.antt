@@ -1,6 +1,7 @@
 use Rattle.std.proofs.Common.{arith}
 use Rattle.ist_check_events.proofs.AnswerLemmas.{iff_trans}
-use Rattle.ist_check_events.proofs.KindLemmas.{finishes_is, empty_rows}
+use Rattle.ist_check_events.proofs.KindLemmas.{empty_rows}
+use Rattle.ist_check_events.proofs.RebuildKindLemmas.{finishes_is}
 use Rattle.ist_check_events.proofs.kinds.finishes.Goals as goal
 
 pub returns-in-Some : goal.returns-in-Some

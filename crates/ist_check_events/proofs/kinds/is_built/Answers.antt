@@ -4,7 +4,7 @@ use Rattle.ist_core.specs.References.{unset_word}
 use Rattle.ist_check_events.proofs.AnswerLemmas.{iff_trans, not_so}
 use Rattle.ist_check_events.proofs.MirrorLemmas.{inner_stands, no_inner}
 use Rattle.ist_check_events.proofs.AmongLemmas.{any_among}
-use Rattle.ist_check_events.proofs.KindLemmas.{built_is, built_alone}
+use Rattle.ist_check_events.proofs.RebuildKindLemmas.{built_is, built_alone}
 use Rattle.ist_check_events.proofs.kinds.is_built.Goals as goal
 
 pub returns-in-None-get : goal.returns-in-None-get

@@ -1,6 +1,6 @@
 use Rattle.std.proofs.Common.{arith}
 use Rattle.ist_check_events.proofs.AnswerLemmas.{iff_trans, is_not, never}
-use Rattle.ist_check_events.proofs.KindLemmas.{starts_is, starts_not}
+use Rattle.ist_check_events.proofs.RebuildKindLemmas.{starts_is, starts_not}
 use Rattle.ist_check_events.proofs.kinds.starts.Goals as goal
 
 pub returns-then-not-may_be_rebuilt : goal.returns-then-not-may_be_rebuilt

@@ -4,7 +4,7 @@ use Rattle.ist_core.specs.Elements.{Among}
 use Rattle.ist_core.specs.Shapes.{share_from_fits}
 use Rattle.ist_check_events.specs.Builds.{lists_of}
 use Rattle.ist_check_events.proofs.AnswerLemmas.{if_ok, iff_trans}
-use Rattle.ist_check_events.proofs.BuildLemmas.{lists_are_all}
+use Rattle.ist_check_events.proofs.TargetLemmas.{lists_are_all}
 use Rattle.ist_check_events.proofs.shapes.building_lists.Goals as goal
 
 pub returns : goal.returns

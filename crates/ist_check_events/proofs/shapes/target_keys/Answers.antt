@@ -3,7 +3,7 @@ use Rattle.std.specs.List.{flat_map}
 use Rattle.std.specs.Map.Iter.{deref_pair}
 use Rattle.std.proofs.lemmas.Map.Iter.{iter_end}
 use Rattle.ist_check_events.specs.Builds.{entry_keys}
-use Rattle.ist_check_events.proofs.BuildLemmas.{targets_are_all}
+use Rattle.ist_check_events.proofs.TargetLemmas.{targets_are_all}
 use Rattle.ist_check_events.proofs.shapes.target_keys.Goals as goal
 
 pub returns : goal.returns

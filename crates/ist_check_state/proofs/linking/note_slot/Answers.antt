@@ -1,6 +1,6 @@
 use Rattle.std.proofs.Common.{subst}
 use Rattle.ist_core.specs.Slots.{logical}
-use Rattle.ist_check_builds.specs.Reading.{IsReading}
+use Rattle.ist_check_builds.specs.Reading.{IsReadingOf}
 use Rattle.ist_check_state.specs.Hanging.{Hangs}
 use Rattle.ist_check_state.proofs.TableLemmas.{on_success}
 use Rattle.ist_check_state.proofs.HangingLemmas as hanging
@@ -12,7 +12,7 @@ returns-in-OneRow c =
     record {
       exact = on_success c.note_row.result
           (λ exact t h once holds.
-          let read = subst (λ r. IsReading r (logical t.pieces c.args.word)) c.in-OneRow.is
+          let read = subst (λ r. IsReadingOf r (logical t.pieces c.args.word)) c.in-OneRow.is
           (c.read_slot.ensures.exact t h) in
           exact t h once record { word = c.args.word; holds = holds; reads = read })
           c.note_row.ensures.exact;

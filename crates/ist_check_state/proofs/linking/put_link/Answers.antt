@@ -1,6 +1,6 @@
 use Rattle.std.proofs.Common.{subst}
 use Rattle.ist_core.specs.Slots.{logical}
-use Rattle.ist_check_builds.specs.Reading.{IsReading}
+use Rattle.ist_check_builds.specs.Reading.{IsReadingOf}
 use Rattle.ist_check_state.proofs.HangingLemmas.{no_row_read}
 use Rattle.ist_check_state.proofs.WaitingLemmas.{puts_link, puts_no_link}
 use Rattle.ist_check_state.proofs.linking.put_link.Goals as goal
@@ -11,7 +11,7 @@ returns-in_ok-push-in-OneRow c =
       exact = λ t h.
           puts_link t c.args.node c.args.index c.args.word c.in-OneRow.child c.args.waiting.now.items
           c.push.new.self.items
-          (subst (λ r. IsReading r (logical t.pieces c.args.word)) c.in-OneRow.is
+          (subst (λ r. IsReadingOf r (logical t.pieces c.args.word)) c.in-OneRow.is
           (c.read_slot.ensures.exact t h))
           c.in_ok-push-in-OneRow.ensures.items;
     }

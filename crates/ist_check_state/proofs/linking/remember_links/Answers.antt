@@ -5,13 +5,8 @@ use Rattle.ist_core.specs.Lawful.{EachEnabled, state_of}
 use Rattle.ist_check_events.specs.Mirroring.{Mirrors}
 use Rattle.ist_check_events.specs.Remembering.{KnowsSlots}
 use Rattle.ist_check_state.proofs.TableLemmas.{on_success}
-use Rattle.ist_check_state.proofs.LinkTableLemmas.{
-  links_kept,
-  links_more,
-  brings_in_place,
-  once_before,
-  no_is_no_yes,
-}
+use Rattle.ist_check_state.proofs.LinkTableLemmas.{links_kept, links_more, brings_in_place}
+use Rattle.ist_check_state.proofs.LinkTableLemmas.{once_before, no_is_no_yes}
 use Rattle.ist_check_state.proofs.linking.remember_links.Goals as goal
 
 pub returns-then-not-yes : goal.returns-then-not-yes

@@ -1,7 +1,7 @@
 use Rattle.std.proofs.Common.{◌≡◌, ◌∙◌, ◌-◌, ◌+◌, map, get_or, length, ap, arith}
 use Rattle.std.specs.List.{range_with_len}
 use Rattle.ist_core.specs.Arithmetic.{degree, part_start}
-use Rattle.ist_check_state.proofs.LayingLemmas.{keys_of_parts_are, key_at}
+use Rattle.ist_image.proofs.PlacingLemmas.{keys_of_parts_are, key_at}
 use Rattle.ist_check_state.proofs.LaidLemmas.{made_more}
 use Rattle.ist_check_state.proofs.opening.keys_of.Goals as goal
 

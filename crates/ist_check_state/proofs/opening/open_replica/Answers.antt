@@ -2,18 +2,19 @@ use Rattle.std.proofs.Common.{◌≡◌, ◌∙◌, ap, arith, length, refl, Non
 use Rattle.ist_core.specs.RowLayout.{first_row}
 use Rattle.ist_core.specs.References.{word_of}
 use Rattle.ist_core.specs.StartLayout.{start, tree_at}
-use Rattle.ist_check_state.proofs.LayingSizeLemmas.{few_fit, opens_fit}
+use Rattle.ist_image.proofs.PlacingSizeLemmas.{few_fit, opens_fit}
 use Rattle.ist_check_state.proofs.LaidLemmas.{opened, none_found}
 use Rattle.ist_check_state.proofs.opening.open_replica.Goals as goal
 
 pub ideal_words-requires : goal.ideal_words-requires
-ideal_words-requires c = record {
-  fits = omega (
-    arith,
-    few_fit first_row (length c.args.pairs.now)
-        (opens_fit c.args.pairs.now c.args.words c.requires.opens),
-  );
-}
+ideal_words-requires c =
+    let few = few_fit first_row (length c.args.pairs.now)
+    (opens_fit c.args.pairs.now c.args.words c.requires.opens) in
+    record { fits = omega arith }
+
+pub put_tree-requires-clause-few : goal.put_tree-requires-clause-few
+put_tree-requires-clause-few c = few_fit first_row (length c.args.pairs.now)
+    (opens_fit c.args.pairs.now c.args.words c.requires.opens)
 
 pub returns : goal.returns
 returns c =

@@ -3,7 +3,7 @@ use Rattle.ist_core.specs.declared.events.Event.TheVariants.{Decide}
 use Rattle.ist_core.specs.Lawful.{Lawful, state_of}
 use Rattle.ist_check_events.specs.Remembering.{KnowsStarts}
 use Rattle.ist_check_state.proofs.TableLemmas.{on_success}
-use Rattle.ist_check_state.proofs.DecisionLemmas.{starts_kept, starts_refused, starts_more}
+use Rattle.ist_check_state.proofs.StartedLemmas.{starts_kept, starts_refused, starts_more}
 use Rattle.ist_check_state.proofs.starting.remember_start.Goals as goal
 
 pub returns-then-not-yes : goal.returns-then-not-yes

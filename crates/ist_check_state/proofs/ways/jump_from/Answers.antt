@@ -1,5 +1,5 @@
 use Rattle.std.proofs.Common.{sym}
-use Rattle.ist_check_state.proofs.WayTableLemmas.{jumps_to_node, jumps_twice}
+use Rattle.ist_check_state.proofs.WayToRowLemmas.{jumps_to_node, jumps_twice}
 use Rattle.ist_check_state.proofs.ways.jump_from.Goals as goal
 
 pub returns-in-None : goal.returns-in-None

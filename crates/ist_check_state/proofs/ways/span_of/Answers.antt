@@ -1,4 +1,4 @@
-use Rattle.std.proofs.Common.{◌≡◌, ◌<◌, ◌-◌, ◌+◌, ◌^◌, length, get_or, arith}
+use Rattle.std.proofs.Common.{◌≡◌, ◌-◌, ◌+◌, ◌^◌, arith}
 use Rattle.ist_check_state.proofs.WayTableLemmas.{span_is}
 use Rattle.ist_check_state.proofs.ways.span_of.Goals as goal
 use Rattle.ist_check_state.proofs.ways.span_of.Goals.{then-index-eq0, else-index-eq0}

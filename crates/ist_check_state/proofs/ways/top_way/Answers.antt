@@ -1,6 +1,5 @@
 use Rattle.std.proofs.Common.{refl, arith}
-use Rattle.ist_check_events.specs.Ways.{KeysStay}
-use Rattle.ist_check_state.proofs.WayTableLemmas.{top_is}
+use Rattle.ist_check_state.proofs.WayToRowLemmas.{top_is}
 use Rattle.ist_check_state.proofs.ways.top_way.Goals as goal
 
 pub returns : goal.returns

@@ -1,4 +1,4 @@
-use Rattle.std.proofs.Common.{◌≡◌, ◌≢◌, ◌∙◌, sym, subst, arith}
+use Rattle.std.proofs.Common.{◌≡◌, ◌≢◌, sym, subst, arith}
 use Rattle.ist_core.specs.Arithmetic.{child_count}
 use Rattle.ist_core.specs.RowLayout.{anchor}
 use Rattle.ist_core.specs.StartLayout.{start}
@@ -7,7 +7,7 @@ use Rattle.ist_check_events.proofs.MirrorLemmas.{inner_stands}
 use Rattle.ist_check_state.specs.Leading.{IsSpanOf, IsWayBy}
 use Rattle.ist_check_state.proofs.StayingLemmas.{keys_stay}
 use Rattle.ist_check_state.proofs.TableLemmas.{if_some}
-use Rattle.ist_check_state.proofs.WayTableLemmas.{below_is, row_rises, narrowed}
+use Rattle.ist_check_state.proofs.WayToRowLemmas.{below_is, row_rises, narrowed}
 use Rattle.ist_check_state.proofs.ways.way_by.Goals as goal
 
 pub returns-then-node-from : goal.returns-then-node-from

@@ -5,7 +5,7 @@ use Rattle.clap.specs.declared.parser.matches.Found.{Found}
 use Rattle.clap.specs.Words.{rows_of}
 use Rattle.clap.proofs.WalkLemmas.{first_value-rows}
 use Rattle.tele_command.specs.declared.options.Options.{Options}
-use Rattle.tele_command.specs.CommandLine.{number_of, given}
+use Rattle.tele_command.specs.CommandLine.{number_said, option_value}
 use Rattle.tele_command.proofs.command.options_at.Goals as goal
 
 -- options are the same if each of their fields is
@@ -19,9 +19,9 @@ same_options a b e d g h k i one two three four =
     ∙ ap (λ x. record { workers = g; words = h; generate = i; seed = x }) four
 
 -- what was found is what stands in the rows
-in_rows : (f : Found) (name : List ℕ) (o : Option ℕ) → o ≡ option_map number_of (first_value f name)
-    → o ≡ given name (rows_of f)
-in_rows f name o is = is ∙ ap (option_map number_of) (first_value-rows f name)
+in_rows : (f : Found) (name : List ℕ) (o : Option ℕ) → o ≡ option_map number_said (first_value f name)
+    → o ≡ option_value name (rows_of f)
+in_rows f name o is = is ∙ ap (option_map number_said) (first_value-rows f name)
 
 pub returns-clause-value : goal.returns-clause-value
 returns-clause-value c =

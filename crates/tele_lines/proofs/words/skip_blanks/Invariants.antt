@@ -1,7 +1,7 @@
 use Rattle.std.proofs.Common.{◌≡◌, drop}
-use Rattle.tele_lines.specs.Lines.{words_of}
+use Rattle.tele_lines.specs.Lines.{words_in_line}
 use Rattle.tele_lines.proofs.words.skip_blanks.Given as goal
 
 -- what was passed over is in no word
 abbrev pub invariant-loop-place : goal.invariant-loop-place
-invariant-loop-place l = words_of (drop l.place l.bytes) ≡ words_of l.fn.bytes
+invariant-loop-place l = words_in_line (drop l.place l.bytes) ≡ words_in_line l.fn.bytes

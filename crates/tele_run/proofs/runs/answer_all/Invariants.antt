@@ -3,7 +3,7 @@ use Rattle.std.specs.Prelude.{IfSome, IsSome, None}
 use Rattle.tele_lines.specs.Lines.{line_limit}
 use Rattle.tele_lines.specs.Rounds.{round_limit}
 use Rattle.tele_lines.specs.Progress.{limit_of, count_of, stop_of, mode_of, has_ended, unread, TellsEnd}
-use Rattle.tele_run.specs.Due.{GoesOn, moment_of}
+use Rattle.tele_run.specs.Due.{RunsTo, moment_of}
 use Rattle.tele_run.proofs.ToldLemmas.{first_moment}
 use Rattle.tele_run.proofs.runs.answer_all.Given as goal
 
@@ -14,7 +14,7 @@ invariant-loop-status g l =
     let written = g.O.Sink.written in
     record {
       due : IfSome (left l.fn.source) (λ bytes.
-          GoesOn first_moment bytes (written l.fn.out) (written l.out) (has_ended l.lines)
+          RunsTo first_moment bytes (written l.fn.out) (written l.out) (has_ended l.lines)
           (unread l.lines (left l.source)) (moment_of l.lines l.round));
       end : IsSome (left l.fn.source) → TellsEnd l.lines (left l.source);
       limit : limit_of l.lines ≡ line_limit;
