@@ -22,3 +22,10 @@ pub mod TokenLemmas
 pub mod MeetingLemmas
 pub mod TakenLemmas
 pub mod ClosingLemmas
+pub mod FreezingLemmas
+pub mod FreezeGoingLemmas
+pub mod FreezeLookLemmas
+pub mod FreezeCallLemmas
+pub mod FreezeEndLemmas
+pub mod FreezeReadLemmas
+pub mod FreezeMarkLemmas

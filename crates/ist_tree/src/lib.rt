@@ -6,6 +6,8 @@
 #![tactic(auto)]
 
 mod faults;
+mod freezing;
+pub mod laws;
 mod passes;
 mod ports;
 mod rebuilding;
@@ -13,9 +15,12 @@ mod trees;
 mod updating;
 
 pub use faults::OpenFault;
+pub use freezing::Frozen;
 pub use passes::{Maker, Note, Pass};
 pub use ports::TreePort;
 pub use trees::Tree;
 
+#[cfg(test)]
+mod freezing_tests;
 #[cfg(test)]
 mod tests;

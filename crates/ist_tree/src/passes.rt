@@ -57,7 +57,7 @@ impl Pass {
     }
 
     /// The first `Full` of a rebuild that a put or remove of this pass met after its own change had
-    /// taken effect, if one did.
+    /// taken effect, or that a freeze met after a rebuild stood, if one did.
     pub fn rebuild_refused(&self) -> Option<Full>
         ensures value { result ≡ self.now.refused }
     {

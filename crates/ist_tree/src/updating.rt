@@ -90,7 +90,8 @@ pub(crate) fn update<R: Wait>(
 ) -> Result<Reply, Full>
     requires same_tree { pass.old.tree ≡ tree.now }
     ensures seen { HasSeenMore pass.old pass.new }
-    ensures added { IfOk result (λ reply. AddsCall pass.old pass.new (command_for key value) reply) }
+    ensures added { IfOk result (λ reply.
+        AddsCall pass.old pass.new (command_for key value) reply) }
     ensures counted { IfOk result (λ reply. makes_entry (command_for key value) reply ≡ true
         → HasCounted pass.old pass.new (command_for key value)) }
     ensures due { OnOk result (LeavesNoneDue pass.old pass.new) }

@@ -6,6 +6,8 @@
 #[cfg(test)]
 mod asking;
 #[cfg(test)]
+mod rebuilds;
+#[cfg(test)]
 mod rows;
 #[cfg(test)]
 mod shortages;

@@ -1,0 +1,243 @@
+-- A freeze from the beginning of its call to its end, and the pass behind it. Serves `begin` and
+-- `freeze`.
+use Rattle.std.proofs.Common.{◌≡◌, ℕ, List, length, Option, None, sym, ap, ap₂, ◌∙◌, subst, arith}
+use Rattle.ist_core.specs.declared.pairs.Pair.{Pair}
+use Rattle.ist_core.specs.declared.ports.Full.{Full}
+use Rattle.ist_core.specs.Deciding.{AllResolvedOf}
+use Rattle.ist_core.specs.Lawful.{Lawful, state_of}
+use Rattle.ist_core.specs.Logs.{GoesOn}
+use Rattle.ist_core.specs.StartLayout.{start}
+use Rattle.ist_rule.specs.declared.view.View.{View}
+use Rattle.ist_rule.specs.Authors.{Later}
+use Rattle.ist_rule.specs.Conditions.{CanGiveUp, IsResolved}
+use Rattle.ist_rule.specs.Faces.{SeatFace}
+use Rattle.ist_rule.specs.Learning.{Turned, beginning, giving_up}
+use Rattle.ist_rule.specs.Rule.{IsSound}
+use Rattle.ist_rule.specs.Standings.{HasMade, IsBetween}
+use Rattle.ist_rule.proofs.LaterLemmas.{goes_on_more, later-goes_on}
+use Rattle.ist_rule.proofs.WentOnLemmas.{later_by-goes_on}
+use Rattle.ist_rows.specs.declared.callers.Caller.{Caller}
+use Rattle.ist_settling.specs.Settling.{DueRowsAreClosed}
+use Rattle.ist_tree.specs.Calls.{HasSeenMore}
+use Rattle.ist_tree.specs.Insides.{HasSettled, IsPass, IsPassWith, face_as, pass_face}
+use Rattle.ist_tree.specs.Working.{IsReady, KeepsDone, Rebuilds, RebuildsOn}
+use Rattle.ist_tree.proofs.BetweenLemmas.{between_behind}
+use Rattle.ist_tree.proofs.CarryLemmas.{rebuilt_no_entry}
+use Rattle.ist_tree.proofs.EventLemmas.{rebuilds_count_none}
+use Rattle.ist_tree.proofs.GoingLemmas.{IsLaterView, caller_on, lawful_behind}
+use Rattle.ist_tree.proofs.RebuildLemmas.{due_went}
+use Rattle.ist_tree.proofs.SettlingLemmas.{settled_later}
+
+-- ---- the beginning
+
+module _ (who : Caller) (seat : SeatFace) (s : IsSound who.seat.view) (p : IsPass who)
+    (begun : Turned who.seat.view (beginning who.seat.view None) seat.view) where
+  begun_view : IsLaterView who.seat.view seat.view
+  begun_view =
+      record {
+        who_is = ap (λ (y : View). y.who) begun.view;
+        start_is = ap (λ (y : View). y.start) begun.view;
+        words_is = ap (λ (y : View). y.words) begun.view;
+        later = begun.later;
+        sound = begun.sound;
+      }
+
+  begun_between : IsBetween who.seat.view.start who.seat.view.words seat.view.log who.number
+      who.seat.view.calls
+  begun_between =
+      between_behind who.seat.view who.number s p.caller.mine p.in_none seat.view.log
+      (lawful_behind who.seat.view seat.view begun_view)
+      (subst (λ x. Later x who.seat.view.log seat.view.log) p.caller.mine begun.later)
+
+  -- the caller has all its changes resolved
+  pub begun_ready : IsReady (record who { seat = seat })
+  begun_ready =
+      let it = caller_on who seat p.caller p.refused begun_view in
+      record {
+        caller = it.caller;
+        refused = it.refused;
+        quiet = record {
+          pending = record { command = None; length = length seat.view.log };
+          in_call = ap (λ (y : View). y.pending) begun.view;
+          resolved =
+              subst (λ (y : View). AllResolvedOf (state_of y.start y.words seat.view.log) seat.view.log
+              who.number) (sym begun.view) begun_between.resolved;
+        };
+      }
+
+  -- and its entries are those of its calls
+  pub begun_made : HasMade seat.view.start seat.view.words seat.view.log who.number seat.view.calls
+  begun_made =
+      subst (λ (y : View). HasMade y.start y.words seat.view.log who.number y.calls) (sym begun.view)
+      begun_between.made
+
+-- ---- the way of a freeze
+
+-- the pass began a call, worked in it by steps of rebuilding, and gave it up
+pub record IsWay (who began new : Caller) (seat : SeatFace) : Type 0 where
+  pub sound : IsSound who.seat.view
+  pub pass : IsPass who
+  pub began_number : began.number ≡ who.number
+  pub begun : Turned who.seat.view (beginning who.seat.view None) began.seat.view
+  pub ready : IsReady began
+  pub on : RebuildsOn began new
+  pub given : Turned new.seat.view (giving_up new.seat.view) seat.view
+
+-- its call may be given up: nothing of it is an entry
+pub may_give_up : (who began new : Caller) → IsSound who.seat.view → IsPass who
+    → began.number ≡ who.number
+    → Turned who.seat.view (beginning who.seat.view None) began.seat.view → IsReady began
+    → RebuildsOn began new → CanGiveUp new.seat.view
+may_give_up who began new s p number begun ready on =
+    let b = began.seat.view in
+    let w = new.seat.view in
+    let mine_b = ready.caller.mine in
+    let none = rebuilt_no_entry b w began.number mine_b ready.quiet.resolved on.went in
+    let made = subst (λ n. HasMade b.start b.words b.log n b.calls) (sym number)
+    (begun_made who began.seat s p begun) in
+    record {
+      number = new.number;
+      mine = on.ready.caller.mine;
+      pending = on.ready.quiet.pending;
+      in_call = on.ready.quiet.in_call;
+      resolved = on.ready.quiet.resolved;
+      none =
+          subst (λ n. HasMade w.start w.words w.log n w.calls) (sym on.number)
+          (subst (λ (y : View). HasMade y.start y.words w.log began.number y.calls)
+          (sym on.went.same) (none ∙ made));
+    }
+
+module _ (who began new : Caller) (seat : SeatFace) (it : IsWay who began new seat) where
+  abbrev v : View
+  v = who.seat.view
+
+  abbrev b : View
+  b = began.seat.view
+
+  abbrev w : View
+  w = new.seat.view
+
+  abbrev x : View
+  x = seat.view
+
+  pub b_view : IsLaterView v b
+  b_view = begun_view who began.seat it.sound it.pass it.begun
+
+  x_view : IsLaterView w x
+  x_view =
+      record {
+        who_is = ap (λ (y : View). y.who) it.given.view;
+        start_is = ap (λ (y : View). y.start) it.given.view;
+        words_is = ap (λ (y : View). y.words) it.given.view;
+        later = it.given.later;
+        sound = it.given.sound;
+      }
+
+  pub w_start : w.start ≡ v.start
+  w_start = ap (λ (y : View). y.start) it.on.went.same ∙ b_view.start_is
+
+  pub w_words : w.words ≡ v.words
+  w_words = ap (λ (y : View). y.words) it.on.went.same ∙ b_view.words_is
+
+  pub x_start : x.start ≡ v.start
+  x_start = x_view.start_is ∙ w_start
+
+  pub x_words : x.words ≡ v.words
+  x_words = x_view.words_is ∙ w_words
+
+  pub v_to_b : GoesOn v.log b.log
+  v_to_b = later-goes_on it.begun.later
+
+  pub b_to_w : GoesOn b.log w.log
+  b_to_w = later_by-goes_on it.on.went.later
+
+  pub w_to_x : GoesOn w.log x.log
+  w_to_x = later-goes_on it.given.later
+
+  -- what is so by the last table is so by the first
+  by_first : (Q : List Pair → ℕ → Type 0) → Q x.start x.words → Q v.start v.words
+  by_first Q h = subst (λ pairs. Q pairs v.words) x_start (subst (λ words. Q x.start words) x_words h)
+
+  pub by_middle : (Q : List Pair → ℕ → Type 0) → Q w.start w.words → Q v.start v.words
+  by_middle Q h = subst (λ pairs. Q pairs v.words) w_start (subst (λ words. Q w.start words) w_words h)
+
+  pub lawful_w : Lawful v.start v.words w.log
+  lawful_w = by_middle (λ pairs words. Lawful pairs words w.log) it.on.went.sound.lawful
+
+  pub lawful_x : Lawful v.start v.words x.log
+  lawful_x = by_first (λ pairs words. Lawful pairs words x.log) it.given.sound.lawful
+
+  number_is : new.number ≡ who.number
+  number_is = it.on.number ∙ it.began_number
+
+  -- ---- the pass behind it
+
+  -- the caller is a pass again
+  pub ended_pass : IsPass (record new { seat = seat })
+  ended_pass =
+      let c = caller_on new seat it.on.ready.caller it.on.ready.refused x_view in
+      record {
+        caller = c.caller;
+        refused = c.refused;
+        in_none = ap (λ (y : View). y.pending) it.given.view;
+      }
+
+  -- where its starts are done, all that was settled is so
+  settled_w : KeepsDone began new → HasSettled v.start v.words v.log who.number
+      → HasSettled w.start w.words w.log new.number
+  settled_w done h =
+      let mine_v = it.pass.caller.mine in
+      let first = settled_later v.start v.words v.log b.log (lawful_behind v b b_view) who.number
+      (subst (λ y. Later y v.log b.log) mine_v it.begun.later) h in
+      let at_b : HasSettled b.start b.words b.log began.number =
+      subst (λ n. HasSettled b.start b.words b.log n) (sym it.began_number)
+      (subst (λ pairs. HasSettled pairs b.words b.log who.number) (sym b_view.start_is)
+      (subst (λ words. HasSettled v.start words b.log who.number) (sym b_view.words_is) first)) in
+      subst (λ n. HasSettled w.start w.words w.log n) (sym it.on.number)
+      record {
+        resolved = subst (IsResolved w) it.on.number it.on.ready.quiet.resolved;
+        starts = done at_b.starts;
+        due =
+            subst (λ (y : View). DueRowsAreClosed (start y.start y.words) w.log began.number)
+            (sym it.on.went.same)
+            (due_went Rebuilds began.number b w it.ready.caller.mine it.on.went
+            (rebuilds_count_none began.number) at_b.due);
+      }
+
+  pub ended_pass_with : (r q : Option Full) → IsPassWith who r → (q ≡ None → r ≡ None)
+      → (q ≡ None → KeepsDone began new) → IsPassWith (record new { seat = seat }) q
+  ended_pass_with r q all old done =
+      record {
+        pass = ended_pass;
+        settled = λ unrefused.
+            subst (λ pairs. HasSettled pairs x.words x.log new.number) (sym x_view.start_is)
+            (subst (λ words. HasSettled w.start words x.log new.number) (sym x_view.words_is)
+            (settled_later w.start w.words w.log x.log (lawful_behind w x x_view) new.number
+            (subst (λ y. Later y w.log x.log) it.on.ready.caller.mine it.given.later)
+            (settled_w (done unrefused) (all.settled (old unrefused)))));
+      }
+
+  -- it has seen more
+  pub has_seen_more : (r q : Option Full) → seat.table ≡ who.seat.table
+      → HasSeenMore (pass_face who r) (face_as seat new.number q)
+  has_seen_more r q same =
+      let stamps = ap (λ (y : View). y.stamp) it.given.view
+      ∙ ap (λ (y : View). y.stamp) it.on.went.same ∙ ap (λ (y : View). y.stamp) it.begun.view in
+      record {
+        tree = trees same;
+        number = number_is;
+        seen = goes_on_more v_to_b (goes_on_more b_to_w w_to_x);
+        stamp = omega arith;
+      }
+    where
+      trees : seat.table ≡ who.seat.table
+          → (face_as seat new.number q).tree ≡ (pass_face who r).tree
+      trees e =
+          ap₂ (λ t pairs. record { table = t; start = pairs; words = x.words }) e x_start
+          ∙ ap (λ words. record { table = who.seat.table; start = v.start; words = words }) x_words
+
+  -- with the same calls
+  pub calls_are : x.calls ≡ v.calls
+  calls_are =
+      ap (λ (y : View). y.calls) it.given.view ∙ ap (λ (y : View). y.calls) it.on.went.same
+      ∙ ap (λ (y : View). y.calls) it.begun.view

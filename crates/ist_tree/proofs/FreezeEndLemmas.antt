@@ -1,0 +1,216 @@
+-- What a freeze answers, in the words of its pass. Serves `freeze`.
+use Rattle.std.proofs.Common.{◌≡◌, ℕ, ◌+◌, ◌<◌, ◌≤◌, ◌⊎◌, length, filter, Option, Some, None, IfSome, refl, sym, ap, ◌∙◌, subst, inl, inr, arith, length-append}
+use Rattle.std.specs.Option.{option_or}
+use Rattle.std.proofs.lemmas.List.Elements.{filter-append}
+use Rattle.ist_core.specs.declared.ports.Full.{Full}
+use Rattle.ist_core.specs.Changes.{Entry, changes_of}
+use Rattle.ist_core.specs.Lawful.{state_of}
+use Rattle.ist_core.specs.Rebuilding.{IsFinishedWith}
+use Rattle.ist_core.specs.RowLayout.{change_words, rebuild_words}
+use Rattle.ist_core.specs.Spending.{spent}
+use Rattle.ist_core.specs.StartLayout.{start}
+use Rattle.ist_finished.specs.Finishing.{is_put, puts_in}
+use Rattle.ist_finished.proofs.NumberLemmas.{finished_few}
+use Rattle.ist_histories.proofs.ChangeLemmas.{changes_on}
+use Rattle.ist_rebuild.specs.Helping.{IsAskedFor, for_change, for_row}
+use Rattle.ist_rule.specs.declared.view.View.{View}
+use Rattle.ist_rule.specs.Faces.{SeatFace}
+use Rattle.ist_rule.specs.Learning.{now}
+use Rattle.ist_rule.proofs.LaterLemmas.{goes_on_more}
+use Rattle.ist_rows.specs.declared.callers.Caller.{Caller}
+use Rattle.ist_tree.specs.declared.freezing.Frozen.{Frozen}
+use Rattle.ist_tree.specs.declared.freezing.Outcome.{Outcome}
+use Rattle.ist_tree.specs.FreezeSteps.{Freezes, IsStopped}
+use Rattle.ist_tree.specs.Calls.{HasSeenMore}
+use Rattle.ist_tree.specs.Faces.{PassFace}
+use Rattle.ist_tree.specs.Freezing.{HasFrozen, IsFreezeRefused, IsFrozen, IsFrozenFor, WasFrozen}
+use Rattle.ist_tree.specs.Insides.{IsPassWith, face_as, pass_face}
+use Rattle.ist_tree.specs.Refusals.{HadTooFew, IsForRebuild, IsRebuildRefused, KeepsRefusal}
+use Rattle.ist_tree.specs.Working.{IsAskedToRebuild, IsDueRefused, IsShort, for_help, for_start}
+use Rattle.ist_tree.proofs.FreezingLemmas.{was_frozen_on}
+use Rattle.ist_tree.proofs.FreezeCallLemmas.{IsWay}
+use Rattle.ist_tree.proofs.FreezeCallLemmas as way
+
+module _ (who began new : Caller) (seat : SeatFace) (it : IsWay who began new seat) where
+  abbrev v : View
+  v = who.seat.view
+
+  abbrev b : View
+  b = began.seat.view
+
+  abbrev w : View
+  w = new.seat.view
+
+  abbrev x : View
+  x = seat.view
+
+  -- ---- what it answers
+
+  pub has_frozen : (r q : Option Full) (frozen : Frozen)
+      → WasFrozen b.start b.words b.log w.log frozen
+      → HasFrozen (pass_face who r) (face_as seat new.number q) frozen
+  has_frozen r q frozen was =
+      let l = way.b_view who began new seat it in
+      was_frozen_on v.start v.words v.log b.log w.log x.log (way.lawful_x who began new seat it)
+      (way.v_to_b who began new seat it) (way.w_to_x who began new seat it) frozen
+      (subst (λ pairs. WasFrozen pairs v.words b.log w.log frozen) l.start_is
+      (subst (λ words. WasFrozen b.start words b.log w.log frozen) l.words_is was))
+
+  -- the tree is frozen by the table that the pass has then
+  pub frozen_for : (q : Option Full) (frozen : Frozen) → IsFrozen v.start v.words x.log frozen
+      → IsFrozenFor (face_as seat new.number q) frozen
+  frozen_for q frozen f =
+      subst (λ pairs. IsFrozen pairs x.words x.log frozen) (sym (way.x_start who began new seat it))
+      (subst (λ words. IsFrozen v.start words x.log frozen)
+      (sym (way.x_words who began new seat it)) f)
+
+  -- ---- refusals
+
+  had_too_few : (r q : Option Full) (words : ℕ) (full : Full) → words ≡ v.words
+      → IsShort w words full → HadTooFew (pass_face who r) (face_as seat new.number q) full
+  had_too_few r q words full same s =
+      record {
+        at = w.log;
+        since = goes_on_more (way.v_to_b who began new seat it) (way.b_to_w who began new seat it);
+        until = (way.w_to_x who began new seat it);
+        few = record {
+          next_is = s.next_is ∙ ap (λ pairs. spent pairs w.log) (way.w_start who began new seat it);
+          words_is = s.words_is ∙ same;
+          small = subst (λ n. n < full.next + full.asked) same s.small;
+        };
+      }
+
+  pub freeze_refused : (r q : Option Full) (words : ℕ) (full : Full) → words ≡ v.words
+      → IsShort w words full → (full.asked ≡ rebuild_words) ⊎ (full.asked ≡ change_words)
+      → IsFreezeRefused (pass_face who r) (face_as seat new.number q) full
+  freeze_refused r q words full same s asked =
+      record { had = had_too_few r q words full same s; asked = asked }
+
+  puts_rise : puts_in (changes_of v.start v.words w.log) ≤ puts_in (changes_of v.start v.words x.log)
+  puts_rise =
+      let on = changes_on (start v.start v.words) w.log x.log (way.w_to_x who began new seat it) in
+      let same = ap puts_in on.1
+      ∙ ap length (filter-append (λ (e : Entry). is_put e.command) (changes_of v.start v.words w.log) on.0)
+      ∙ length-append (filter (λ (e : Entry). is_put e.command) (changes_of v.start v.words w.log))
+      (filter (λ (e : Entry). is_put e.command) on.0) in
+      omega arith
+
+  -- what helping a rebuild took
+  asked_for_rebuild : (r q : Option Full) (rebuild asked : ℕ) → IsAskedFor (now w) rebuild asked
+      → IsForRebuild (face_as seat new.number q) asked
+  asked_for_rebuild r q rebuild asked (for_change e) = inl e
+  asked_for_rebuild r q rebuild asked (for_row row k some e fin least le is) =
+      let l = way.lawful_w who began new seat it in
+      let here = way.by_middle who began new seat it
+      (λ pairs words. IsFinishedWith (state_of pairs words w.log) row.target k) fin in
+      let most = finished_few v.start v.words l.opens w.log l.enabled row.target k here.row
+      here.published here.status in
+      let rise = puts_rise in
+      inr record {
+        keys = some;
+        least = least;
+        most =
+            subst (λ words. some ≤ length x.start + puts_in (changes_of x.start words x.log))
+            (sym (way.x_words who began new seat it))
+            (subst (λ pairs. some ≤ length pairs + puts_in (changes_of pairs v.words x.log))
+            (sym (way.x_start who began new seat it)) (omega arith));
+        asked_is = is;
+      }
+
+  rebuild_refused : (r q : Option Full) (words : ℕ) (full : Full) → words ≡ v.words
+      → IsDueRefused w words full
+      → IsRebuildRefused (pass_face who r) (face_as seat new.number q) full
+  rebuild_refused r q words full same d =
+      record {
+        had = had_too_few r q words full same d.short;
+        asked = asked d.asked;
+      }
+    where
+      asked : IsAskedToRebuild (now w) full.asked
+          → (full.asked ≡ rebuild_words) ⊎ IsForRebuild (face_as seat new.number q) full.asked
+      asked (for_start e) = inl e
+      asked (for_help rebuild a) = inr (asked_for_rebuild r q rebuild full.asked a)
+
+  -- the first refusal is kept
+  pub keeps_refusal : (r met : Option Full) (words : ℕ) → words ≡ v.words
+      → IfSome met (IsDueRefused w words)
+      → KeepsRefusal (pass_face who r) (face_as seat new.number (option_or r met))
+  keeps_refusal r met words same cause =
+      record {
+        stays = λ full e. ap (λ o. option_or o met) e;
+        cause = λ full e. from r met cause full e;
+      }
+    where
+      one : (a c : Full) → Some a ≡ Some c → a ≡ c
+      one a c e = cc
+
+      from : (o m : Option Full) → IfSome m (IsDueRefused w words) → (full : Full)
+          → option_or o m ≡ Some full
+          → (o ≡ Some full) ⊎ IsRebuildRefused (pass_face who r)
+          (face_as seat new.number (option_or r met)) full
+      from (Some first) m c full e = inl e
+      from None (Some other) c full e =
+          inr (rebuild_refused r (option_or r met) words full same
+          (subst (IsDueRefused w words) (one other full e) c))
+      from None None c full e = absurd (cc)
+
+-- ---- all of this together
+
+-- the freeze was answered
+pub record FreezeEnds (old : PassFace) (new : Caller) (seat : SeatFace) (q : Option Full)
+    (frozen : Frozen) : Type 0 where
+  pub pass : IsPassWith (record new { seat = seat }) q
+  pub seen : HasSeenMore old (face_as seat new.number q)
+  pub still : IsFrozenFor (face_as seat new.number q) frozen
+  pub pairs : HasFrozen old (face_as seat new.number q) frozen
+  pub calls : seat.view.calls ≡ old.calls
+  pub refused : KeepsRefusal old (face_as seat new.number q)
+
+pub freeze_ends : (who began new : Caller) (seat : SeatFace) (it : IsWay who began new seat)
+    (r q : Option Full) → IsPassWith who r → (words : ℕ) → words ≡ who.seat.view.words
+    → seat.table ≡ who.seat.table → (outcome : Outcome) → Freezes began new words outcome
+    → q ≡ option_or r outcome.refused → (old : PassFace) → pass_face who r ≡ old
+    → FreezeEnds old new seat q outcome.frozen
+freeze_ends who began new seat it r q all words same table outcome f is old view =
+    let had = has_frozen who began new seat it r (option_or r outcome.refused) outcome.frozen
+    f.frozen in
+    subst (λ (o : PassFace). FreezeEnds o new seat q outcome.frozen) view
+    (subst (λ o. FreezeEnds (pass_face who r) new seat o outcome.frozen) (sym is) record {
+      pass = way.ended_pass_with who began new seat it r (option_or r outcome.refused) all
+          (λ none. (both r outcome.refused none).0)
+          (λ none. f.done (both r outcome.refused none).1);
+      seen = way.has_seen_more who began new seat it r (option_or r outcome.refused) table;
+      still = frozen_for who began new seat it (option_or r outcome.refused) outcome.frozen
+          had.frozen_is;
+      pairs = had;
+      calls = way.calls_are who began new seat it;
+      refused = keeps_refusal who began new seat it r outcome.refused words same f.refused;
+    })
+  where
+    both : (a c : Option Full) → option_or a c ≡ None → (a ≡ None) × (c ≡ None)
+    both None c e = (refl, e)
+    both (Some full) c e = absurd (cc)
+
+-- it was refused
+pub record StopEnds (old : PassFace) (new : Caller) (seat : SeatFace) (r : Option Full) (full : Full)
+    : Type 0 where
+  pub pass : IsPassWith (record new { seat = seat }) r
+  pub seen : HasSeenMore old (face_as seat new.number r)
+  pub full_is : IsFreezeRefused old (face_as seat new.number r) full
+  pub calls : seat.view.calls ≡ old.calls
+  pub unrefused : r ≡ old.refused
+  pub refused : KeepsRefusal old (face_as seat new.number r)
+
+pub stop_ends : (who began new : Caller) (seat : SeatFace) (it : IsWay who began new seat)
+    (r : Option Full) → IsPassWith who r → (words : ℕ) → words ≡ who.seat.view.words
+    → seat.table ≡ who.seat.table → (full : Full) → IsStopped began new words full
+    → (old : PassFace) → pass_face who r ≡ old → StopEnds old new seat r full
+stop_ends who began new seat it r all words same table full s old view =
+    subst (λ (o : PassFace). StopEnds o new seat r full) view record {
+      pass = way.ended_pass_with who began new seat it r r all (λ none. none) (λ none. s.done);
+      seen = way.has_seen_more who began new seat it r r table;
+      full_is = freeze_refused who began new seat it r r words full same s.short s.asked;
+      calls = way.calls_are who began new seat it;
+      unrefused = refl;
+      refused = record { stays = λ first e. e; cause = λ first e. inl e };
+    }

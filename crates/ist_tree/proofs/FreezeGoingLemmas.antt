@@ -1,0 +1,201 @@
+-- A caller that looks below the anchor, and what it has met there over further steps. Serves the
+-- functions that freeze a tree.
+use Rattle.std.proofs.Common.{◌≡◌, ◌≢◌, ℕ, List, Option, Some, None, Result, Ok, Err, IfOk, IfErr, refl, sym, ap, subst, inr}
+use Rattle.ist_core.specs.declared.events.Event.{Event}
+use Rattle.ist_core.specs.declared.pairs.Pair.{Pair}
+use Rattle.ist_core.specs.declared.ports.Full.{Full}
+use Rattle.ist_core.specs.Lawful.{Lawful, state_of}
+use Rattle.ist_core.specs.Links.{IsChild}
+use Rattle.ist_core.specs.Logs.{Log, same_log}
+use Rattle.ist_core.specs.Rebuilding.{IsFinishedWith}
+use Rattle.ist_core.specs.RowLayout.{anchor}
+use Rattle.ist_links.proofs.FinishedLemmas.{target_grows}
+use Rattle.ist_links.proofs.FormLemmas.{started_grows}
+use Rattle.ist_rebuild.specs.Going.{Begins}
+use Rattle.ist_rebuild.specs.Starting.{IsStartedAt, IsStartRefused, StartsAreDoneBut}
+use Rattle.ist_rule.specs.declared.view.View.{View}
+use Rattle.ist_rule.specs.Going.{WentOn}
+use Rattle.ist_rule.specs.Learning.{now}
+use Rattle.ist_rule.proofs.LaterLemmas.{goes_on_more}
+use Rattle.ist_rule.proofs.WentOnLemmas.{later_by-goes_on, went_grow, went_lawful, went_now}
+use Rattle.ist_rows.specs.declared.callers.Caller.{Caller}
+use Rattle.ist_settling.specs.Settling.{StartsAreDone}
+use Rattle.ist_tree.specs.declared.freezing.Frozen.{Frozen}
+use Rattle.ist_tree.specs.declared.freezing.Outcome.{Outcome}
+use Rattle.ist_tree.specs.declared.freezing.Site.{Site}
+use Rattle.ist_tree.specs.declared.freezing.Site.TheVariants.{Rebuilt, Still}
+use Rattle.ist_tree.specs.Freezing.{WasFrozen}
+use Rattle.ist_tree.specs.FreezeSteps.{Freezes, FreezesTarget, HasMet, IsRebuildOf, IsSite, IsStopped, KeepsDoneBut, MayHaveMet, WasTop, rebuild_in}
+use Rattle.ist_tree.specs.Working.{KeepsDone, Rebuilds, RebuildsOn}
+use Rattle.ist_tree.proofs.DueLemmas.{done_more}
+use Rattle.ist_tree.proofs.FreezingLemmas.{row_was_frozen, was_frozen_on}
+use Rattle.ist_tree.proofs.RebuildLemmas.{rebuilds_more, short_now}
+
+-- ---- one table
+
+-- what is so by the table of a view that went on is so by that of the first
+pub by_table : (P : Event → Type 0) (v w : View) → WentOn P v w → (Q : List Pair → ℕ → Type 0)
+    → Q w.start w.words → Q v.start v.words
+by_table P v w g Q h =
+    subst (λ pairs. Q pairs v.words) (ap (λ (x : View). x.start) g.same)
+    (subst (λ words. Q w.start words) (ap (λ (x : View). x.words) g.same) h)
+
+-- ---- what was met
+
+-- a row that was the anchor's child since the second view was so since the first
+pub top_more : (P : Event → Type 0) (u v : View) (log : Log) → WentOn P u v → (target : ℕ)
+    → WasTop v log target → WasTop u log target
+top_more P u v log g target t =
+    record {
+      at = t.at;
+      since = goes_on_more (later_by-goes_on g.later) t.since;
+      until = t.until;
+      child = by_table P u v g (λ pairs words. IsChild (state_of pairs words t.at) anchor 0 target)
+          t.child;
+    }
+
+-- what was frozen since the second view was frozen since the first
+pub frozen_more : (P : Event → Type 0) (u v : View) (log : Log) → WentOn P u v → (frozen : Frozen)
+    → Lawful v.start v.words log → WasFrozen v.start v.words v.log log frozen
+    → WasFrozen u.start u.words u.log log frozen
+frozen_more P u v log g frozen l w =
+    by_table P u v g (λ pairs words. WasFrozen pairs words u.log log frozen)
+    (was_frozen_on v.start v.words u.log v.log log log l (later_by-goes_on g.later) same_log frozen w)
+
+-- starts that were done but for one are so still, seen from an earlier caller
+pub but_more : (a b c : Caller) (o : Option ℕ) → b.number ≡ a.number → KeepsDone a b
+    → KeepsDoneBut b c o → KeepsDoneBut a c o
+but_more a b c None number one two = done_more a b c number one two
+but_more a b c (Some rebuild) number one two =
+    λ done.
+    subst (λ n. StartsAreDoneBut (now c.seat.view) n rebuild) number
+    (two (subst (StartsAreDone (now b.seat.view)) (sym number) (one done)))
+
+-- where all are done, all but one are
+pub all_but : (a c : Caller) (rebuild : ℕ) → KeepsDone a c → KeepsDoneBut a c (Some rebuild)
+all_but a c rebuild done =
+    λ was base change e own kind said other to. inr (done was base change e own kind said other to)
+
+pub met_more : (a b c : Caller) (site : Site) → RebuildsOn a b → KeepsDone a b → HasMet b c site
+    → HasMet a c site
+met_more a b c site on done m =
+    record {
+      on = rebuilds_more a b c on m.on;
+      is = here site m.is;
+      done = but_more a b c (rebuild_in site) on.number done m.done;
+    }
+  where
+    lawful : Lawful b.seat.view.start b.seat.view.words c.seat.view.log
+    lawful = went_lawful Rebuilds b.seat.view c.seat.view m.on.went
+
+    here : (s : Site) → IsSite b.seat.view c.seat.view s → IsSite a.seat.view c.seat.view s
+    here (Still frozen) w =
+        frozen_more Rebuilds a.seat.view b.seat.view c.seat.view.log on.went frozen lawful w
+    here (Rebuilt rebuild target) w =
+        (w.0, top_more Rebuilds a.seat.view b.seat.view c.seat.view.log on.went target w.1)
+
+pub may_have_met_more : (a b c : Caller) (o : Option Site) → RebuildsOn a b → KeepsDone a b
+    → MayHaveMet b c o → MayHaveMet a c o
+may_have_met_more a b c (Some site) on done m = met_more a b c site on done m
+may_have_met_more a b c None on done m =
+    (rebuilds_more a b c on m.0, done_more a b c on.number done m.1)
+
+-- ---- refusals
+
+pub stopped_more : (a b c : Caller) (words : ℕ) (full : Full) → RebuildsOn a b → KeepsDone a b
+    → IsStopped b c words full → IsStopped a c words full
+stopped_more a b c words full on done s =
+    record {
+      on = rebuilds_more a b c on s.on;
+      done = done_more a b c on.number done s.done;
+      short = s.short;
+      asked = s.asked;
+    }
+
+-- a start was refused
+pub start_stopped : (old new : Caller) (words : ℕ) (full : Full) → RebuildsOn old new
+    → KeepsDone old new → IsStartRefused old.seat.view words full new.seat.view
+    → IsStopped old new words full
+start_stopped old new words full on done r =
+    record {
+      on = on;
+      done = done;
+      short = short_now Begins old.seat.view words full new.seat.view r.short;
+      asked = r.asked;
+    }
+
+-- ---- a rebuild
+
+-- one of this target is so still
+pub rebuild_on : (P : Event → Type 0) (v w : View) → WentOn P v w → (rebuild target : ℕ)
+    → IsRebuildOf (now v) rebuild target → IsRebuildOf (now w) rebuild target
+rebuild_on P v w g rebuild target r =
+    let grow = went_grow P v w g in
+    record {
+      started = started_grows (now v) (now w) grow rebuild r.started;
+      target_is = target_grows (now v) (now w) grow rebuild target r.target_is;
+    }
+
+-- the one that was started
+pub begun_of : (t : View) (rebuild index target : ℕ) → IsStartedAt (now t) rebuild anchor index target
+    → IsRebuildOf (now t) rebuild target
+begun_of t rebuild index target s =
+    record {
+      started = s.started;
+      target_is = record { row = s.row; published = s.published; target_is = s.target_is };
+    }
+
+-- ---- the tree was frozen
+
+-- the target of a rebuild that was met, and finished
+pub target_frozen : (a b c : Caller) (words rebuild target : ℕ) (outcome : Outcome)
+    → HasMet a b (Rebuilt rebuild target) → FreezesTarget b c words rebuild target outcome
+    → Freezes a c words outcome
+target_frozen a b c words rebuild target outcome m f =
+    record {
+      on = all;
+      frozen = was_frozen_on v.start v.words v.log m.is.1.at w.log w.log lawful m.is.1.since same_log
+          outcome.frozen
+          (row_was_frozen v.start v.words m.is.1.at w.log lawful
+          (goes_on_more m.is.1.until (later_by-goes_on f.on.went.later)) outcome.frozen target
+          m.is.1.child f.root_is
+          (subst (λ t. IsFinishedWith t target outcome.frozen.keys) (went_now Rebuilds v w all.went)
+          f.finished));
+      done = λ unrefused done.
+          subst (StartsAreDone (now w)) m.on.number
+          (f.done unrefused
+          (subst (λ n. StartsAreDoneBut (now b.seat.view) n rebuild) (sym m.on.number) (m.done done)));
+      refused = f.refused;
+    }
+  where
+    v : View
+    v = a.seat.view
+
+    w : View
+    w = c.seat.view
+
+    all : RebuildsOn a c
+    all = rebuilds_more a b c m.on f.on
+
+    lawful : Lawful v.start v.words w.log
+    lawful = went_lawful Rebuilds v w all.went
+
+-- ---- answers
+
+-- what is so of an answer may be said in other words
+pub ok_map : {A : Type 0} (P Q : A → Type 0) (answer : Result A Full) → ((a : A) → P a → Q a)
+    → IfOk answer P → IfOk answer Q
+ok_map P Q (Ok a) all h = all a h
+ok_map P Q (Err full) all h = tt
+
+-- and so of a refusal
+pub err_map : {A : Type 0} (P Q : Full → Type 0) (answer : Result A Full)
+    → ((full : Full) → P full → Q full) → IfErr answer P → IfErr answer Q
+err_map P Q (Ok a) all h = tt
+err_map P Q (Err full) all h = all full h
+
+-- where no site was met, the caller has gone on
+pub none_met : (old new : Caller) (o : Option Site) → ((site : Site) → o ≢ Some site)
+    → MayHaveMet old new o → RebuildsOn old new × KeepsDone old new
+none_met old new (Some site) other m = absurd (other site refl)
+none_met old new None other m = m

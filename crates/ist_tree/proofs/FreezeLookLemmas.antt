@@ -1,0 +1,218 @@
+-- What stands below the anchor: by the word in its slot. Serves `look` and what it calls.
+use Rattle.std.proofs.Common.{◌≡◌, ℕ, Some, refl, sym, ap, ◌∙◌, subst, inr}
+use Rattle.ist_core.specs.declared.states.RebuildRow.{RebuildRow}
+use Rattle.ist_core.specs.Links.{Linked, at_anchor}
+use Rattle.ist_core.specs.Logs.{same_log}
+use Rattle.ist_core.specs.Marking.{HasTarget}
+use Rattle.ist_core.specs.Rebuilding.{IsStarted}
+use Rattle.ist_core.specs.References.{ChangeAt, InnerAt, LeafAt, RebuildAt, Ref, ref_of}
+use Rattle.ist_core.specs.RowLayout.{anchor}
+use Rattle.ist_core.specs.Slots.{SlotHolds, in_anchor, in_row, logical, past_change, past_rebuild, rebuild_reads}
+use Rattle.ist_core.specs.StartLayout.{start}
+use Rattle.ist_core.proofs.DrawLemmas.{same_rebuild}
+use Rattle.ist_core.proofs.GrowingLemmas.{rebuild_there}
+use Rattle.ist_core.proofs.NamingLemmas.{SlotNames, slot_names}
+use Rattle.ist_core.proofs.OrderLemmas.{names}
+use Rattle.ist_core.proofs.PlaceLemmas.{anchor_free}
+use Rattle.ist_core.proofs.ReferenceLemmas.{word_of-ref_of}
+use Rattle.ist_core.proofs.SlotLemmas.{no_row}
+use Rattle.ist_find.specs.Searches.{SeesChange}
+use Rattle.ist_layout.specs.Meanings.{ref_meant}
+use Rattle.ist_links.proofs.FormLemmas.{started_grows}
+use Rattle.ist_rebuild.specs.Starting.{MayStart}
+use Rattle.ist_rebuild.proofs.SiteLemmas.{started_rebuild}
+use Rattle.ist_settling.proofs.ReadLemmas.{read_started}
+use Rattle.ist_rule.specs.declared.view.View.{View}
+use Rattle.ist_rule.specs.Faces.{SeatFace}
+use Rattle.ist_rule.specs.Going.{WentOn}
+use Rattle.ist_rule.specs.Learning.{GoesOnTo, now}
+use Rattle.ist_rule.specs.Rule.{IsSound}
+use Rattle.ist_rule.proofs.LaterLemmas.{goes_on_more, later-goes_on}
+use Rattle.ist_rule.proofs.WentOnLemmas.{goes_on_grow, goes_on_went, later_by-goes_on}
+use Rattle.ist_rows.specs.declared.callers.Caller.{Caller}
+use Rattle.ist_tree.specs.declared.freezing.Frozen.{Frozen}
+use Rattle.ist_tree.specs.declared.freezing.Site.TheVariants.{Rebuilt, Still}
+use Rattle.ist_tree.specs.Freezing.{IsStill, WasFrozen, all_keys, no_key, one_key}
+use Rattle.ist_tree.specs.FreezeSteps.{HasBegun, HasMet, WasTop}
+use Rattle.ist_tree.specs.Working.{IsReady, KeepsDone, RebuildsOn}
+use Rattle.ist_tree.proofs.CameLemmas.{ever_here}
+use Rattle.ist_tree.proofs.FreezeGoingLemmas.{all_but, frozen_more}
+use Rattle.ist_tree.proofs.FreezingLemmas.{top_was_frozen}
+use Rattle.ist_tree.proofs.RebuildLemmas.{load_plain, plain_done, plain_on}
+
+module _ (v : View) (s : IsSound v) (word : ℕ) (holds : SlotHolds (now v) anchor 0 word) where
+  -- the word is that of the anchor's slot
+  anchor_is : (now v).anchor ≡ word
+  anchor_is = at holds
+    where
+      at : SlotHolds (now v) anchor 0 word → (now v).anchor ≡ word
+      at (in_anchor a b e) = e
+      at (in_row r p g) =
+          absurd (no_row (now v).pieces anchor r
+          (anchor_free v.start v.words v.log s.lawful.enabled) refl p)
+
+  -- a row that it reads as is the anchor's child
+  child_top : (target : ℕ) → logical (now v).pieces word ≡ Some (InnerAt target)
+      → WasTop v v.log target
+  child_top target reads =
+      record {
+        at = v.log;
+        since = same_log;
+        until = same_log;
+        child = record { word = word; holds = holds; reads = reads };
+      }
+
+  -- ---- an inner row
+
+  pub row_top : (target : ℕ) → ref_of word ≡ Some (InnerAt target) → WasTop v v.log target
+  row_top target is =
+      child_top target (ap (λ o. past_rebuild (now v).pieces (past_change (now v).pieces o)) is)
+
+  pub row_may_start : (target : ℕ) → ref_of word ≡ Some (InnerAt target) → MayStart v anchor 0 target
+  row_may_start target is =
+      let named = subst (SlotNames (now v).pieces anchor 0) is
+      (slot_names (now v) anchor 0 word (names v.start v.words s.lawful.opens v.log s.lawful.enabled)
+      holds) in
+      record {
+        prefix = v.log;
+        goes_on = same_log;
+        stood = subst (SlotHolds (now v) anchor 0)
+            (sym (word_of-ref_of word (InnerAt target) is).same_word) holds;
+        linked = ever_here (start v.start v.words) (λ t. Linked t anchor) v.log at_anchor;
+        row = named.1.0;
+        published = named.1.1;
+        due = inr refl;
+      }
+
+  -- ---- a rebuild
+
+  pub rebuild_started : (rebuild : ℕ) → ref_of word ≡ Some (RebuildAt rebuild)
+      → IsStarted (now v) rebuild
+  rebuild_started rebuild is =
+      read_started v.start v.words s.lawful.opens v.log s.lawful.enabled anchor 0 rebuild
+      record { word = word; holds = holds; reads = ap (past_change (now v).pieces) is }
+
+  pub rebuild_top : (rebuild : ℕ) → ref_of word ≡ Some (RebuildAt rebuild) → (target : ℕ)
+      → HasTarget (now v) rebuild target → WasTop v v.log target
+  rebuild_top rebuild is target h =
+      child_top target
+      (ap (λ o. past_rebuild (now v).pieces (past_change (now v).pieces o)) is
+      ∙ ap rebuild_reads h.published ∙ ap (λ n. Some (InnerAt n)) h.target_is)
+
+  -- ---- a change
+
+  pub change_seen : (base : ℕ) → ref_of word ≡ Some (ChangeAt base) → SeesChange v base
+  change_seen base is =
+      let named = subst (SlotNames (now v).pieces anchor 0) is
+      (slot_names (now v) anchor 0 word (names v.start v.words s.lawful.opens v.log s.lawful.enabled)
+      holds) in
+      record { row = named.row; published = named.published }
+
+  -- ---- nothing, or a leaf
+
+  still_reads : (ref : Ref) (keys : ℕ) → IsStill (now v) ref keys → ref_of word ≡ Some ref
+      → logical (now v).pieces (now v).anchor ≡ Some ref
+  still_reads _ _ no_key is =
+      ap (logical (now v).pieces) anchor_is
+      ∙ ap (λ o. past_rebuild (now v).pieces (past_change (now v).pieces o)) is
+  still_reads _ _ (one_key base row e) is =
+      ap (logical (now v).pieces) anchor_is
+      ∙ ap (λ o. past_rebuild (now v).pieces (past_change (now v).pieces o)) is
+  still_reads _ _ (all_keys base keys f) is =
+      ap (logical (now v).pieces) anchor_is
+      ∙ ap (λ o. past_rebuild (now v).pieces (past_change (now v).pieces o)) is
+
+  pub still_top : (frozen : Frozen) → ref_of word ≡ Some (ref_meant frozen.root)
+      → IsStill (now v) (ref_meant frozen.root) frozen.keys
+      → WasFrozen v.start v.words v.log v.log frozen
+  still_top frozen is still =
+      top_was_frozen v.start v.words v.log s.lawful frozen
+      (still_reads (ref_meant frozen.root) frozen.keys still is) still
+
+  pub leaf_still : (base : ℕ) → ref_of word ≡ Some (LeafAt base) → IsStill (now v) (LeafAt base) 1
+  leaf_still base is =
+      let named = subst (SlotNames (now v).pieces anchor 0) is
+      (slot_names (now v) anchor 0 word (names v.start v.words s.lawful.opens v.log s.lawful.enabled)
+      holds) in
+      one_key base named.0 named.1
+
+-- a caller that looked goes on, and has met such a tree
+module _ (who : Caller) (seat : SeatFace) (ready : IsReady who)
+    (seen : GoesOnTo who.seat.view seat.view) where
+  went : WentOn (λ event. ⊥) who.seat.view seat.view
+  went = goes_on_went (λ event. ⊥) who.seat.view seat.view seen
+
+  pub looked_on : RebuildsOn who (record who { seat = seat })
+  looked_on = plain_on (λ event. ⊥) load_plain who seat ready went
+
+  pub looked_done : KeepsDone who (record who { seat = seat })
+  looked_done = plain_done (λ event. ⊥) load_plain who seat ready went
+
+  pub looked_still : (frozen : Frozen)
+      → WasFrozen seat.view.start seat.view.words seat.view.log seat.view.log frozen
+      → HasMet who (record who { seat = seat }) (Still frozen)
+  looked_still frozen was =
+      record {
+        on = looked_on;
+        is = frozen_more (λ event. ⊥) who.seat.view seat.view seat.view.log went frozen
+            seen.sound.lawful was;
+        done = looked_done;
+      }
+
+-- ---- rebuilds that were met
+
+-- one that was started
+pub begun_met : (old new : Caller) (target rebuild : ℕ)
+    → WasTop old.seat.view old.seat.view.log target → HasBegun old new target (Some rebuild)
+    → HasMet old new (Rebuilt rebuild target)
+begun_met old new target rebuild top b =
+    record {
+      on = b.0;
+      is = (
+        b.1,
+        record {
+          at = top.at;
+          since = top.since;
+          until = goes_on_more top.until (later_by-goes_on b.0.went.later);
+          child = top.child;
+        },
+      );
+      done = b.2;
+    }
+
+-- one that stood there
+pub stood_met : (who : Caller) (seat : SeatFace) (rebuild target : ℕ) → IsSound who.seat.view
+    → IsReady who → GoesOnTo who.seat.view seat.view → IsStarted (now who.seat.view) rebuild
+    → HasTarget (now seat.view) rebuild target
+    → ((n : ℕ) → HasTarget (now who.seat.view) rebuild n
+    → WasTop who.seat.view who.seat.view.log n)
+    → HasMet who (record who { seat = seat }) (Rebuilt rebuild target)
+stood_met who seat rebuild target s ready seen started h top =
+    let v = who.seat.view in
+    let w = seat.view in
+    let went = goes_on_went (λ event. ⊥) v w seen in
+    let grow = goes_on_grow v w seen in
+    let row = started_rebuild v s rebuild started in
+    let later = rebuild_there (now v).pieces (now w).pieces grow rebuild row.row row.published in
+    let one = same_rebuild ((now w).pieces rebuild) later.0 h.row later.1 h.published in
+    let target_was : HasTarget (now v) rebuild target =
+    record {
+      row = row.row;
+      published = row.published;
+      target_is = sym later.2.target ∙ ap (λ (x : RebuildRow). x.target) one ∙ h.target_is;
+    } in
+    let was = top target target_was in
+    record {
+      on = plain_on (λ event. ⊥) load_plain who seat ready went;
+      is = (
+        record { started = started_grows (now v) (now w) grow rebuild started; target_is = h },
+        record {
+          at = was.at;
+          since = was.since;
+          until = goes_on_more was.until (later-goes_on seen.later);
+          child = was.child;
+        },
+      );
+      done = all_but who (record who { seat = seat }) rebuild
+          (plain_done (λ event. ⊥) load_plain who seat ready went);
+    }

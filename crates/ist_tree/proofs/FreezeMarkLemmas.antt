@@ -1,0 +1,94 @@
+-- Marking the target of a rebuild, and then helping the rebuild. Serves `freeze_target`.
+use Rattle.std.proofs.Common.{◌≡◌, ℕ, ◌⊎◌, Option, None, Result, Ok, Err, IfSome, IfErr, refl, sym, ◌∙◌, subst}
+use Rattle.std.specs.Result.{result_err}
+use Rattle.ist_core.specs.declared.events.Event.{Event}
+use Rattle.ist_core.specs.declared.ports.Full.{Full}
+use Rattle.ist_core.specs.Marking.{as_target}
+use Rattle.ist_core.specs.Rebuilding.{IsFinishedWith, IsReplaced}
+use Rattle.ist_links.proofs.FormLemmas.{finished_with_grows}
+use Rattle.ist_mark.specs.Marking.{MayMark, Marks}
+use Rattle.ist_mark.proofs.SubtreeLemmas.{marks_keep}
+use Rattle.ist_rebuild.specs.declared.answers.Helped.{Helped}
+use Rattle.ist_rebuild.specs.declared.answers.Helped.TheVariants.{ParentMarked, Replaced}
+use Rattle.ist_rebuild.specs.Going.{Serves}
+use Rattle.ist_rebuild.specs.Helping.{IsHelpRefused, IsLeftToParent}
+use Rattle.ist_rebuild.proofs.EventLemmas.{keeping_installs_none, marks_serve}
+use Rattle.ist_rule.specs.declared.view.View.{View}
+use Rattle.ist_rule.specs.Faces.{SeatFace}
+use Rattle.ist_rule.specs.Going.{WentOn}
+use Rattle.ist_rule.specs.Learning.{now}
+use Rattle.ist_rule.proofs.WentOnLemmas.{went_all, went_grow, went_more}
+use Rattle.ist_rows.specs.declared.callers.Caller.{Caller}
+use Rattle.ist_tree.specs.FreezeSteps.{FreezesTarget, IsRebuildOf}
+use Rattle.ist_tree.specs.Working.{IsDueRefused, IsReady, RebuildsOn}
+use Rattle.ist_tree.proofs.DueLemmas.{helped_either}
+use Rattle.ist_tree.proofs.EventLemmas.{IsPlainHelp, serves_rebuild}
+use Rattle.ist_tree.proofs.RebuildLemmas.{all_done, help_refused, plain_on, rebuilds_more}
+use Rattle.ist_layout.specs.declared.references.Ref.TheVariants as layout
+
+-- a step of marking installs nothing and leaves all rows
+pub marks_plain : (v : View) (node : ℕ) (event : Event) → Marks v node event → IsPlainHelp event
+marks_plain v node event is =
+    let keeps = marks_keep v node event is in
+    record {
+      rebuilds = serves_rebuild event (marks_serve v node event is);
+      keeps = keeps;
+      installs = keeping_installs_none event keeps;
+    }
+
+-- the target of a started rebuild may be marked
+pub target_may_mark : (who : Caller) (rebuild target : ℕ) → IsReady who
+    → IsRebuildOf (now who.seat.view) rebuild target → MayMark who.seat.view target
+target_may_mark who rebuild target ready r =
+    record {
+      number = who.number;
+      mine = ready.caller.mine;
+      called = as_target rebuild r.target_is r.started;
+    }
+
+-- a caller that marked it goes on
+pub marked : (old : Caller) (seat : SeatFace) (target : ℕ) → IsReady old
+    → WentOn (Marks seat.view target) old.seat.view seat.view
+    → RebuildsOn old (record old { seat = seat })
+marked old seat target ready went =
+    plain_on (Marks seat.view target) (marks_plain seat.view target) old seat ready went
+
+-- the target is finished, and its rebuild was helped
+pub target_froze : (old : Caller) (seat : SeatFace) (new : Caller) (words rebuild target keys : ℕ)
+    → IsReady old → WentOn (Marks seat.view target) old.seat.view seat.view
+    → IsFinishedWith (now seat.view) target keys → RebuildsOn (record old { seat = seat }) new
+    → WentOn Serves seat.view new.seat.view → (answer : Result Helped Full)
+    → (refused : Option Full) → refused ≡ result_err answer
+    → (answer ≡ Ok Replaced → IsReplaced (now new.seat.view) rebuild)
+    → (answer ≡ Ok ParentMarked → IsLeftToParent (now new.seat.view) rebuild)
+    → IfErr answer (λ full. IsHelpRefused seat.view rebuild words full new.seat.view)
+    → FreezesTarget old new words rebuild target
+    record { frozen = record { root = layout.Inner target; keys = keys }; refused = refused }
+target_froze old seat new words rebuild target keys ready went f on serves answer refused is replaced
+    left full =
+    record {
+      on = rebuilds_more old (record old { seat = seat }) new (marked old seat target ready went) on;
+      root_is = refl;
+      finished = finished_with_grows (now seat.view) (now new.seat.view)
+          (went_grow Serves seat.view new.seat.view serves) target keys f;
+      done = λ unrefused but.
+          all_done old.number old.seat.view new.seat.view ready.caller.mine ready.quiet.resolved
+          (went_more Serves old.seat.view seat.view new.seat.view
+          (went_all (Marks seat.view target) Serves (marks_serve seat.view target) old.seat.view
+          seat.view went) serves)
+          rebuild but (helped answer refl (sym is ∙ unrefused));
+      refused = subst (λ o. IfSome o (IsDueRefused new.seat.view words)) (sym is)
+          (cause answer full);
+    }
+  where
+    helped : (r : Result Helped Full) → answer ≡ r → result_err r ≡ None
+        → IsReplaced (now new.seat.view) rebuild ⊎ IsLeftToParent (now new.seat.view) rebuild
+    helped (Ok h) e none =
+        helped_either h (now new.seat.view) rebuild (λ k. replaced (e ∙ k)) (λ k. left (e ∙ k))
+    helped (Err full) e none = absurd (cc)
+
+    cause : (r : Result Helped Full)
+        → IfErr r (λ full. IsHelpRefused seat.view rebuild words full new.seat.view)
+        → IfSome (result_err r) (IsDueRefused new.seat.view words)
+    cause (Ok h) k = tt
+    cause (Err full) k = help_refused seat.view rebuild words full new.seat.view k

@@ -1,0 +1,223 @@
+-- Which leaf of a frozen tree has a number, and which pair it has. Serves `frozen_pair`.
+use Rattle.std.proofs.Common.{◌≡◌, ◌≢◌, ℕ, ◌+◌, ◌<◌, List, [], ◌∷◌, map, slice_get, Option, Some, refl, sym, ap, ap₂, ◌∙◌, subst, zero, suc, arith}
+use Rattle.std.specs.Option.{option_map}
+use Rattle.std.specs.List.Sorted.{IsStrictlyIncreasing}
+use Rattle.std.proofs.lemmas.Option.{slice_get-map}
+use Rattle.ist_core.specs.declared.pairs.Pair.{Pair}
+use Rattle.ist_core.specs.declared.ports.Full.{Full}
+use Rattle.ist_core.specs.declared.states.LeafRow.{LeafRow}
+use Rattle.ist_core.specs.Elements.{Each}
+use Rattle.ist_core.specs.Leaves.{HasLeaves, PlacedLeaf, leaf_here, pair_of}
+use Rattle.ist_core.specs.Pieces.{Leaf}
+use Rattle.ist_core.specs.References.{InnerAt, LeafAt, Ref}
+use Rattle.ist_core.specs.Snapshots.{Snapshot}
+use Rattle.ist_core.proofs.GrowingLemmas.{leaf_there}
+use Rattle.ist_core.proofs.LeafLemmas.{same_leaves}
+use Rattle.ist_build.specs.Calls.{IsLeafOf}
+use Rattle.ist_dcss.proofs.FieldLemmas.{looked_row}
+use Rattle.ist_find.specs.Searches.{SeesLeaf}
+use Rattle.ist_find.proofs.ReadLemmas.{leaf_on}
+use Rattle.ist_layout.specs.Meanings.{ref_meant}
+use Rattle.ist_layout.specs.declared.references.Ref as layouts
+use Rattle.ist_layout.specs.declared.references.Ref.TheVariants.{Change, Empty, Inner, Leaf as LeafRef, Rebuild, Unset}
+use Rattle.ist_rebuilds.proofs.FewLeafLemmas.{leaves_stand}
+use Rattle.ist_rule.specs.declared.view.View.{View}
+use Rattle.ist_rule.specs.Faces.{SeatFace}
+use Rattle.ist_rule.specs.Learning.{GoesOnTo, Looked, now}
+use Rattle.ist_rule.specs.Rule.{IsSound}
+use Rattle.ist_rule.proofs.GoingOnLemmas.{looked_goes_on}
+use Rattle.ist_rule.proofs.LaterLemmas.{later-goes_on}
+use Rattle.ist_rule.proofs.WentOnLemmas.{goes_on_grow}
+use Rattle.ist_rows.specs.declared.callers.Caller.{Caller}
+use Rattle.ist_tree.specs.declared.freezing.Frozen.{Frozen}
+use Rattle.ist_tree.specs.Calls.{HasSeenMore}
+use Rattle.ist_tree.specs.Faces.{PassFace}
+use Rattle.ist_tree.specs.Freezing.{IsFrozenFor, IsPairAt, IsStill, all_keys, no_key, one_key}
+use Rattle.ist_tree.specs.FreezeSteps.{IsLeafNumber, IsPairOf}
+use Rattle.ist_tree.specs.Insides.{IsPassWith, face_as, pass_face}
+use Rattle.ist_tree.proofs.FreezingLemmas.{pairs_rise, still_leaves, still_stays}
+use Rattle.ist_tree.proofs.GoingLemmas.{IsLaterView, pass_with_later}
+
+-- ---- the leaf
+
+-- that of a row's leaves
+pub leaf_numbered : (v : View) → IsSound v → (ref : Ref) (keys target i base : ℕ) (found : Ref)
+    → IsStill (now v) ref keys → ref ≡ InnerAt target
+    → ((leaves : List PlacedLeaf) → HasLeaves (now v).pieces (Some (InnerAt target)) leaves
+    → IsLeafOf leaves i found)
+    → ((b : ℕ) → found ≡ LeafAt b → base ≡ b) → IsLeafNumber (now v) ref i base
+leaf_numbered v s ref keys target i base found still is told based =
+    let all = still_leaves v.start v.words v.log s.lawful ref keys still in
+    let it = told all.leaves (subst (λ r. HasLeaves (now v).pieces (Some r) all.leaves) is all.below)
+    in
+    record {
+      leaves = all.leaves;
+      reached = all.below;
+      leaf = it.leaf;
+      there = it.there;
+      base_is = sym (based it.leaf.base it.ref_is);
+    }
+
+-- only an inner row means one
+inner_meant : (root : layouts.Ref) (base : ℕ) → ref_meant root ≡ InnerAt base → root ≡ Inner base
+inner_meant Empty base e = absurd (cc)
+inner_meant Unset base e = absurd (cc)
+inner_meant (LeafRef other) base e = absurd (cc)
+inner_meant (Inner other) base e = ap Inner (same other base e)
+  where
+    same : (a b : ℕ) → InnerAt a ≡ InnerAt b → a ≡ b
+    same a b e = cc
+inner_meant (Change other) base e = absurd (cc)
+inner_meant (Rebuild other) base e = absurd (cc)
+
+-- that of a leaf alone
+pub leaf_itself : (t : Snapshot) (root : layouts.Ref) (keys i base : ℕ)
+    → IsStill t (ref_meant root) keys → i < keys → ((b : ℕ) → root ≢ Inner b)
+    → ((b : ℕ) → ref_meant root ≡ LeafAt b → base ≡ b) → IsLeafNumber t (ref_meant root) i base
+leaf_itself t root keys i base still less other based = at (ref_meant root) keys still less refl
+  where
+    first : (leaf : PlacedLeaf) (n : ℕ) → n < 1 → slice_get (leaf ∷ []) n ≡ Some leaf
+    first leaf zero low = refl
+    first leaf (suc n) low = absurd (omega arith)
+
+    at : (ref : Ref) (k : ℕ) → IsStill t ref k → i < k → ref_meant root ≡ ref
+        → IsLeafNumber t ref i base
+    at _ _ no_key low e = absurd (omega arith)
+    at _ _ (one_key b row p) low e =
+        record {
+          leaves = record { base = b; row = row } ∷ [];
+          reached = leaf_here row p;
+          leaf = record { base = b; row = row };
+          there = first record { base = b; row = row } i low;
+          base_is = sym (based b e);
+        }
+    at _ _ (all_keys b k f) low e = absurd (other b (inner_meant root b e))
+
+same_leaf : (x y : PlacedLeaf) → Some x ≡ Some y → x ≡ y
+same_leaf x y e = cc
+
+-- what is true of each leaf is true of that at a place
+leaf_at_place : (P : PlacedLeaf → Type 0) (leaves : List PlacedLeaf) (i : ℕ) (leaf : PlacedLeaf)
+    → Each P leaves → slice_get leaves i ≡ Some leaf → P leaf
+leaf_at_place P [] i leaf all e = absurd (cc)
+leaf_at_place P (first ∷ rest) zero leaf all e = subst P (same_leaf first leaf e) all.0
+leaf_at_place P (first ∷ rest) (suc i) leaf all e = leaf_at_place P rest i leaf all.1 e
+
+-- it is published
+pub number_seen : (v w : View) (ref : Ref) (i base : ℕ) → IsLeafNumber (now v) ref i base
+    → GoesOnTo v w → SeesLeaf w base
+number_seen v w ref i base n g =
+    let row = n.leaf.row in
+    let here = leaf_at_place (λ l. (now v).pieces l.base ≡ Some (Leaf l.row)) n.leaves i n.leaf
+    (leaves_stand (now v).pieces (Some ref) n.leaves n.reached) n.there in
+    leaf_on v w g base
+    record {
+      row = row;
+      published = subst (λ b. (now v).pieces b ≡ Some (Leaf row)) n.base_is here;
+    }
+
+-- ---- its pair
+
+-- the words of a leaf were loaded
+pub pair_told : (v u w : View) (base key value p q : ℕ) → SeesLeaf v base → Looked v p key u
+    → p ≡ base + 0 → Looked u q value w → q ≡ base + 1
+    → IsPairOf (now v) base record { key = key; value = value }
+pair_told v u w base key value p q r first at second there =
+    let g = looked_goes_on v p key u first in
+    let h = looked_goes_on u q value w second in
+    let row = r.row in
+    let in_u = leaf_there (now v).pieces (now u).pieces (goes_on_grow v u g) base row r.published in
+    let in_w = leaf_there (now u).pieces (now w).pieces (goes_on_grow u w h) base row in_u in
+    record {
+      row = row;
+      published = r.published;
+      key_is = looked_row v p key u first base (Leaf row) 0 row.key in_u refl at;
+      value_is = looked_row u q value w second base (Leaf row) 1 row.value in_w refl there;
+    }
+
+same_row : (r s : LeafRow) → Some (Leaf r) ≡ Some (Leaf s) → r ≡ s
+same_row r s e = cc
+
+-- so the pair has the number
+pub numbered_pair : (v w : View) → IsSound v → (frozen : Frozen) (i base : ℕ) (pair : Pair)
+    → IsStill (now v) (ref_meant frozen.root) frozen.keys
+    → IsLeafNumber (now v) (ref_meant frozen.root) i base → GoesOnTo v w
+    → IsPairOf (now w) base pair → IsPairAt v.start v.words v.log frozen i pair
+numbered_pair v w s frozen i base pair still n g p =
+    let all = still_leaves v.start v.words v.log s.lawful (ref_meant frozen.root) frozen.keys still in
+    let same = same_leaves (now v).pieces (Some (ref_meant frozen.root)) all.leaves n.leaves all.below
+    n.reached in
+    let here = leaf_at_place (λ l. (now v).pieces l.base ≡ Some (Leaf l.row)) n.leaves i n.leaf
+    (leaves_stand (now v).pieces (Some (ref_meant frozen.root)) n.leaves n.reached) n.there in
+    let later = leaf_there (now v).pieces (now w).pieces (goes_on_grow v w g) n.leaf.base n.leaf.row
+    here in
+    let row_is = same_row n.leaf.row p.row
+    (sym later ∙ ap (now w).pieces n.base_is ∙ p.published) in
+    let key = ap (λ (r : LeafRow). r.key) row_is ∙ sym p.key_is in
+    let value = ap (λ (r : LeafRow). r.value) row_is ∙ sym p.value_is in
+    record {
+      found = map pair_of n.leaves;
+      has = record { leaves = n.leaves; reached = n.reached; pairs_are = refl };
+      rising = pairs_rise n.leaves
+          (subst (λ (ls : List PlacedLeaf). IsStrictlyIncreasing (map (λ l. l.row.key) ls)) same
+          all.rising);
+      there = slice_get-map pair_of n.leaves i ∙ ap (option_map pair_of) n.there
+          ∙ ap (λ (x : Pair). Some x)
+          (pair_is n.leaf.row.key n.leaf.row.value pair.key pair.value key value);
+    }
+  where
+    pair_is : (a b c d : ℕ) → a ≡ c → b ≡ d
+        → ◌≡◌ {A = Pair} (record { key = a; value = b }) (record { key = c; value = d })
+    pair_is a b c d e f = cc
+
+-- ---- the pass
+
+-- the pass behind the reading
+pub record ReadEnds (old : PassFace) (who : Caller) (refused : Option Full) (seat : SeatFace)
+    (frozen : Frozen) : Type 0 where
+  pub pass : IsPassWith (record who { seat = seat }) refused
+  pub seen : HasSeenMore old (face_as seat who.number refused)
+  pub calls : seat.view.calls ≡ old.calls
+  pub still : IsFrozenFor (face_as seat who.number refused) frozen
+
+pub read_ends : (who : Caller) (refused : Option Full) (seat : SeatFace) → IsPassWith who refused
+    → GoesOnTo who.seat.view seat.view → seat.table ≡ who.seat.table → (frozen : Frozen)
+    (old : PassFace) → pass_face who refused ≡ old → IsFrozenFor old frozen
+    → ReadEnds old who refused seat frozen
+read_ends who refused seat all g table frozen old view =
+    subst (λ (o : PassFace). IsFrozenFor o frozen → ReadEnds o who refused seat frozen) view from
+  where
+    v : View
+    v = who.seat.view
+
+    w : View
+    w = seat.view
+
+    later : IsLaterView v w
+    later =
+        record {
+          who_is = ap (λ (y : View). y.who) g.same;
+          start_is = ap (λ (y : View). y.start) g.same;
+          words_is = ap (λ (y : View). y.words) g.same;
+          later = g.later;
+          sound = g.sound;
+        }
+
+    from : IsFrozenFor (pass_face who refused) frozen
+        → ReadEnds (pass_face who refused) who refused seat frozen
+    from f =
+        let stamps = ap (λ (y : View). y.stamp) g.same in
+        record {
+          pass = pass_with_later who seat refused all later
+              (ap (λ (y : View). y.pending) g.same ∙ all.pass.in_none);
+          seen = record {
+            tree = ap₂ (λ t (y : View). record { table = t; start = y.start; words = y.words })
+                table g.same;
+            number = refl;
+            seen = later-goes_on g.later;
+            stamp = omega arith;
+          };
+          calls = ap (λ (y : View). y.calls) g.same;
+          still = still_stays (now v) (now w) (goes_on_grow v w g) (ref_meant frozen.root)
+              frozen.keys f;
+        }

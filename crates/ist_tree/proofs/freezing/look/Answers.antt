@@ -1,0 +1,130 @@
+-- What stands below the anchor is read by its word, and met.
+use Rattle.ist_mark.proofs.BelowLemmas.{read_as}
+use Rattle.ist_tree.specs.Freezing.{no_key}
+use Rattle.ist_tree.proofs.DueLemmas.{done_more}
+use Rattle.ist_tree.proofs.FreezeGoingLemmas.{err_map, may_have_met_more, met_more, ok_map, stopped_more}
+use Rattle.ist_tree.proofs.FreezeLookLemmas.{change_seen, leaf_still, looked_done, looked_on, looked_still, rebuild_started, rebuild_top, row_may_start, row_top, still_top}
+use Rattle.ist_tree.proofs.RebuildLemmas.{rebuilds_more}
+use Rattle.ist_tree.proofs.freezing.look.Goals as goal
+
+-- ---- an inner row
+
+pub met_row-requires-clause-ready : goal.met_row-requires-clause-ready
+met_row-requires-clause-ready g c =
+    (looked_on c.args.who.now c.anchor_word-word.new.seat c.requires.ready
+    c.anchor_word-word.ensures.seen).ready
+
+pub met_row-requires-clause-top : goal.met_row-requires-clause-top
+met_row-requires-clause-top g c =
+    row_top _ c.know-2.ensures.sound _ c.anchor_word-word.ensures.holds _
+    (read_as _ _ _ _ c.from_word.ensures.value c.in-Some-Inner.is c.in-Some-Inner.field-0-is)
+
+pub met_row-requires-clause-may_start : goal.met_row-requires-clause-may_start
+met_row-requires-clause-may_start g c =
+    row_may_start _ c.know-2.ensures.sound _ c.anchor_word-word.ensures.holds _
+    (read_as _ _ _ _ c.from_word.ensures.value c.in-Some-Inner.is c.in-Some-Inner.field-0-is)
+
+pub returns-in-Some-Inner-clause-met : goal.returns-in-Some-Inner-clause-met
+returns-in-Some-Inner-clause-met g c =
+    ok_map _ _ c.met_row.result
+    (λ site. may_have_met_more c.args.who.now _ c.met_row.new.who site
+    (looked_on c.args.who.now c.anchor_word-word.new.seat c.requires.ready
+    c.anchor_word-word.ensures.seen)
+    (looked_done c.args.who.now c.anchor_word-word.new.seat c.requires.ready
+    c.anchor_word-word.ensures.seen))
+    c.met_row.ensures.met
+
+pub returns-in-Some-Inner-clause-full : goal.returns-in-Some-Inner-clause-full
+returns-in-Some-Inner-clause-full g c =
+    err_map _ _ c.met_row.result
+    (λ full. stopped_more c.args.who.now _ c.met_row.new.who _ full
+    (looked_on c.args.who.now c.anchor_word-word.new.seat c.requires.ready
+    c.anchor_word-word.ensures.seen)
+    (looked_done c.args.who.now c.anchor_word-word.new.seat c.requires.ready
+    c.anchor_word-word.ensures.seen))
+    c.met_row.ensures.full
+
+-- ---- a rebuild
+
+pub met_rebuild-requires-clause-ready : goal.met_rebuild-requires-clause-ready
+met_rebuild-requires-clause-ready g c =
+    (looked_on c.args.who.now c.anchor_word-word.new.seat c.requires.ready
+    c.anchor_word-word.ensures.seen).ready
+
+pub met_rebuild-requires-clause-started : goal.met_rebuild-requires-clause-started
+met_rebuild-requires-clause-started g c =
+    rebuild_started _ c.know-2.ensures.sound _ c.anchor_word-word.ensures.holds _
+    (read_as _ _ _ _ c.from_word.ensures.value c.in-Some-Rebuild.is c.in-Some-Rebuild.field-0-is)
+
+pub met_rebuild-requires-clause-top : goal.met_rebuild-requires-clause-top
+met_rebuild-requires-clause-top g c =
+    rebuild_top _ c.know-2.ensures.sound _ c.anchor_word-word.ensures.holds _
+    (read_as _ _ _ _ c.from_word.ensures.value c.in-Some-Rebuild.is c.in-Some-Rebuild.field-0-is)
+
+pub returns-in-Some-Rebuild-clause-met : goal.returns-in-Some-Rebuild-clause-met
+returns-in-Some-Rebuild-clause-met g c =
+    met_more c.args.who.now _ c.met_rebuild.new.who _
+    (looked_on c.args.who.now c.anchor_word-word.new.seat c.requires.ready
+    c.anchor_word-word.ensures.seen)
+    (looked_done c.args.who.now c.anchor_word-word.new.seat c.requires.ready
+    c.anchor_word-word.ensures.seen)
+    c.met_rebuild.ensures.met
+
+-- ---- a change
+
+pub met_change-requires-clause-ready : goal.met_change-requires-clause-ready
+met_change-requires-clause-ready g c =
+    (looked_on c.args.who.now c.anchor_word-word.new.seat c.requires.ready
+    c.anchor_word-word.ensures.seen).ready
+
+pub met_change-requires-clause-row : goal.met_change-requires-clause-row
+met_change-requires-clause-row g c =
+    change_seen _ c.know-2.ensures.sound _ c.anchor_word-word.ensures.holds _
+    (read_as _ _ _ _ c.from_word.ensures.value c.in-Some-Change.is c.in-Some-Change.field-0-is)
+
+pub returns-in-Some-Change-clause-met : goal.returns-in-Some-Change-clause-met
+returns-in-Some-Change-clause-met g c =
+    let mid = record c.args.who.now { seat = c.anchor_word-word.new.seat } in
+    let on = looked_on c.args.who.now c.anchor_word-word.new.seat c.requires.ready
+    c.anchor_word-word.ensures.seen in
+    let done = looked_done c.args.who.now c.anchor_word-word.new.seat c.requires.ready
+    c.anchor_word-word.ensures.seen in (
+      rebuilds_more _ _ _ on c.met_change.ensures.on,
+      done_more c.args.who.now mid c.met_change.new.who on.number done c.met_change.ensures.done,
+    )
+
+-- ---- nothing, or a leaf
+
+pub returns-in-Some-Leaf-clause-met : goal.returns-in-Some-Leaf-clause-met
+returns-in-Some-Leaf-clause-met g c =
+    let is = read_as _ _ _ _ c.from_word.ensures.value c.in-Some-Leaf.is c.in-Some-Leaf.field-0-is in
+    looked_still c.args.who.now c.anchor_word-word.new.seat c.requires.ready
+    c.anchor_word-word.ensures.seen _
+    (still_top _ c.know-2.ensures.sound _ c.anchor_word-word.ensures.holds _ is
+    (leaf_still _ c.know-2.ensures.sound _ c.anchor_word-word.ensures.holds _ is))
+
+pub returns-in-Some-Empty-clause-met : goal.returns-in-Some-Empty-clause-met
+returns-in-Some-Empty-clause-met g c =
+    let is = read_as _ _ _ _ c.from_word.ensures.value c.in-Some-Empty.is c.in-Some-Empty.field-0-is
+    in
+    looked_still c.args.who.now c.anchor_word-word.new.seat c.requires.ready
+    c.anchor_word-word.ensures.seen _
+    (still_top _ c.know-2.ensures.sound _ c.anchor_word-word.ensures.holds _ is no_key)
+
+-- ---- neither of these ever stands there
+
+pub returns-in-Some-Unset-clause-met : goal.returns-in-Some-Unset-clause-met
+returns-in-Some-Unset-clause-met g c = (
+  looked_on c.args.who.now c.anchor_word-word.new.seat c.requires.ready
+      c.anchor_word-word.ensures.seen,
+  looked_done c.args.who.now c.anchor_word-word.new.seat c.requires.ready
+      c.anchor_word-word.ensures.seen,
+)
+
+pub returns-in-None-clause-met : goal.returns-in-None-clause-met
+returns-in-None-clause-met g c = (
+  looked_on c.args.who.now c.anchor_word-word.new.seat c.requires.ready
+      c.anchor_word-word.ensures.seen,
+  looked_done c.args.who.now c.anchor_word-word.new.seat c.requires.ready
+      c.anchor_word-word.ensures.seen,
+)

@@ -1,0 +1,9 @@
+use Rattle.ist_tree.proofs.FreezeLookLemmas.{stood_met}
+use Rattle.ist_tree.proofs.freezing.met_rebuild.Goals as goal
+
+-- the rebuild that stood there is met, by its target
+pub returns-clause-met : goal.returns-clause-met
+returns-clause-met c =
+    stood_met c.args.who.now c.target_of-target.new.seat c.args.rebuild c.target_of-target.result
+    c.know.ensures.sound c.requires.ready c.target_of-target.ensures.seen c.requires.started
+    c.target_of-target.ensures.target c.requires.top

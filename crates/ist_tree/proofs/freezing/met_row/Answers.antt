@@ -1,0 +1,11 @@
+use Rattle.std.proofs.Common.{subst}
+use Rattle.ist_tree.specs.FreezeSteps.{HasBegun}
+use Rattle.ist_tree.proofs.FreezeLookLemmas.{begun_met}
+use Rattle.ist_tree.proofs.freezing.met_row.Goals as goal
+
+-- the rebuild that was started is met
+pub returns-in-Some-clause-met : goal.returns-in-Some-clause-met
+returns-in-Some-clause-met g c =
+    begun_met c.args.who.now c.begin_rebuild.new.who c.args.target c.in-Some.rebuild c.requires.top
+    (subst (HasBegun c.args.who.now c.begin_rebuild.new.who c.args.target) c.in-Some.is
+    c.in_ok-rebuild.ensures.begun)

@@ -1,0 +1,118 @@
+-- What the functions that freeze a tree promise each other: what stands below the anchor, and what
+-- comes of freezing it.
+use Rattle.std.specs.Prelude.{◌≡◌, ℕ, ◌⊎◌, List, slice_get, Option, Some, None, IfSome}
+use Rattle.ist_core.specs.declared.pairs.Pair.{Pair}
+use Rattle.ist_core.specs.declared.ports.Full.{Full}
+use Rattle.ist_core.specs.declared.states.LeafRow.{LeafRow}
+use Rattle.ist_core.specs.Lawful.{state_of}
+use Rattle.ist_core.specs.Leaves.{HasLeaves, PlacedLeaf}
+use Rattle.ist_core.specs.Links.{IsChild}
+use Rattle.ist_core.specs.Logs.{Log, GoesOn}
+use Rattle.ist_core.specs.Marking.{HasTarget}
+use Rattle.ist_core.specs.Pieces.{Leaf}
+use Rattle.ist_core.specs.Rebuilding.{IsFinishedWith, IsStarted}
+use Rattle.ist_core.specs.References.{Ref}
+use Rattle.ist_core.specs.RowLayout.{anchor, change_words, rebuild_words}
+use Rattle.ist_core.specs.Snapshots.{Snapshot}
+use Rattle.ist_layout.specs.declared.references.Ref.TheVariants.{Inner}
+use Rattle.ist_settling.specs.Settling.{StartsAreDone}
+use Rattle.ist_rule.specs.declared.view.View.{View}
+use Rattle.ist_rule.specs.Learning.{now}
+use Rattle.ist_rows.specs.declared.callers.Caller.{Caller}
+use Rattle.ist_rebuild.specs.Starting.{StartsAreDoneBut}
+use Rattle.ist_tree.specs.declared.freezing.Outcome.{Outcome}
+use Rattle.ist_tree.specs.declared.freezing.Site.{Site}
+use Rattle.ist_tree.specs.declared.freezing.Site.TheVariants.{Still, Rebuilt}
+use Rattle.ist_tree.specs.Freezing.{WasFrozen}
+use Rattle.ist_tree.specs.Working.{IsDueRefused, IsShort, KeepsDone, RebuildsOn}
+
+-- ---- what stands below the anchor
+
+-- the rebuild is a started one of this target
+pub record IsRebuildOf (t : Snapshot) (rebuild target : ℕ) : Type 0 where
+  pub started : IsStarted t rebuild
+  pub target_is : HasTarget t rebuild target
+
+-- behind some log between these the row was the anchor's child
+pub record WasTop (v : View) (log : Log) (target : ℕ) : Type 0 where
+  pub at : Log
+  pub since : GoesOn v.log at
+  pub until : GoesOn at log
+  pub child : IsChild (state_of v.start v.words at) anchor 0 target
+
+-- what a look at the anchor's slot found: a tree that is frozen, or a rebuild of what stood there
+abbrev pub IsSite : View → View → Site → Type 0
+IsSite v w (Still frozen) = WasFrozen v.start v.words v.log w.log frozen
+IsSite v w (Rebuilt rebuild target) = IsRebuildOf (now w) rebuild target × WasTop v w.log target
+
+-- where the starts of the caller were done, they are; but for this one, where one is named
+abbrev pub KeepsDoneBut : Caller → Caller → Option ℕ → Type 0
+KeepsDoneBut old new None = KeepsDone old new
+KeepsDoneBut old new (Some rebuild) = StartsAreDone (now old.seat.view) old.number
+    → StartsAreDoneBut (now new.seat.view) old.number rebuild
+
+-- the rebuild that is to be helped, if there is one
+abbrev pub rebuild_in : Site → Option ℕ
+rebuild_in (Still frozen) = None
+rebuild_in (Rebuilt rebuild target) = Some rebuild
+
+-- the caller has met this below the anchor
+pub record HasMet (old new : Caller) (site : Site) : Type 0 where
+  pub on : RebuildsOn old new
+  pub is : IsSite old.seat.view new.seat.view site
+  pub done : KeepsDoneBut old new (rebuild_in site)
+
+-- it has met this, or nothing yet
+abbrev pub MayHaveMet : Caller → Caller → Option Site → Type 0
+MayHaveMet old new (Some site) = HasMet old new site
+MayHaveMet old new None = RebuildsOn old new × KeepsDone old new
+
+-- the caller has started this rebuild of the target, or none
+abbrev pub HasBegun : Caller → Caller → ℕ → Option ℕ → Type 0
+HasBegun old new target (Some rebuild) = RebuildsOn old new
+    × IsRebuildOf (now new.seat.view) rebuild target × KeepsDoneBut old new (Some rebuild)
+HasBegun old new target None = RebuildsOn old new × KeepsDone old new
+
+-- ---- what comes of it
+
+-- the caller was refused a row for the start
+pub record IsStopped (old new : Caller) (words : ℕ) (full : Full) : Type 0 where
+  pub on : RebuildsOn old new
+  pub done : KeepsDone old new
+  pub short : IsShort new.seat.view words full
+  pub asked : (full.asked ≡ rebuild_words) ⊎ (full.asked ≡ change_words)
+
+-- the caller has finished the target; where it wasn't refused, the rebuild is done too
+pub record FreezesTarget (old new : Caller) (words rebuild target : ℕ) (outcome : Outcome)
+    : Type 0 where
+  pub on : RebuildsOn old new
+  pub root_is : outcome.frozen.root ≡ Inner target
+  pub finished : IsFinishedWith (now new.seat.view) target outcome.frozen.keys
+  pub done : outcome.refused ≡ None → StartsAreDoneBut (now old.seat.view) old.number rebuild
+      → StartsAreDone (now new.seat.view) old.number
+  pub refused : IfSome outcome.refused (IsDueRefused new.seat.view words)
+
+-- the caller has frozen the tree; where it wasn't refused, all that it started is done
+pub record Freezes (old new : Caller) (words : ℕ) (outcome : Outcome) : Type 0 where
+  pub on : RebuildsOn old new
+  pub frozen : let v = old.seat.view in
+      WasFrozen v.start v.words v.log new.seat.view.log outcome.frozen
+  pub done : outcome.refused ≡ None → KeepsDone old new
+  pub refused : IfSome outcome.refused (IsDueRefused new.seat.view words)
+
+-- ---- reading what is frozen
+
+-- the leaf with this base is number i of the leaves below the reference
+pub record IsLeafNumber (t : Snapshot) (ref : Ref) (i base : ℕ) : Type 0 where
+  pub leaves : List PlacedLeaf
+  pub reached : HasLeaves t.pieces (Some ref) leaves
+  pub leaf : PlacedLeaf
+  pub there : slice_get leaves i ≡ Some leaf
+  pub base_is : leaf.base ≡ base
+
+-- the leaf with this base has this pair
+pub record IsPairOf (t : Snapshot) (base : ℕ) (pair : Pair) : Type 0 where
+  pub row : LeafRow
+  pub published : t.pieces base ≡ Some (Leaf row)
+  pub key_is : pair.key ≡ row.key
+  pub value_is : pair.value ≡ row.value

@@ -1,0 +1,114 @@
+-- A whole tree that was frozen: when it is so, which pairs it has, and why a freeze is refused.
+use Rattle.std.specs.Prelude.{◌≡◌, ℕ, ◌⊎◌, List, map, length, slice_get, Some}
+use Rattle.std.specs.List.Sorted.{IsStrictlyIncreasing}
+use Rattle.ist_core.specs.declared.pairs.Pair.{Pair}
+use Rattle.ist_core.specs.declared.ports.Full.{Full}
+use Rattle.ist_core.specs.declared.states.LeafRow.{LeafRow}
+use Rattle.ist_core.specs.Lawful.{Lawful, state_of}
+use Rattle.ist_core.specs.Leaves.{HasLeaves, PlacedLeaf, pair_of}
+use Rattle.ist_core.specs.Logs.{Log, GoesOn}
+use Rattle.ist_core.specs.Pieces.{Leaf}
+use Rattle.ist_core.specs.Rebuilding.{IsFinishedWith}
+use Rattle.ist_core.specs.References.{Ref, Empty, LeafAt, InnerAt}
+use Rattle.ist_core.specs.RowLayout.{change_words, rebuild_words}
+use Rattle.ist_core.specs.Snapshots.{Snapshot}
+use Rattle.ist_finished.specs.Freezing.{WereThePairs}
+use Rattle.ist_layout.specs.Meanings.{ref_meant}
+use Rattle.ist_tree.specs.declared.freezing.Frozen.{Frozen}
+use Rattle.ist_tree.specs.Faces.{PassFace}
+use Rattle.ist_tree.specs.Refusals.{HadTooFew}
+
+-- ---- what is frozen
+
+-- no step changes what lies below the reference, and it has so many keys: nothing, a published
+-- leaf, or an inner row that is finished with this number
+pub data IsStill (t : Snapshot) : Ref → ℕ → Type 0 where
+  no_key : IsStill t Empty 0
+  one_key : (base : ℕ) (row : LeafRow) → t.pieces base ≡ Some (Leaf row) → IsStill t (LeafAt base) 1
+  all_keys : (base keys : ℕ) → IsFinishedWith t base keys → IsStill t (InnerAt base) keys
+
+-- the tree is frozen in the log
+abbrev pub IsFrozen : List Pair → ℕ → Log → Frozen → Type 0
+IsFrozen pairs words log frozen =
+    IsStill (state_of pairs words log) (ref_meant frozen.root) frozen.keys
+
+-- these are its pairs there: those of the leaves below its root
+pub record HasFrozenPairs (pairs : List Pair) (words : ℕ) (log : Log) (frozen : Frozen)
+    (found : List Pair) : Type 0 where
+  pub leaves : List PlacedLeaf
+  pub reached : HasLeaves (state_of pairs words log).pieces (Some (ref_meant frozen.root)) leaves
+  pub pairs_are : found ≡ map pair_of leaves
+
+-- ---- laws
+
+-- a tree that is frozen is so in each lawful log that goes on
+abbrev pub FrozenTreesStay : Type 0
+FrozenTreesStay =
+    (pairs : List Pair) (words : ℕ) (earlier log : Log) → Lawful pairs words log
+    → GoesOn earlier log → (frozen : Frozen) → IsFrozen pairs words earlier frozen
+    → IsFrozen pairs words log frozen
+
+-- with the same pairs
+abbrev pub FrozenPairsStay : Type 0
+FrozenPairsStay =
+    (pairs : List Pair) (words : ℕ) (earlier log : Log) → Lawful pairs words log
+    → GoesOn earlier log → (frozen : Frozen) (found : List Pair)
+    → IsFrozen pairs words earlier frozen → HasFrozenPairs pairs words earlier frozen found
+    → HasFrozenPairs pairs words log frozen found
+
+-- it has such pairs, as many as it has keys, which rise by key
+pub record HasItsPairs (pairs : List Pair) (words : ℕ) (log : Log) (frozen : Frozen) : Type 0 where
+  pub found : List Pair
+  pub has : HasFrozenPairs pairs words log frozen found
+  pub number : length found ≡ frozen.keys
+  pub rising : IsStrictlyIncreasing (map (λ pair. pair.key) found)
+
+-- this is so of each frozen tree
+abbrev pub FrozenTreesHavePairs : Type 0
+FrozenTreesHavePairs =
+    (pairs : List Pair) (words : ℕ) (log : Log) → Lawful pairs words log → (frozen : Frozen)
+    → IsFrozen pairs words log frozen → HasItsPairs pairs words log frozen
+
+-- and no others
+abbrev pub FrozenPairsAreOne : Type 0
+FrozenPairsAreOne =
+    (pairs : List Pair) (words : ℕ) (log : Log) (frozen : Frozen) (found others : List Pair)
+    → HasFrozenPairs pairs words log frozen found → HasFrozenPairs pairs words log frozen others
+    → found ≡ others
+
+-- ---- what a freeze answers
+
+-- the tree is frozen in the log, and its pairs are those that the map had behind some number of
+-- changes, no fewer than those of the earlier log
+pub record WasFrozen (pairs : List Pair) (words : ℕ) (earlier log : Log) (frozen : Frozen)
+    : Type 0 where
+  pub frozen_is : IsFrozen pairs words log frozen
+  pub found : List Pair
+  pub has : HasFrozenPairs pairs words log frozen found
+  pub were : WereThePairs pairs words earlier log found
+
+-- the tree is frozen in what the pass has seen
+abbrev pub IsFrozenFor : PassFace → Frozen → Type 0
+IsFrozenFor p frozen = IsFrozen p.tree.start p.tree.words p.seen frozen
+
+-- the tree was frozen in the call: its pairs are those of the map behind some number of changes, no
+-- fewer than the pass had seen before, and no more than it has seen then
+abbrev pub HasFrozen : PassFace → PassFace → Frozen → Type 0
+HasFrozen p q frozen = WasFrozen p.tree.start p.tree.words p.seen q.seen frozen
+
+-- the rebuild that the freeze was to start was refused a row, for itself or for its change
+pub record IsFreezeRefused (p q : PassFace) (full : Full) : Type 0 where
+  pub had : HadTooFew p q full
+  pub asked : (full.asked ≡ rebuild_words) ⊎ (full.asked ≡ change_words)
+
+-- the pair is number i of the frozen tree, counted from 0 in the order of the keys
+pub record IsPairAt (pairs : List Pair) (words : ℕ) (log : Log) (frozen : Frozen) (i : ℕ)
+    (pair : Pair) : Type 0 where
+  pub found : List Pair
+  pub has : HasFrozenPairs pairs words log frozen found
+  pub rising : IsStrictlyIncreasing (map (λ other. other.key) found)
+  pub there : slice_get found i ≡ Some pair
+
+-- it is so in what the pass has seen
+abbrev pub IsFrozenPair : PassFace → Frozen → ℕ → Pair → Type 0
+IsFrozenPair p frozen i pair = IsPairAt p.tree.start p.tree.words p.seen frozen i pair

@@ -1,0 +1,373 @@
+//! Freezing the whole tree, and reading what was frozen.
+ghost use Rattle.std.specs.Prelude.{◌≡◌, ◌<◌, ℕ, None, IfOk, IfErr, OnErr};
+ghost use Rattle.ist_core.specs.Marking.{HasTarget};
+ghost use Rattle.ist_core.specs.Rebuilding.{IsStarted};
+ghost use Rattle.ist_core.specs.References.{LeafAt};
+ghost use Rattle.ist_core.specs.RowLayout.{anchor};
+ghost use Rattle.ist_core.specs.Slots.{SlotHolds};
+ghost use Rattle.ist_find.specs.Searches.{SeesChange, SeesLeaf};
+ghost use Rattle.ist_layout.specs.Meanings.{ref_meant};
+ghost use Rattle.ist_rebuild.specs.Starting.{MayStart};
+ghost use Rattle.ist_rule.specs.Faces.{word_count_of};
+ghost use Rattle.ist_rule.specs.Learning.{now, GoesOnTo, Turned, beginning};
+ghost use Rattle.ist_rule.specs.Rule.{IsSound};
+ghost use Rattle.ist_tree.specs.FreezeSteps.{IsRebuildOf, WasTop, HasBegun, HasMet, MayHaveMet};
+ghost use Rattle.ist_tree.specs.FreezeSteps.{IsStopped, FreezesTarget, Freezes};
+ghost use Rattle.ist_tree.specs.FreezeSteps.{IsLeafNumber, IsPairOf};
+ghost use Rattle.ist_tree.specs.Calls.{HasSeenMore};
+ghost use Rattle.ist_tree.specs.Freezing.{IsStill, IsFrozenFor, HasFrozen, IsPairAt};
+ghost use Rattle.ist_tree.specs.Freezing.{IsFreezeRefused, IsFrozenPair};
+ghost use Rattle.ist_tree.specs.Insides.{IsPass};
+ghost use Rattle.ist_tree.specs.Refusals.{KeepsRefusal};
+ghost use Rattle.ist_tree.specs.Working.{IsReady, RebuildsOn, KeepsDone};
+
+use crate::passes::Pass;
+use crate::trees::Tree;
+use ist_build::leaf_at;
+use ist_core::{Full, Pair};
+use ist_dcss::help;
+use ist_layout::{
+    ANCHOR, ANCHOR_SLOT_PLACE, LEAF_KEY_OFFSET, LEAF_VALUE_OFFSET, REBUILD_TARGET_OFFSET, Ref,
+};
+use ist_mark::mark_and_count;
+use ist_rebuild::{Started, help_rebuild, start};
+use ist_rows::Caller;
+use ist_rule::{TreeSeat, TreeTable, begin_call, give_up, know, load};
+use std::sync::Wait;
+
+/// A tree as it was at one moment: no step changes what lies below its root any more.
+#[derive(Clone, Copy, Debug, PartialEq, Eq, Drop)]
+pub struct Frozen {
+    /// What stood below the anchor: nothing, a leaf, or an inner row.
+    pub root: Ref,
+    /// How many keys it has.
+    pub keys: u64,
+}
+
+/// What a look below the anchor finds.
+#[derive(Clone, Copy, Drop)]
+enum Site {
+    /// A tree that is frozen as it is.
+    Still(Frozen),
+    /// A started rebuild with this base, and its target.
+    Rebuilt(u32, u32),
+}
+
+/// What comes of a freeze: the tree, and the refusal of the rebuild behind it, if it met one.
+#[derive(Clone, Copy, Drop)]
+struct Outcome {
+    frozen: Frozen,
+    refused: Option<Full>,
+}
+
+// The word in the anchor's slot.
+fn anchor_word(table: &TreeTable, seat: &mut TreeSeat) -> u64
+    requires same_table { seat.old.table ≡ table.now.table }
+    ensures same_table { seat.new.table ≡ seat.old.table }
+    ensures seen { GoesOnTo seat.old.view seat.new.view }
+    ensures holds { SlotHolds (now seat.new.view) anchor 0 result }
+{
+    know(seat);
+    // A load. Meets an install in the slot, and what a helper leaves there.
+    load(table, seat, ANCHOR_SLOT_PLACE)
+}
+
+// The node that a started rebuild is to replace.
+fn target_of(table: &TreeTable, seat: &mut TreeSeat, rebuild: u32) -> u32
+    requires same_table { seat.old.table ≡ table.now.table }
+    requires started { IsStarted (now seat.old.view) rebuild }
+    ensures same_table { seat.new.table ≡ seat.old.table }
+    ensures seen { GoesOnTo seat.old.view seat.new.view }
+    ensures target { HasTarget (now seat.new.view) rebuild result }
+{
+    know(seat);
+    let target = load(table, seat, u64::from(rebuild) + REBUILD_TARGET_OFFSET);
+    know(seat);
+    target as u32
+}
+
+// Starts a rebuild of the row below the anchor, or finds that something else came there meanwhile.
+fn begin_rebuild<R: Wait>(
+    table: &TreeTable,
+    rt: &R,
+    who: &mut Caller,
+    target: u32,
+) -> Result<Option<u32>, Full>
+    requires same_table { who.old.seat.table ≡ table.now.table }
+    requires ready { IsReady who.old }
+    requires may_start { MayStart who.old.seat.view anchor 0 target }
+    ensures same_table { who.new.seat.table ≡ table.now.table }
+    ensures begun { IfOk result (HasBegun who.old who.new target) }
+    ensures full { IfErr result (IsStopped who.old who.new (word_count_of table.now)) }
+{
+    // Install, Okay, Decide and Resolve of a start. Meets whoever changes the anchor's slot.
+    match start(table, rt, who, ANCHOR, 0, target)? {
+        Started::Yes { rebuild } => Ok(Some(rebuild)),
+        Started::Marked => Ok(None),
+        Started::Other(_) => Ok(None),
+    }
+}
+
+// A rebuild of the row that stands below the anchor.
+fn met_row<R: Wait>(
+    table: &TreeTable,
+    rt: &R,
+    who: &mut Caller,
+    target: u32,
+) -> Result<Option<Site>, Full>
+    requires same_table { who.old.seat.table ≡ table.now.table }
+    requires ready { IsReady who.old }
+    requires top { WasTop who.old.seat.view who.old.seat.view.log target }
+    requires may_start { MayStart who.old.seat.view anchor 0 target }
+    ensures same_table { who.new.seat.table ≡ table.now.table }
+    ensures met { IfOk result (MayHaveMet who.old who.new) }
+    ensures full { IfErr result (IsStopped who.old who.new (word_count_of table.now)) }
+{
+    match begin_rebuild(table, rt, who, target)? {
+        Some(rebuild) => Ok(Some(Site::Rebuilt(rebuild, target))),
+        None => Ok(None),
+    }
+}
+
+// The rebuild that stands below the anchor, with its target.
+fn met_rebuild(table: &TreeTable, who: &mut Caller, rebuild: u32) -> Site
+    requires same_table { who.old.seat.table ≡ table.now.table }
+    requires ready { IsReady who.old }
+    requires started { IsStarted (now who.old.seat.view) rebuild }
+    requires top { (target : ℕ) → HasTarget (now who.old.seat.view) rebuild target
+        → WasTop who.old.seat.view who.old.seat.view.log target }
+    ensures same_table { who.new.seat.table ≡ table.now.table }
+    ensures met { HasMet who.old who.new result }
+{
+    know(&who.seat);
+    let target = target_of(table, &mut who.seat, rebuild);
+    Site::Rebuilt(rebuild, target)
+}
+
+// Helps the change that stands below the anchor.
+fn met_change(table: &TreeTable, who: &mut Caller, change: u32)
+    requires same_table { who.old.seat.table ≡ table.now.table }
+    requires ready { IsReady who.old }
+    requires row { SeesChange who.old.seat.view change }
+    ensures same_table { who.new.seat.table ≡ table.now.table }
+    ensures on { RebuildsOn who.old who.new }
+    ensures done { KeepsDone who.old who.new }
+{
+    // Okay, Decide and Resolve. Meets whoever helps the change.
+    help(table, &mut who.seat, change);
+}
+
+// Looks below the anchor once.
+fn look<R: Wait>(table: &TreeTable, rt: &R, who: &mut Caller) -> Result<Option<Site>, Full>
+    requires same_table { who.old.seat.table ≡ table.now.table }
+    requires ready { IsReady who.old }
+    ensures same_table { who.new.seat.table ≡ table.now.table }
+    ensures met { IfOk result (MayHaveMet who.old who.new) }
+    ensures full { IfErr result (IsStopped who.old who.new (word_count_of table.now)) }
+{
+    know(&who.seat);
+    let word = anchor_word(table, &mut who.seat);
+    know(&who.seat);
+    match Ref::from_word(word) {
+        Some(Ref::Inner { base }) => met_row(table, rt, who, base),
+        Some(Ref::Rebuild { base }) => Ok(Some(met_rebuild(table, who, base))),
+        Some(Ref::Change { base }) => {
+            met_change(table, who, base);
+            Ok(None)
+        }
+        Some(Ref::Leaf { base }) => {
+            let root = Ref::Leaf { base };
+            Ok(Some(Site::Still(Frozen { root, keys: 1 })))
+        }
+        Some(Ref::Empty) => {
+            let root = Ref::Empty;
+            Ok(Some(Site::Still(Frozen { root, keys: 0 })))
+        }
+        Some(Ref::Unset) => Ok(None),
+        None => Ok(None),
+    }
+}
+
+// Looks below the anchor until a tree is frozen there, or a rebuild stands.
+fn look_below<R: Wait>(table: &TreeTable, rt: &R, who: &mut Caller) -> Result<Site, Full>
+    requires same_table { who.old.seat.table ≡ table.now.table }
+    requires ready { IsReady who.old }
+    ensures same_table { who.new.seat.table ≡ table.now.table }
+    ensures met { IfOk result (HasMet who.old who.new) }
+    ensures full { IfErr result (IsStopped who.old who.new (word_count_of table.now)) }
+{
+    know(&who.seat);
+    for _ in rt.forever() {
+        if let Some(site) = look(table, rt, who)? {
+            return Ok(site);
+        }
+    }
+    unreachable!()
+}
+
+// Marks the target of the rebuild and counts its keys, and helps the rebuild.
+fn freeze_target<R: Wait>(
+    table: &TreeTable,
+    rt: &R,
+    who: &mut Caller,
+    rebuild: u32,
+    target: u32,
+) -> Outcome
+    requires same_table { who.old.seat.table ≡ table.now.table }
+    requires ready { IsReady who.old }
+    requires of { IsRebuildOf (now who.old.seat.view) rebuild target }
+    ensures same_table { who.new.seat.table ≡ table.now.table }
+    ensures froze { FreezesTarget who.old who.new (word_count_of table.now) rebuild target result }
+{
+    know(&who.seat);
+    // Mark, Pass and Finish of each row. Meets each update of the subtree, and whoever marks it.
+    let keys = mark_and_count(table, rt, &mut who.seat, target);
+    know(&who.seat);
+    let refused = help_rebuild(table, rt, who, rebuild).err();
+    let root = Ref::Inner { base: target };
+    Outcome {
+        frozen: Frozen { root, keys },
+        refused,
+    }
+}
+
+// Freezes what stands below the anchor.
+fn freeze_below<R: Wait>(table: &TreeTable, rt: &R, who: &mut Caller) -> Result<Outcome, Full>
+    requires same_table { who.old.seat.table ≡ table.now.table }
+    requires ready { IsReady who.old }
+    ensures same_table { who.new.seat.table ≡ table.now.table }
+    ensures froze { IfOk result (Freezes who.old who.new (word_count_of table.now)) }
+    ensures full { IfErr result (IsStopped who.old who.new (word_count_of table.now)) }
+{
+    match look_below(table, rt, who)? {
+        Site::Still(frozen) => Ok(Outcome {
+            frozen,
+            refused: None,
+        }),
+        Site::Rebuilt(rebuild, target) => Ok(freeze_target(table, rt, who, rebuild, target)),
+    }
+}
+
+// Begins a call without a command.
+fn begin(table: &TreeTable, who: &mut Caller)
+    requires same_table { who.old.seat.table ≡ table.now.table }
+    requires pass { IsPass who.old }
+    ensures same_table { who.new.seat.table ≡ table.now.table }
+    ensures number { who.new.number ≡ who.old.number }
+    ensures sound { IsSound who.old.seat.view }
+    ensures begun { Turned who.old.seat.view (beginning who.old.seat.view None) who.new.seat.view }
+    ensures ready { IsReady who.new }
+{
+    know(&who.seat);
+    begin_call(table, &mut who.seat, None);
+}
+
+// The base of the leaf that the reference is.
+fn base_of(reference: Ref) -> u32
+    ensures leaf { (base : ℕ) → ref_meant reference ≡ LeafAt base → result ≡ base }
+{
+    match reference {
+        Ref::Leaf { base } => base,
+        _ => 0,
+    }
+}
+
+// The leaf number `i` below the root of a frozen tree.
+fn frozen_leaf(table: &TreeTable, seat: &mut TreeSeat, frozen: Frozen, i: u64) -> u32
+    requires same_table { seat.old.table ≡ table.now.table }
+    requires frozen { IsStill (now seat.old.view) (ref_meant frozen.root) frozen.keys }
+    requires within { i < frozen.keys }
+    ensures same_table { seat.new.table ≡ seat.old.table }
+    ensures seen { GoesOnTo seat.old.view seat.new.view }
+    ensures leaf { IsLeafNumber (now seat.old.view) (ref_meant frozen.root) i result }
+{
+    know(seat);
+    match frozen.root {
+        Ref::Inner { base } => base_of(leaf_at(table, seat, base, i)),
+        other => base_of(other),
+    }
+}
+
+// The pair of a leaf.
+fn pair_in(table: &TreeTable, seat: &mut TreeSeat, base: u32) -> Pair
+    requires same_table { seat.old.table ≡ table.now.table }
+    requires leaf { SeesLeaf seat.old.view base }
+    ensures same_table { seat.new.table ≡ seat.old.table }
+    ensures seen { GoesOnTo seat.old.view seat.new.view }
+    ensures pair { IsPairOf (now seat.old.view) base result }
+{
+    know(seat);
+    let key = load(table, seat, u64::from(base) + LEAF_KEY_OFFSET);
+    know(seat);
+    let value = load(table, seat, u64::from(base) + LEAF_VALUE_OFFSET);
+    Pair { key, value }
+}
+
+// The pair number `i` of a frozen tree.
+fn pair_at(table: &TreeTable, seat: &mut TreeSeat, frozen: Frozen, i: u64) -> Pair
+    requires same_table { seat.old.table ≡ table.now.table }
+    requires frozen { IsStill (now seat.old.view) (ref_meant frozen.root) frozen.keys }
+    requires within { i < frozen.keys }
+    ensures same_table { seat.new.table ≡ seat.old.table }
+    ensures seen { GoesOnTo seat.old.view seat.new.view }
+    ensures pair { let v = seat.old.view in IsPairAt v.start v.words v.log frozen i result }
+{
+    know(seat);
+    let base = frozen_leaf(table, seat, frozen, i);
+    know(seat);
+    pair_in(table, seat, base)
+}
+
+impl Tree {
+    /// Freezes the whole tree as it was at one moment, and rebuilds it. Retries while others change
+    /// the anchor's slot or install changes, helps what it meets, and takes no memory.
+    ///
+    /// What was the tree stays as it was for good, while the map goes on in the rebuilt one. The
+    /// pairs are those of the map at some number of changes, no fewer than the pass had seen before.
+    /// Nothing or a leaf below the anchor is frozen as it is. The calls of the pass are as before.
+    /// `Full` where the tree had too few words left for a row of the start. Where only the rebuild
+    /// behind it met that, the tree is frozen, and the pass keeps the first such refusal.
+    pub fn freeze<R: Wait>(&self, rt: &R, pass: &mut Pass) -> Result<Frozen, Full>
+        requires same_tree { pass.old.tree ≡ self.now }
+        ensures seen { HasSeenMore pass.old pass.new }
+        ensures frozen { IfOk result (IsFrozenFor pass.new) }
+        ensures pairs { IfOk result (HasFrozen pass.old pass.new) }
+        ensures full { IfErr result (IsFreezeRefused pass.old pass.new) }
+        ensures calls { pass.new.calls ≡ pass.old.calls }
+        ensures unrefused { OnErr result (pass.new.refused ≡ pass.old.refused) }
+        ensures refused { KeepsRefusal pass.old pass.new }
+    {
+        begin(&self.table, &mut pass.caller);
+        match freeze_below(&self.table, rt, &mut pass.caller) {
+            Ok(outcome) => {
+                know(&pass.caller.seat);
+                give_up(&self.table, &mut pass.caller.seat);
+                pass.refused = pass.refused.or(outcome.refused);
+                Ok(outcome.frozen)
+            }
+            Err(full) => {
+                know(&pass.caller.seat);
+                give_up(&self.table, &mut pass.caller.seat);
+                Err(full)
+            }
+        }
+    }
+
+    /// The pair number `i` of a frozen tree, counted from 0 in the order of the keys, whatever
+    /// happened since. Never waits, takes no memory, and always answers.
+    ///
+    /// It goes down from the frozen root once. The calls of the pass are as before.
+    pub fn frozen_pair(&self, pass: &mut Pass, frozen: &Frozen, i: u64) -> Pair
+        requires same_tree { pass.old.tree ≡ self.now }
+        requires frozen { IsFrozenFor pass.old frozen.now }
+        requires within { i < frozen.now.keys }
+        ensures seen { HasSeenMore pass.old pass.new }
+        ensures pair { IsFrozenPair pass.old frozen.now i result }
+        ensures still { IsFrozenFor pass.new frozen.now }
+        ensures calls { pass.new.calls ≡ pass.old.calls }
+        ensures refused { pass.new.refused ≡ pass.old.refused }
+    {
+        know(&pass.caller.seat);
+        pair_at(&self.table, &mut pass.caller.seat, *frozen, i)
+    }
+}

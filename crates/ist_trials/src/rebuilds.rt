@@ -1,0 +1,90 @@
+//! Rebuilds behind puts, with roots that are built whole and roots that are shared.
+ghost use Rattle.std.specs.Prelude.{◌≡◌, ◌≤◌};
+
+use ist_core::{Command, Pair};
+use ist_tree::{OpenFault, Pass, Tree};
+use plain_map::Plain;
+use std::alloc::{AllocError, Global};
+use std::sync::Wait;
+use std::test::Fail;
+
+// The map with the keys from 1 to `last`, each with its own number as the value.
+fn numbered(alloc: Global, last: u64) -> Result<Plain, AllocError>
+    requires few { last ≤ 100000 }
+{
+    let mut plain = Plain::new(alloc);
+    for key in 1..last + 1 {
+        plain.apply(Command::Put { key, value: key })?;
+    }
+    Ok(plain)
+}
+
+// Puts the numbers from 1 to `last` at a key, one behind another. Gives whether each found the one before.
+fn put_again<R: Wait>(rt: &R, tree: &Tree, pass: &mut Pass, key: u64, first: u64, last: u64) -> bool
+    requires same_tree { pass.old.tree ≡ tree.now }
+    requires few { last ≤ 100000 }
+    ensures same_tree { pass.new.tree ≡ tree.now }
+{
+    let mut before = first;
+    let mut agrees = true;
+    for value in 1..last + 1 {
+        agrees = agrees && tree.put(rt, pass, key, value) == Ok(Some(before));
+        before = value;
+    }
+    agrees
+}
+
+// How many words are used, whether the tree is settled, and its pairs, where so many puts of one key are
+// made in a tree of so many keys; and whether each put was answered right, without a refused rebuild.
+fn used_by<R: Wait>(
+    rt: &R,
+    alloc: Global,
+    keys: u64,
+    key: u64,
+    puts: u64,
+) -> Result<(u64, bool, Vec<Pair>, bool), OpenFault>
+    requires few { (keys ≤ 100000) × (puts ≤ 100000) }
+{
+    let plain = numbered(alloc, keys)?;
+    let pairs = plain.pairs();
+    if pairs.len() > 100_000 {
+        return Err(OpenFault::Memory);
+    }
+    let (tree, mut maker) = Tree::open(alloc, 100_000, pairs)?;
+    let mut pass = tree.pass(&mut maker);
+    let agrees = put_again(rt, &tree, &mut pass, key, key, puts);
+    let ample = pass.rebuild_refused().is_none();
+    tree.take_back(&mut maker, pass);
+    let closed = tree.close(maker);
+    Ok((
+        closed.used(),
+        closed.settled(),
+        closed.pairs(alloc)?,
+        agrees && ample,
+    ))
+}
+
+#[test]
+fn rows_that_come_due_are_rebuilt_from_the_top_one_down(rt: HostRuntime) -> Result<(), Fail> {
+    // the keys, the key that is put, the puts, the words used: 4 and those of the opening, 11 a put, and for
+    // each rebuild 23 and those of the new inner rows
+    let cases = [
+        (2, 1, 7, 92),
+        (2, 1, 8, 133),
+        (16, 1, 8, 337),
+        (400, 1, 99, 6148),
+        (400, 1, 100, 8685),
+    ];
+    for (keys, key, puts, used) in cases {
+        let (found, settled, pairs, agrees) = used_by(&rt, rt.alloc(), keys, key, puts)?;
+        assert_eq!(rt; found, used, "{keys} keys, {puts} puts");
+        assert!(rt; settled && agrees, "{keys} keys, {puts} puts");
+        assert_eq!(rt; pairs.len() as u64, keys, "{keys} keys, {puts} puts");
+        assert_eq!(rt;
+            pairs.first(),
+            Some(&Pair { key, value: puts }),
+            "{keys} keys"
+        );
+    }
+    Ok(())
+}
