@@ -5,7 +5,9 @@
 
 use std::process::ExitCode;
 use std::{env, io};
+use tele_generations::NoShelf;
 use tele_io::{ReadSource, WriteSink};
+use tele_lanes::NoGate;
 use tele_run::run;
 
 /// The status where the arguments can't be had. `run` never answers it.
@@ -27,6 +29,15 @@ fn main(rt: HostRuntime) -> ExitCode {
     };
     let mut source = ReadSource::new(rt.stdin());
     let mut out = WriteSink::new(rt.stdout());
-    let outcome = run(&rt, rt.alloc(), words.as_slice(), &mut source, &mut out);
+    let mut shelf = NoShelf;
+    let outcome = run(
+        &rt,
+        rt.alloc(),
+        words.as_slice(),
+        &mut source,
+        &mut out,
+        &NoGate,
+        &mut shelf,
+    );
     ExitCode::from(outcome.status)
 }

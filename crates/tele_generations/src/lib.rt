@@ -1,8 +1,8 @@
 //! A round of tasks in generations: a table that runs full is followed by a larger one, until all
-//! tasks are answered. Over tables of any kind, which `Tables` makes.
+//! tasks are answered. What it is, and the parts of its loop; it knows no tree.
 //!
-//! Read `specs/Generations.antt` and `specs/Rounds.antt`, then `tables.rt` and `rounds.rt`. Stands
-//! on `tele_rounds`, `tele_lanes`, `plain_map` and `ist_math`.
+//! Read `specs/Generations.antt` and `specs/Rounds.antt`, then `ways.rt` and `rounds.rt`. Stands on
+//! `tele_rounds`, `tele_lanes`, `plain_map` and `ist_math`.
 #![tactic(auto)]
 
 mod rests;
@@ -12,7 +12,9 @@ mod sizes;
 mod tables;
 mod ways;
 
-pub use rounds::{Fulls, Round, run_round};
+pub use rests::Turn;
+pub use rounds::{Fulls, Round, finish};
 pub use shelves::{NoShelf, Shelf};
 pub use sizes::{first_words, next_words};
-pub use tables::{Generation, Tables};
+pub use tables::Generation;
+pub use ways::{Way, begin, go_on};

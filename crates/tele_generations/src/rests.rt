@@ -10,11 +10,14 @@ use plain_map::Plain;
 use std::alloc::AllocError;
 use tele_lanes::{Answer, Task};
 
-// What was answered, what is left, and from which pairs.
+/// What a turn came to.
 #[derive(Drop)]
-pub(crate) struct Turn {
+pub struct Turn {
+    /// What was answered in it.
     pub answers: Vec<Answer>,
+    /// What is left, rising by line.
     pub left: Vec<Task>,
+    /// The pairs behind it, rising by key.
     pub pairs: Vec<Pair>,
 }
 

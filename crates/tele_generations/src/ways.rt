@@ -10,18 +10,23 @@ use ist_core::{Full, Pair};
 use std::alloc::{AllocError, Global};
 use tele_lanes::{Answer, Task};
 
-// What was answered, what is left and from which pairs, and how many words the next table has.
+/// How far a round has come.
 #[derive(Drop)]
-pub(crate) struct Way {
+pub struct Way {
+    /// What was answered so far, table by table.
     pub answers: Vec<Answer>,
+    /// What is left, rising by line.
     pub left: Vec<Task>,
+    /// The pairs from which the next table begins, rising by key.
     pub pairs: Vec<Pair>,
+    /// The refusals of the tables that ran full, in order.
     pub fulls: Vec<Full>,
+    /// How many words the next table has.
     pub words: u32,
 }
 
-// Before the first table.
-pub(crate) fn begin(
+/// Before the first table. Fails for want of memory alone.
+pub fn begin(
     alloc: Global,
     pairs: &[Pair],
     tasks: &[Task],
@@ -49,8 +54,10 @@ pub(crate) fn begin(
     })
 }
 
-// Behind a table that ran full with these numbers, with what it answered and left.
-pub(crate) fn go_on(way: Way, turn: Turn, full: Full) -> Result<Way, AllocError>
+/// Behind a table that ran full with these numbers: with what it answered and left, or where it
+/// answered nothing with the first task that it left, answered by one thread. Fails for want of memory
+/// alone.
+pub fn go_on(way: Way, turn: Turn, full: Full) -> Result<Way, AllocError>
     requires some_left { 0 < length turn.left.items }
     requires rising { IsRising turn.pairs.items }
     requires few { length turn.pairs.items + length turn.left.items ≤ 2 ^ 24 }

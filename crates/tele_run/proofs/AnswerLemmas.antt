@@ -1,74 +1,14 @@
--- Some tasks were answered, and others are left; and the text of what was answered. Serves the
--- rounds.
-use Rattle.std.proofs.Common.{◌≡◌, ℕ, ◌<◌, length, arith, List, [], ◌∷◌, ◌++◌, refl, sym, ◌∙◌, ap, append_assoc, append-nil}
-use Rattle.std.specs.Prelude.{Option}
-use Rattle.std.proofs.lemmas.List.{map-append}
-use Rattle.ist_core.specs.Map.{Map, step, map_after, reply_to, replay, replies, listed}
+-- The text of tasks that were answered. Serves the rounds.
+use Rattle.std.proofs.Common.{◌≡◌, ℕ, ◌<◌, length, arith, List, [], ◌∷◌, ◌++◌, refl, sym, ◌∙◌, ap, append_assoc}
+use Rattle.ist_core.specs.Map.{Map, map_after, reply_to, replay, listed}
 use Rattle.tele_lanes.specs.declared.task_lists.Task.{Task}
 use Rattle.tele_lanes.specs.declared.answer_lists.Answer.{Answer}
-use Rattle.tele_lanes.specs.Lines.{commands_of, task_lines, answer_lines, replies_in}
+use Rattle.tele_lanes.specs.Lines.{commands_of}
 use Rattle.tele_lanes.specs.Lanes.{ArePlainAnswers}
 use Rattle.tele_lines.specs.declared.items.Version.{Version}
 use Rattle.tele_lines.specs.declared.items.Item.TheVariants.{Point, Interval}
 use Rattle.tele_lines.specs.Answer.{Read, Good, Bad, text_of, status_of, answer_text, interval_text}
 use Rattle.tele_run.specs.Open.{asked, answers_text}
-
--- the answers so far, and those that are due for the tasks that are left, are those to all tasks
-pub record HasAnswered (m now : Map) (all rest : List Task) (answers : List Answer) : Type 0 where
-  pub lines : answer_lines answers ++ task_lines rest ≡ task_lines all
-  pub replies : replies_in answers ++ replies now (commands_of rest) ≡ replies m (commands_of all)
-  pub behind : replay now (commands_of rest) ≡ replay m (commands_of all)
-
--- before the first task
-pub none_answered : (m : Map) (all : List Task) (answers : List Answer) → answers ≡ [] → HasAnswered
-    m m all all answers
-none_answered m all answers none = record {
-  lines = ap (λ xs. answer_lines xs ++ task_lines all) none;
-  replies = ap (λ xs. replies_in xs ++ replies m (commands_of all)) none;
-  behind = refl;
-}
-
--- one more task
-pub one_answered : (m now next : Map) (all rest others : List Task) (task : Task)
-    (answers later : List Answer) (reply : Option ℕ)
-    → rest ≡ task ∷ others → later ≡ answers ++ record { line = task.line; reply = reply } ∷ []
-    → ◌≡◌ {A = Map × Option ℕ} (next, reply) (step now task.command)
-    → HasAnswered m now all rest answers → HasAnswered m next all others later
-one_answered m now next all rest others task answers later reply is more one h =
-    let answer : Answer = record { line = task.line; reply = reply } in
-    let here : reply ≡ reply_to now task.command = ap (λ (p : Map × Option ℕ). p.1) one in
-    let map_is : next ≡ map_after now task.command = ap (λ (p : Map × Option ℕ). p.0) one in
-    record {
-      lines = ap (λ xs. answer_lines xs ++ task_lines others) more
-          ∙ ap (λ xs. xs ++ task_lines others) (map-append (λ a. a.line) answers (answer ∷ []))
-          ∙ append_assoc {A = ℕ} (answer_lines answers) (task.line ∷ []) (task_lines others)
-          ∙ ap (λ ts. answer_lines answers ++ task_lines ts) (sym is) ∙ h.lines;
-      replies = ap (λ xs. replies_in xs ++ replies next (commands_of others)) more
-          ∙ ap (λ xs. xs ++ replies next (commands_of others))
-          (map-append (λ a. a.reply) answers (answer ∷ []))
-          ∙ append_assoc {A = Option ℕ} (replies_in answers) (reply ∷ [])
-          (replies next (commands_of others))
-          ∙ ap (λ r. replies_in answers ++ r ∷ replies next (commands_of others)) here
-          ∙ ap (λ n. replies_in answers ++ reply_to now task.command ∷ replies n
-          (commands_of others)) map_is
-          ∙ ap (λ ts. replies_in answers ++ replies now (commands_of ts)) (sym is) ∙ h.replies;
-      behind = ap (λ n. replay n (commands_of others)) map_is
-          ∙ ap (λ ts. replay now (commands_of ts)) (sym is) ∙ h.behind;
-    }
-
--- all tasks
-pub all_answered : (m now : Map) (all rest : List Task) (answers : List Answer) → rest ≡ []
-    → HasAnswered m now all rest answers → ArePlainAnswers m all answers
-all_answered m now all rest answers is h = record {
-  lines = sym (append-nil (answer_lines answers)) ∙ ap (λ ts. answer_lines answers ++ task_lines ts)
-      (sym is) ∙ h.lines;
-  replies = sym (append-nil (replies_in answers))
-      ∙ ap (λ ts. replies_in answers ++ replies now (commands_of ts)) (sym is) ∙ h.replies;
-}
-
-pub all_behind : (m now : Map) (all rest : List Task) (answers : List Answer) → rest ≡ []
-    → HasAnswered m now all rest answers → now ≡ replay m (commands_of all)
-all_behind m now all rest answers is h = ap (λ ts. replay now (commands_of ts)) (sym is) ∙ h.behind
 
 -- the text of some tasks is that of their answers
 pub text-answered : (version : Version) (m : Map) (tasks : List Task) (answers : List Answer) →

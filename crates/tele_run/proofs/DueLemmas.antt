@@ -59,7 +59,7 @@ part_of_due was lines given bytes others before written is reads good part =
     (AppendsPart-longer before written (text_of was.m (lines ++ given)) follows.others part)
 
 -- the last lines are what is due
-due-last : (was : Moment) (lines last : List Read) (bytes : List ℕ) → was.lines ≡ lines
+pub due-last : (was : Moment) (lines last : List Read) (bytes : List ℕ) → was.lines ≡ lines
     → read_at was.place (lines_of bytes) ≡ last → was.lines ++ read_at was.place (lines_of bytes) ≡
     lines ++ last
 due-last was lines last bytes is reads = ap (λ ls. was.lines ++ ls) reads ∙ ap (λ ls. ls ++ last) is

@@ -1,5 +1,5 @@
 -- Which job the words ask for. Serves the reading of the words.
-use Rattle.std.proofs.Common.{◌≡◌, ℕ, List, Bool, true, false, sym, ◌∙◌, ap}
+use Rattle.std.proofs.Common.{◌≡◌, ℕ, List, Bool, true, false, sym, ◌∙◌, ap, subst}
 use Rattle.std.specs.Prelude.{Some, None, if◌then◌else◌}
 use Rattle.tele_command.specs.CommandLine.{are_refused, options_in}
 use Rattle.tele_command.specs.declared.options.Options.{Options}
@@ -37,3 +37,11 @@ reads words options is same none = sym (ap (λ g. job_for g options.seed) none) 
 pub refuses : (words : List (List ℕ)) → are_refused words ≡ true → Refuse ≡ job_of words
 unfolding job_of
 refuses words is = ap (λ b. job_by b (options_in words)) (sym is)
+
+-- what holds of the lines of a job holds whichever numbers the job is known by
+pub of_same_lines : (P : ℕ → ℕ → Type 0) (job : Job) (count seed many from : ℕ)
+    → job ≡ Make count seed → job ≡ Make many from → P count seed → P many from
+of_same_lines P job count seed many from is same h =
+    let counts : count ≡ many = cc (is, same) in
+    let seeds : seed ≡ from = cc (is, same) in
+    subst (λ n. P n from) counts (subst (P count) seeds h)

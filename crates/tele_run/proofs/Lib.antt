@@ -7,4 +7,10 @@ pub mod JobLemmas
 pub mod MadeLemmas
 pub mod DueLemmas
 pub mod ToldLemmas
-pub mod StepMomentLemmas
+pub mod CutLemmas
+pub mod BehindLemmas
+pub mod RanLemmas
+pub mod OpenLemmas
+pub mod TakenLemmas
+pub mod DueRoundLemmas
+pub mod MadeRoundLemmas

@@ -8,7 +8,7 @@ use Rattle.ist_core.specs.declared.commands.Command.{Command}
 use Rattle.ist_core.specs.Map.{Map, map_of, no_pairs, map_after, reply_to, replay, replies, pairs_of}
 use Rattle.tele_lanes.specs.declared.task_lists.Task.{Task}
 use Rattle.tele_lanes.specs.Lines.{commands_of}
-use Rattle.tele_run.specs.Open.{Open, map_in}
+use Rattle.tele_run.specs.Open.{Open, fresh_round, map_in}
 use Rattle.tele_made.specs.declared.summaries.Summary.{Summary}
 use Rattle.tele_made.specs.Summaries.{summary_of, value_sum}
 use Rattle.tele_made.specs.Made.{next_number, made_command, made_commands}
@@ -110,18 +110,18 @@ next_made count line number lt =
 
 -- at a moment between two made lines: what was found and what is left are what all lines find, and
 -- no more was found than made
-pub record Sums (count seed line number found : ℕ) (now : Open) : Type 0 where
+pub record Sums {C : Type 0} (count seed line number found : ℕ) (now : Open C) : Type 0 where
   pub made : HasMade (made_commands count seed) (map_in now) now.tasks
       (made_commands (count - line) number) found
   pub few : found + length now.tasks ≤ line
 
 -- before the first line
-pub sums_first : (count seed number : ℕ) (now : Open) → number ≡ seed → now ≡ record
-    { pairs = []; tasks = []; answers = [] }
+pub sums_first : {C : Type 0} (count seed number : ℕ) (workers words : ℕ) (now : Open C)
+    → number ≡ seed → now ≡ fresh_round workers words
     → Sums count seed 0 number 0 now
-sums_first count seed number now is empty =
+sums_first count seed number workers words now is empty =
     subst (λ n. Sums count seed 0 n 0 now) (sym is)
-    (subst (λ o. Sums count seed 0 seed 0 o) (sym empty)
+    (subst (λ (o : Open _). Sums count seed 0 seed 0 o) (sym empty)
     (record {
       made = let e : count ≡ count - 0 = omega arith in
           subst (λ n. HasMade (made_commands count seed) no_pairs [] (made_commands n seed) 0) e
@@ -130,7 +130,7 @@ sums_first count seed number now is empty =
     }))
 
 -- one more line is open
-pub sums_asked : (count seed line number next found : ℕ) (before now : Open) (task : Task) → line <
+pub sums_asked : {C : Type 0} (count seed line number next found : ℕ) (before now : Open C) (task : Task) → line <
     count
     → task.command ≡ made_command (next_number number) → next ≡ next_number number
     → now.tasks ≡ before.tasks ++ task ∷ [] → now.pairs ≡ before.pairs
@@ -151,7 +151,7 @@ sums_asked count seed line number next found before now task lt command is more 
     }
 
 -- the open lines were answered
-pub sums_closed : (count seed line number found more later : ℕ) (before now : Open)
+pub sums_closed : {C : Type 0} (count seed line number found more later : ℕ) (before now : Open C)
     → more ≡ values_in (map_in before) (commands_of before.tasks) → more ≤ length before.tasks
     → map_in now ≡ replay (map_in before) (commands_of before.tasks) → now.tasks ≡ [] → later ≡
     found + more
@@ -163,7 +163,7 @@ sums_closed count seed line number found more later before now counts few is non
 }
 
 -- all lines were made and answered
-pub sums_last : (count seed line number found : ℕ) (now : Open) → count ≤ line → now.tasks ≡ [] →
+pub sums_last : {C : Type 0} (count seed line number found : ℕ) (now : Open C) → count ≤ line → now.tasks ≡ [] →
     Sums count seed line number found now
     → (found ≡ values_in no_pairs (made_commands count seed)) ×
     (map_in now ≡ replay no_pairs (made_commands count seed))

@@ -9,7 +9,8 @@ use Rattle.std.proofs.Math.Bool.{or-true}
 use Rattle.tele_lanes.specs.declared.task_lists.Task.{Task}
 use Rattle.tele_lines.specs.declared.items.Item.TheVariants.{Point, Interval}
 use Rattle.tele_lines.specs.declared.items.Version.{Version}
-use Rattle.tele_lines.specs.Answer.{Read, Good}
+use Rattle.tele_lines.specs.declared.items.Cause.{Cause}
+use Rattle.tele_lines.specs.Answer.{Read, Good, Bad}
 use Rattle.tele_lines.specs.Rounds.{round_limit, rounds, rounds_from, is_whole, is_point, is_interval, in_whole_rounds}
 use Rattle.tele_run.specs.Open.{asked}
 
@@ -23,7 +24,7 @@ behind_line line n others cut = if cut then (line ∷ []) ∷ rounds_from 0 othe
     (rounds_from (n + 1) others)
 
 -- as many point lines as a round has at most are one round
-cut_full : (version : Version) (n : ℕ) (task : Task) (tasks : List Task) (more : List Read)
+pub cut_full : (version : Version) (n : ℕ) (task : Task) (tasks : List Task) (more : List Read)
     → n + length (task ∷ tasks) ≡ round_limit
     → rounds_from n (asked version (task ∷ tasks) ++ more) ≡ asked version (task ∷ tasks) ∷ rounds
     more
@@ -37,7 +38,7 @@ cut_full version n task (next ∷ tasks) more full =
     (cut_full version (n + 1) next tasks more (omega (arith, full)))
 
 -- fewer point lines, and an interval line behind them, are one round
-cut_interval : (version : Version) (n number first last : ℕ) (tasks : List Task) (more : List Read)
+pub cut_interval : (version : Version) (n number first last : ℕ) (tasks : List Task) (more : List Read)
     → n + length tasks < round_limit
     → rounds_from n (asked version tasks ++ Good number version (Interval first last) ∷ more)
     ≡ (asked version tasks ++ Good number version (Interval first last) ∷ []) ∷ rounds more
@@ -50,7 +51,7 @@ cut_interval version n number first last (task ∷ tasks) more few =
     (cut_interval version (n + 1) number first last tasks more (omega (arith, few)))
 
 -- fewer point lines are one round, if they are any
-cut_open : (version : Version) (n : ℕ) (task : Task) (tasks : List Task) → n + length (task ∷ tasks)
+pub cut_open : (version : Version) (n : ℕ) (task : Task) (tasks : List Task) → n + length (task ∷ tasks)
     < round_limit
     → rounds_from n (asked version (task ∷ tasks)) ≡ asked version (task ∷ tasks) ∷ []
 cut_open version n task [] few =
@@ -61,6 +62,18 @@ cut_open version n task (next ∷ tasks) few =
     (ne_eqb (n + 1) round_limit (λ e. omega (arith, few, e)))
     ∙ ap (onto_first (line_of version task))
     (cut_open version (n + 1) next tasks (omega (arith, few)))
+
+-- fewer point lines, and a bad line behind them, are one round
+pub cut_bad : (version : Version) (n line : ℕ) (cause : Cause) (tasks : List Task)
+    → n + length tasks < round_limit
+    → rounds_from n (asked version tasks ++ Bad line cause ∷ [])
+    ≡ (asked version tasks ++ Bad line cause ∷ []) ∷ []
+cut_bad version n line cause [] few = refl
+cut_bad version n line cause (task ∷ tasks) few =
+    ap (behind_line (line_of version task) n (asked version tasks ++ Bad line cause ∷ []))
+    (ne_eqb (n + 1) round_limit (λ e. omega (arith, few, e)))
+    ∙ ap (onto_first (line_of version task))
+    (cut_bad version (n + 1) line cause tasks (omega (arith, few)))
 
 -- tasks are point lines
 all_points : (version : Version) (tasks : List Task) → count_by is_point (asked version tasks) ≡

@@ -31,6 +31,16 @@ pub on_err : {A E P Q : Type 0} (r : Result A E) → OnErr r P → (P → Q) →
 on_err (Ok a) p f = tt
 on_err (Err e) p f = f p
 
+-- what follows from two facts where a call succeeds
+pub on_ok2 : {A E P Q R : Type 0} (r : Result A E) → OnOk r P → OnOk r Q → (P → Q → R) → OnOk r R
+on_ok2 (Ok a) p q f = f p q
+on_ok2 (Err e) p q f = tt
+
+-- what holds holds where a call succeeds
+pub at_ok : {A E P : Type 0} (r : Result A E) → P → OnOk r P
+at_ok (Ok a) p = p
+at_ok (Err e) p = tt
+
 -- what follows from three facts where a call succeeds
 pub on_ok3 : {A E P Q R S : Type 0} (r : Result A E) → OnOk r P → OnOk r Q → OnOk r R →
     (P → Q → R → S) → OnOk r S

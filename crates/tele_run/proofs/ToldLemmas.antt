@@ -11,7 +11,7 @@ use Rattle.tele_lines.specs.Answer.{Read, text_of, status_of}
 use Rattle.tele_lines.specs.Rounds.{round_limit}
 use Rattle.tele_lines.specs.Buffers.{unread_of}
 use Rattle.tele_lines.specs.Progress.{Place, place_of, version_of, read_at, GoesTo, Waits, unread}
-use Rattle.tele_run.specs.Open.{Open, asked, map_in}
+use Rattle.tele_run.specs.Open.{Open, asked, fresh_round, map_in}
 use Rattle.tele_run.specs.Due.{Moment, moment_of, Takes, due, whole_due, whole_text, RunsTo, Ends}
 use Rattle.tele_run.specs.Causes.{Stops}
 use Rattle.tele_run.proofs.RoundLemmas.{in_whole-open}
@@ -26,15 +26,11 @@ first_at place = record { m = no_pairs; lines = []; place = place }
 abbrev pub first_moment : Moment
 first_moment = first_at (record { limit = line_limit; count = 0; mode = None })
 
--- a round without lines, over the map with no key
-abbrev pub no_round : Open
-no_round = record { pairs = []; tasks = []; answers = [] }
-
 -- a fresh reader and such a round are there
-pub at_first : (lines : Lines) (round : Open) → place_of lines ≡ first_moment.place → round ≡
-    no_round
+pub at_first : {C : Type 0} (workers words : ℕ) (lines : Lines) (round : Open C)
+    → place_of lines ≡ first_moment.place → round ≡ fresh_round workers words
     → moment_of lines round ≡ first_moment
-at_first lines round place empty =
+at_first workers words lines round place empty =
     ap (moment_of lines) empty ∙ ap first_at place
 
 -- lines were read and taken into the round
@@ -159,7 +155,8 @@ splits kept bytes false (Some rest) going is = record { rest = rest; leaves = re
 splits kept bytes false None going is = absurd (cc is)
 
 -- a failed read, where the reader has kept bytes without a whole line, and the round is open
-stops_at : (bytes : List ℕ) (before written : Option (List ℕ)) (round : Open) (lines : Lines)
+stops_at : {C : Type 0} (bytes : List ℕ) (before written : Option (List ℕ)) (round : Open C)
+    (lines : Lines)
     (left : Option (List ℕ))
     → RunsTo first_moment bytes before written lines.ended (unread lines left)
     (moment_of lines round)
@@ -188,7 +185,8 @@ stops_at bytes before written round lines left one waits few =
       good = one.whole_status waits.open_end lines.buffer ∙ ap status_of no_more ∙ good;
     }
 
-pub stops_if : (all before written : Option (List ℕ)) (round : Open) (lines : Lines)
+pub stops_if : {C : Type 0} (all before written : Option (List ℕ)) (round : Open C)
+    (lines : Lines)
     (left : Option (List ℕ))
     → IfSome all (λ bytes. RunsTo first_moment bytes before written lines.ended (unread lines left)
     (moment_of lines round))

@@ -7,7 +7,9 @@ use Rattle.tele_lines.specs.Lines.{lines_of, whole_lines}
 use Rattle.tele_lines.specs.Answer.{Answer, Read, text_of, status_of}
 use Rattle.tele_lines.specs.Rounds.{in_whole_rounds}
 use Rattle.tele_lines.specs.Progress.{Place, read_at, place_of, version_of}
-use Rattle.tele_run.specs.Open.{Open, asked, map_in}
+use Rattle.tele_lanes.specs.declared.task_lists.Task.{Task}
+use Rattle.tele_run.specs.Rounds.{task_rounds}
+use Rattle.tele_run.specs.Open.{Open, RunsOn, asked, map_in}
 
 -- a moment of a run: the map behind the rounds that were answered, the lines of the open round, and
 -- how far the reading has come
@@ -17,7 +19,7 @@ pub record Moment : Type 0 where
   pub place : Place
 
 -- the moment at which a reader and an open round are
-abbrev pub moment_of : Lines → Open → Moment
+abbrev pub moment_of : {C : Type 0} → Lines → Open C → Moment
 moment_of lines open_round = record {
   m = map_in open_round;
   lines = asked (version_of lines) open_round.tasks;
@@ -74,3 +76,28 @@ pub record RunsTo (was : Moment) (then_bytes : List ℕ) (before written : Optio
 pub record Ends (whole : Answer) (before written : Option (List ℕ)) (ending : ℕ) : Type 0 where
   pub writes : Appends before written whole.text
   pub status : ending ≡ whole.status
+
+-- the rounds of the open lines, and of the bytes behind them
+abbrev pub rounds_due : Moment → List ℕ → List (List Task)
+rounds_due at bytes = task_rounds (at.lines ++ read_at at.place (lines_of bytes))
+
+-- some lines were taken into the round, and others are open then: with the rounds that were run
+-- these are all
+pub record TakesRounds {C : Type 0} (words_of : C → List ℕ) (old : Open C)
+    (kept : Option (List C)) (new : Open C) (later : Option (List C))
+    (lines then_lines : List Read) : Type 0 where
+  pub more : List (List Task)
+  pub ran : RunsOn words_of old kept new later more
+  pub cut : (others : List Read)
+      → task_rounds (lines ++ others) ≡ more ++ task_rounds (then_lines ++ others)
+
+-- from one moment to a later one: with the rounds that were run since, those that are due then are
+-- all that were due before
+pub record RunsRounds {C : Type 0} (words_of : C → List ℕ) (old : Open C)
+    (kept : Option (List C)) (new : Open C) (later : Option (List C)) (was : Moment)
+    (bytes : List ℕ) (unread : Option (List ℕ)) (now : Moment) : Type 0 where
+  pub more : List (List Task)
+  pub ran : RunsOn words_of old kept new later more
+  pub rest : List ℕ
+  pub leaves : unread ≡ Some rest
+  pub due : rounds_due was bytes ≡ more ++ rounds_due now rest

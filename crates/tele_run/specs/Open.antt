@@ -1,24 +1,45 @@
--- The round that is open: the map behind the rounds before it, and its point lines.
-use Rattle.std.specs.Prelude.{◌≡◌, ℕ, List, [], map}
+-- The round that is open: the map behind the rounds before it, its point lines, and the last table.
+use Rattle.std.specs.Prelude.{◌≡◌, ℕ, ◌+◌, ◌<◌, List, [], ◌∷◌, ◌++◌, map, length, Option, None}
+use Rattle.ist_core.specs.Elements.{Each}
 use Rattle.std.specs.List.{flat_map}
+use Rattle.std.specs.List.Sorted.{IsStrictlyIncreasing}
 use Rattle.ist_core.specs.declared.pairs.Pair.{Pair}
-use Rattle.ist_core.specs.Map.{Map, map_of, replay}
+use Rattle.ist_core.specs.Map.{Map, no_pairs, map_of, replay}
 use Rattle.tele_lanes.specs.declared.task_lists.Task.{Task}
 use Rattle.tele_lanes.specs.declared.answer_lists.Answer.{Answer}
-use Rattle.tele_lanes.specs.Lines.{commands_of}
+use Rattle.tele_lanes.specs.Lines.{commands_of, task_lines}
 use Rattle.tele_lanes.specs.Lanes.{ArePlainAnswers}
 use Rattle.tele_lines.specs.declared.items.Item.TheVariants.{Point}
 use Rattle.tele_lines.specs.declared.items.Version.{Version}
 use Rattle.tele_lines.specs.Answer.{Read, Good, answer_text}
+use Rattle.tele_run.specs.Rounds.{map_after_rounds, RanRounds}
 
--- the pairs of a map, the lines that it is to answer next, and the answers to those before them
-pub record Open : Type 0 where
+-- the pairs of a map, the lines that it is to answer next, and the answers to those before them; the
+-- last table of the rounds before, and how many tables of the last of them ran full; by how many
+-- workers a round is run, and how many words its first table has at most
+pub record Open (C : Type 0) : Type 0 where
   pub pairs : List Pair
   pub tasks : List Task
   pub answers : List Answer
+  pub last : Option C
+  pub fulls : ℕ
+  pub workers : ℕ
+  pub words : ℕ
+
+-- a round without lines over the map with no key, before the first table
+abbrev pub fresh_round : {C : Type 0} → ℕ → ℕ → Open C
+fresh_round workers words = record {
+  pairs = [];
+  tasks = [];
+  answers = [];
+  last = None;
+  fulls = 0;
+  workers = workers;
+  words = words;
+}
 
 -- the map of an open round
-abbrev pub map_in : Open → Map
+abbrev pub map_in : {C : Type 0} → Open C → Map
 map_in open_round = map_of open_round.pairs
 
 -- the tasks as lines of an input of some version
@@ -30,7 +51,36 @@ abbrev pub answers_text : Version → List Answer → List ℕ
 answers_text version answers = flat_map (λ answer. answer_text version answer.line answer.reply) answers
 
 -- the tasks of a round were answered in their order, and none is left
-pub record Closes (before now : Open) : Type 0 where
+pub record Closes {C : Type 0} (before now : Open C) : Type 0 where
   pub answered : ArePlainAnswers (map_in before) before.tasks now.answers
   pub behind : map_in now ≡ replay (map_in before) (commands_of before.tasks)
   pub none : now.tasks ≡ []
+
+-- the tasks rise by line, all lie before the line of this number, and so do enough lines for all
+-- pairs and tasks
+pub record IsOpenBefore {C : Type 0} (number : ℕ) (open_round : Open C) : Type 0 where
+  pub rises : IsStrictlyIncreasing (task_lines open_round.tasks)
+  pub below : Each (λ task. task.line < number) open_round.tasks
+  pub few : length open_round.pairs + length open_round.tasks < number
+
+-- the round that some tasks are, if there are any
+abbrev pub round_for : List Task → List (List Task)
+round_for [] = []
+round_for (task ∷ tasks) = (task ∷ tasks) ∷ []
+
+-- these rounds were run, and the open one begins with the map behind them
+pub record HasRun {C : Type 0} (words_of : C → List ℕ) (workers most : ℕ)
+    (rounds : List (List Task)) (before after : Option (List C))
+    (open_round : Open C) : Type 0 where
+  pub ran : RanRounds words_of workers most rounds before after open_round.last open_round.fulls
+  pub begins : map_in open_round ≡ map_after_rounds no_pairs rounds
+  pub workers_are : open_round.workers ≡ workers
+  pub most_is : open_round.words ≡ most
+
+-- whatever rounds were run before, these were run behind them
+abbrev pub RunsOn : {C : Type 0} → (C → List ℕ) → Open C → Option (List C) → Open C
+    → Option (List C) → List (List Task) → Type 0
+RunsOn words_of old kept new later more =
+    (workers most : ℕ) (rounds : List (List Task)) (before : Option (List _))
+    → HasRun words_of workers most rounds before kept old
+    → HasRun words_of workers most (rounds ++ more) before later new

@@ -1,9 +1,13 @@
 //! What a run is to do.
-ghost use Rattle.std.specs.Prelude.{◌≡◌, map, string_bytes, IfOk};
+ghost use Rattle.std.specs.Prelude.{◌≡◌, ℕ, ◌≤◌, ◌^◌, map, string_bytes, IfOk};
+ghost use Rattle.tele_command.specs.CommandLine.{options_in};
 ghost use Rattle.tele_run.specs.Jobs.{job_of};
 
 use std::alloc::{AllocError, Global};
-use tele_command::{Refusal, read_options};
+use tele_command::{Options, Refusal, read_options};
+
+/// The most lines of a run.
+pub(crate) const LINE_LIMIT: u64 = 16_777_216;
 
 /// What a run is to do, by the words of its command line.
 #[derive(Clone, Copy, Debug, PartialEq, Eq, Drop)]
@@ -16,19 +20,61 @@ pub(crate) enum Job {
     Read,
 }
 
-/// Reads the words of the command line.
-pub(crate) fn read_job(alloc: Global, words: &[String]) -> Result<Job, AllocError>
-    ensures value { IfOk result (λ job. job ≡ job_of (map string_bytes words.now)) }
+/// What a run is to do, by how many workers, and with how many words at most in the first table of
+/// a round.
+#[derive(Clone, Copy, Debug, PartialEq, Eq, Drop)]
+pub(crate) struct Plan {
+    pub job: Job,
+    pub workers: u32,
+    pub words: u32,
+}
+
+/// Reads the words of the command line. More lines to be made than a run may have find no memory.
+pub(crate) fn read_plan(alloc: Global, words: &[String]) -> Result<Plan, AllocError>
+    ensures value { IfOk result (λ plan. plan.job ≡ job_of (map string_bytes words.now)) }
+    ensures workers { IfOk result (λ plan. ¬ (plan.job ≡ Job.Refuse) →
+        plan.workers ≡ (options_in (map string_bytes words.now)).workers) }
+    ensures words { IfOk result (λ plan. ¬ (plan.job ≡ Job.Refuse) →
+        plan.words ≡ (options_in (map string_bytes words.now)).words) }
+
+    ensures some { IfOk result (λ plan. 1 ≤ plan.workers) }
+    ensures at_most { IfOk result (λ plan. plan.workers ≤ 64) }
+    ensures least { IfOk result (λ plan. 64 ≤ plan.words) }
+    ensures most { IfOk result (λ plan. plan.words ≤ 2 ^ 28) }
+    ensures few { IfOk result (λ plan. (count seed : ℕ) →
+        plan.job ≡ Job.Make count seed → count ≤ LINE_LIMIT) }
 {
     match read_options(alloc, words) {
         Ok(options) => match options.generate {
-            Some(count) => Ok(Job::Make {
-                count,
-                seed: options.seed,
-            }),
-            None => Ok(Job::Read),
+            Some(count) if count > LINE_LIMIT => Err(AllocError),
+            Some(count) => Ok(plan_for(
+                Job::Make {
+                    count,
+                    seed: options.seed,
+                },
+                options,
+            )),
+            None => Ok(plan_for(Job::Read, options)),
         },
-        Err(Refusal::Usage) => Ok(Job::Refuse),
+        Err(Refusal::Usage) => Ok(Plan {
+            job: Job::Refuse,
+            workers: 1,
+            words: 64,
+        }),
         Err(Refusal::Memory) => Err(AllocError),
+    }
+}
+
+/// The plan for a job by the options.
+fn plan_for(job: Job, options: Options) -> Plan
+    requires at_most { options.workers ≤ 64 }
+    requires most { options.words ≤ 2 ^ 28 }
+    ensures value { result ≡ record
+        { job = job; workers = options.workers; words = options.words } }
+{
+    Plan {
+        job,
+        workers: options.workers as u32,
+        words: options.words as u32,
     }
 }

@@ -1,7 +1,7 @@
 //! The program as one call, from bytes to bytes.
 //!
-//! Read the contract of `run` in `runs.rt`. Stands on `ist_core`, `tele_io`,
-//! `tele_lines`, `plain_map` and `tele_lanes`.
+//! Read `specs/Rounds.antt`, then the contract of `run` in `runs.rt`. Stands on `ist_core`,
+//! `tele_io`, `tele_lines`, `plain_map`, `tele_lanes`, `tele_generations` and `tele_trees`.
 #![tactic(auto)]
 
 mod jobs;

@@ -1,47 +1,86 @@
 //! A run over made lines: the same rounds, no reply printed, and a summary at the end.
-ghost use Rattle.std.specs.Prelude.{◌≡◌, ◌≤◌, ◌⊎◌, [], is_some, length, IfOk, OnOk};
+ghost use Rattle.std.specs.Prelude.{◌≡◌, ◌+◌, ◌≤◌, ◌^◌, ◌⊎◌, [], is_some, length, IfOk, OnOk};
 ghost use Rattle.std.specs.List.{count_by};
+ghost use Rattle.std.specs.List.Sorted.{IsStrictlyIncreasing};
 ghost use Rattle.ist_core.specs.Map.{replay, replies};
 ghost use Rattle.tele_io.specs.Bytes.{HaveRisen, Appends, AppendsPart};
-ghost use Rattle.tele_lanes.specs.Lines.{commands_of};
+ghost use Rattle.tele_lanes.specs.Lines.{commands_of, task_lines};
 ghost use Rattle.tele_made.specs.Summaries.{summary_of, summary_text};
-ghost use Rattle.tele_run.specs.Causes.{IsCutShort};
-ghost use Rattle.tele_run.specs.Open.{map_in};
+ghost use Rattle.tele_run.specs.Causes.{IsAnswer, IsCutShort};
+ghost use Rattle.tele_run.specs.Rounds.{RanRounds, made_rounds};
+ghost use Rattle.tele_run.specs.Endings.{HasNoTable};
+ghost use Rattle.tele_run.specs.Open.{HasRun, RunsOn, fresh_round, map_in, round_for};
 
-use crate::outcomes::{ANSWERED, NO_MEMORY, WRITE_FAILED};
-use crate::rounds::Round;
+use crate::outcomes::{ANSWERED, NO_MEMORY, Outcome, WRITE_FAILED, ended};
+use crate::rounds::{Round, close};
 use crate::steps::refused;
+use ist_rest::Closed;
 use std::alloc::{AllocError, Global};
+use std::sync::Wait;
+use std::thread::Threads;
+use tele_generations::Shelf;
 use tele_io::Sink;
-use tele_lanes::{Answer, Task};
+use tele_lanes::{Answer, Gate, Task};
 use tele_made::{Maker, Summary, print_summary, sum_of};
+use tele_trees::TreeTables;
 
-/// Makes lines from a seed, answers them, and prints the summary. It gives the status.
-pub(crate) fn make_all<O: Sink>(alloc: Global, count: u64, seed: u64, out: &mut O) -> u8
-    ensures text { result ≡ ANSWERED → Appends (O.written out.old) (O.written out.new)
+/// Makes lines from a seed, answers them, and prints the summary.
+pub(crate) fn make_all<R: Threads + Wait + Sync, G: Gate + Sync, H: Shelf<Closed>, O: Sink>(
+    rt: &R,
+    gate: &G,
+    alloc: Global,
+    tables: &mut TreeTables,
+    shelf: &mut H,
+    round: Round,
+    count: u64,
+    seed: u64,
+    out: &mut O,
+) -> Outcome
+    requires fresh { round ≡ fresh_round round.workers round.words }
+    requires few { count ≤ 2 ^ 24 }
+
+    ensures text { result.status ≡ ANSWERED → Appends (O.written out.old) (O.written out.new)
         (summary_text (summary_of count seed)) }
-    ensures part { IsCutShort result → AppendsPart (O.written out.old) (O.written out.new)
+    ensures ran { result.status ≡ ANSWERED → RanRounds (λ table. table) round.workers round.words
+        (made_rounds count seed) (H.kept shelf.old) (H.kept shelf.new)
+        result.last result.fulls }
+    ensures none { ¬ (IsAnswer result.status) → HasNoTable result }
+    ensures part { IsCutShort result.status → AppendsPart (O.written out.old) (O.written out.new)
         (summary_text (summary_of count seed)) }
 
-    ensures statuses { (result ≡ ANSWERED) ⊎ IsCutShort result }
-    ensures failed { result ≡ WRITE_FAILED → HaveRisen (O.faults out.old) (O.faults out.new) }
+    ensures statuses { (result.status ≡ ANSWERED) ⊎ IsCutShort result.status }
+    ensures failed { result.status ≡ WRITE_FAILED →
+        HaveRisen (O.faults out.old) (O.faults out.new) }
 
     ensures counted { O.faults out.old ≤ O.faults out.new }
 {
-    match summarize(alloc, count, seed) {
+    let mut round = round;
+    let status = match summarize(rt, gate, tables, shelf, &mut round, count, seed) {
         Ok(summary) => match print_summary(out, alloc, summary) {
             Ok(()) => ANSWERED,
             Err(fault) => refused(fault),
         },
         Err(AllocError) => NO_MEMORY,
-    }
+    };
+    ended(status, round)
 }
 
 /// Makes lines from a seed, answers them in rounds, and sums up.
-fn summarize(alloc: Global, count: u64, seed: u64) -> Result<Summary, AllocError>
+fn summarize<R: Threads + Wait + Sync, G: Gate + Sync, H: Shelf<Closed>>(
+    rt: &R,
+    gate: &G,
+    tables: &mut TreeTables,
+    shelf: &mut H,
+    round: &mut Round,
+    count: u64,
+    seed: u64,
+) -> Result<Summary, AllocError>
+    requires fresh { round.old ≡ fresh_round round.old.workers round.old.words }
+    requires few { count ≤ 2 ^ 24 }
     ensures value { IfOk result (λ summary. summary ≡ summary_of count seed) }
+    ensures ran { OnOk result (HasRun (λ table. table) round.old.workers round.old.words
+        (made_rounds count seed) (H.kept shelf.old) (H.kept shelf.new) round.new) }
 {
-    let mut round = Round::new(alloc);
     let mut maker = Maker::new(seed);
     let mut found = 0;
     for line in 0..count {
@@ -50,10 +89,10 @@ fn summarize(alloc: Global, count: u64, seed: u64) -> Result<Summary, AllocError
             command: maker.make(),
         })?;
         if round.is_full() {
-            found += answer_made(&mut round)?;
+            found += answer_made(rt, gate, tables, shelf, round)?;
         }
     }
-    found += answer_made(&mut round)?;
+    found += answer_made(rt, gate, tables, shelf, round)?;
     Ok(Summary {
         made: count,
         keys: round.pairs().len() as u64,
@@ -63,15 +102,27 @@ fn summarize(alloc: Global, count: u64, seed: u64) -> Result<Summary, AllocError
 }
 
 /// Answers the lines of the round, and says how many of the replies are values.
-fn answer_made(round: &mut Round) -> Result<u64, AllocError>
+fn answer_made<R: Threads + Wait + Sync, G: Gate + Sync, H: Shelf<Closed>>(
+    rt: &R,
+    gate: &G,
+    tables: &mut TreeTables,
+    shelf: &mut H,
+    round: &mut Round,
+) -> Result<u64, AllocError>
+    requires rising { IsStrictlyIncreasing (task_lines round.old.tasks) }
+    requires few { length round.old.pairs + length round.old.tasks ≤ 2 ^ 24 }
     ensures found { IfOk result (λ found. found ≡
         count_by is_some (replies (map_in round.old) (commands_of round.old.tasks))) }
     ensures few { IfOk result (λ found. found ≤ length round.old.tasks) }
     ensures behind { OnOk result
         (map_in round.new ≡ replay (map_in round.old) (commands_of round.old.tasks)) }
     ensures none { OnOk result (round.new.tasks ≡ []) }
+    ensures ran { OnOk result (RunsOn (λ table. table) round.old (H.kept shelf.old) round.new
+        (H.kept shelf.new) (round_for round.old.tasks)) }
+    ensures few_pairs { OnOk result
+        (length round.new.pairs ≤ length round.old.pairs + length round.old.tasks) }
 {
-    round.close()?;
+    close(rt, gate, tables, shelf, round)?;
     Ok(count_values(round.answers()))
 }
 

@@ -1,4 +1,10 @@
 //! How a run ends.
+ghost use Rattle.std.specs.Prelude.{◌≡◌, None};
+ghost use Rattle.tele_run.specs.Causes.{IsAnswer};
+ghost use Rattle.tele_run.specs.Endings.{HasNoTable};
+
+use crate::rounds::Round;
+use ist_rest::Closed;
 
 /// The input was read to its end, and every line was answered.
 pub const ANSWERED: u8 = 0;
@@ -19,8 +25,41 @@ pub const WRITE_FAILED: u8 = 5;
 pub const NO_MEMORY: u8 = 7;
 
 /// How a run ended.
-#[derive(Clone, Copy, Debug, PartialEq, Eq, Drop)]
+#[derive(Drop)]
 pub struct Outcome {
     /// The exit status: one of the constants of this module.
     pub status: u8,
+    /// The last table, where the input was answered and a line asked for one.
+    pub last: Option<Closed>,
+    /// How many tables of the last round ran full.
+    pub fulls: u64,
+}
+
+/// A run that ended without an answer to its input.
+pub(crate) fn without_table(status: u8) -> Outcome
+    ensures value { result ≡ record { status = status; last = None; fulls = 0 } }
+{
+    Outcome {
+        status,
+        last: None,
+        fulls: 0,
+    }
+}
+
+/// A run that ended with this round.
+pub(crate) fn ended(status: u8, round: Round) -> Outcome
+    ensures status { result.status ≡ status }
+    ensures last { IsAnswer status → result.last ≡ round.last }
+    ensures fulls { IsAnswer status → result.fulls ≡ round.fulls }
+    ensures none { ¬ (IsAnswer status) → HasNoTable result }
+{
+    if status == ANSWERED || status == BAD_LINE {
+        Outcome {
+            status,
+            fulls: round.fulls(),
+            last: round.into_last(),
+        }
+    } else {
+        without_table(status)
+    }
 }

@@ -1,45 +1,78 @@
-//! The open round: the point lines that are to be answered next, and the map that answers them.
-ghost use Rattle.std.specs.Prelude.{◌≡◌, ◌<◌, ◌↔◌, [], ◌∷◌, ◌++◌, length, OnOk, IsTrue};
-ghost use Rattle.ist_core.specs.Map.{map_of, replay, pairs_of, listed};
-ghost use Rattle.tele_lanes.specs.Lines.{commands_of};
-ghost use Rattle.tele_lanes.specs.Lanes.{ArePlainAnswers};
-ghost use Rattle.tele_run.specs.Open.{Closes, map_in};
+//! The open round: the point lines that are to be answered next, and what the rounds before it left.
+ghost use Rattle.std.specs.Prelude.{◌≡◌, ◌+◌, ◌≤◌, ◌^◌, ◌↔◌, [], ◌∷◌, ◌++◌, length, OnOk, IsTrue};
+ghost use Rattle.std.specs.List.Sorted.{IsStrictlyIncreasing};
+ghost use Rattle.ist_core.specs.Map.{pairs_of, listed};
+ghost use Rattle.tele_lanes.specs.Lines.{task_lines};
+ghost use Rattle.tele_generations.specs.Shelves.{IsShelved};
+ghost use Rattle.tele_run.specs.Rounds.{if_any};
+ghost use Rattle.tele_run.specs.Open.{Closes, RunsOn, fresh_round, map_in, round_for};
 
 use ist_core::Pair;
+use ist_rest::Closed;
 use plain_map::Plain;
 use std::alloc::{AllocError, Global};
 use std::marker::Model;
-use tele_lanes::{Answer, Task};
+use std::sync::Wait;
+use std::thread::Threads;
+use tele_generations::Shelf;
+use tele_lanes::{Answer, Gate, Task};
+use tele_trees::{TreeTables, run_round};
 
 /// The most point lines of a round.
 pub(crate) const ROUND_LIMIT: usize = 16_384;
 
-/// A map, the point lines that it is to answer next, and its answers to those before them. The room
-/// for both lists is kept from round to round.
+/// The point lines that are to be answered next, the answers to those before them, and the last
+/// table, with its pairs.
 #[derive(Drop)]
 pub(crate) struct Round {
+    alloc: Global,
     plain: Plain,
     tasks: Vec<Task>,
     answers: Vec<Answer>,
+    last: Option<Closed>,
+    fulls: u64,
+    workers: u32,
+    words: u32,
 }
 
 impl Model for Round {
+    ghost use Rattle.std.specs.Prelude.{ℕ, ◌≤◌, ◌^◌, List};
     ghost use Rattle.tele_run.specs.Open.{Open};
 
-    ghost Value = { Open };
+    ghost Value = { Open (List ℕ) };
 
-    ghost view = { λ r. record { pairs = r.plain; tasks = r.tasks.items; answers = r.answers.items } };
+    ghost view = { λ r. record {
+      pairs = r.plain;
+      tasks = r.tasks.items;
+      answers = r.answers.items;
+      last = r.last;
+      fulls = r.fulls;
+      workers = r.workers;
+      words = r.words;
+    } };
+
+    ghost invariant = { λ r. ((1 ≤ r.workers) × (r.workers ≤ 64))
+        × ((64 ≤ r.words) × (r.words ≤ 2 ^ 28)) };
 }
 
 impl Round {
     /// A round without lines, over the map with no key.
-    pub(crate) fn new(alloc: Global) -> Round
-        ensures value { result ≡ record { pairs = []; tasks = []; answers = [] } }
+    pub(crate) fn new(alloc: Global, workers: u32, words: u32) -> Round
+        requires some { 1 ≤ workers }
+        requires at_most { workers ≤ 64 }
+        requires least { 64 ≤ words }
+        requires most { words ≤ 2 ^ 28 }
+        ensures value { result ≡ fresh_round workers words }
     {
         Round {
+            alloc,
             plain: Plain::new(alloc),
             tasks: Vec::new(alloc),
             answers: Vec::new(alloc),
+            last: None,
+            fulls: 0,
+            workers,
+            words,
         }
     }
 
@@ -47,6 +80,10 @@ impl Round {
     pub(crate) fn ask(&mut self, task: Task) -> Result<(), AllocError>
         ensures asked { OnOk result (self.new.tasks ≡ self.old.tasks ++ task ∷ []) }
         ensures same { self.new.pairs ≡ self.old.pairs }
+        ensures last_same { self.new.last ≡ self.old.last }
+        ensures fulls_same { self.new.fulls ≡ self.old.fulls }
+        ensures workers_same { self.new.workers ≡ self.old.workers }
+        ensures words_same { self.new.words ≡ self.old.words }
     {
         self.tasks.push(task)?;
         Ok(())
@@ -57,16 +94,6 @@ impl Round {
         ensures value { IsTrue result ↔ (length self.now.tasks ≡ ROUND_LIMIT) }
     {
         self.tasks.len() == ROUND_LIMIT
-    }
-
-    /// Answers the lines of the round in order, and leaves a round without lines.
-    pub(crate) fn close(&mut self) -> Result<(), AllocError>
-        ensures closed { OnOk result (Closes self.old self.new) }
-    {
-        self.answers.clear();
-        answer_each(&mut self.plain, &self.tasks, &mut self.answers)?;
-        self.tasks.clear();
-        Ok(())
     }
 
     /// The answers to the lines that were closed last.
@@ -89,26 +116,71 @@ impl Round {
     {
         self.plain.list(first, last)
     }
+
+    /// How many tables of the last round ran full.
+    pub(crate) fn fulls(&self) -> u64
+        ensures value { result ≡ self.now.fulls }
+    {
+        self.fulls
+    }
+
+    /// The last table.
+    pub(crate) fn into_last(self) -> Option<Closed>
+        ensures value { result ≡ self.last }
+    {
+        self.last
+    }
 }
 
-/// Carries out each task on the map, in order, and keeps the answers.
-fn answer_each(
-    plain: &mut Plain,
-    tasks: &[Task],
-    answers: &mut Vec<Answer>,
+/// Answers the lines of the round in order, on as many trees as it takes, and leaves a round
+/// without lines. The last table of the rounds before goes to the shelf. Without lines no table is
+/// opened.
+pub(crate) fn close<R: Threads + Wait + Sync, G: Gate + Sync, H: Shelf<Closed>>(
+    rt: &R,
+    gate: &G,
+    tables: &mut TreeTables,
+    shelf: &mut H,
+    round: &mut Round,
 ) -> Result<(), AllocError>
-    requires none { answers.old.items ≡ [] }
-    ensures answered { OnOk result
-        (ArePlainAnswers (map_of plain.old) tasks.now answers.new.items) }
-    ensures behind { OnOk result
-        (map_of plain.new ≡ replay (map_of plain.old) (commands_of tasks.now)) }
+    requires rising { IsStrictlyIncreasing (task_lines round.old.tasks) }
+    requires few { length round.old.pairs + length round.old.tasks ≤ 2 ^ 24 }
+
+    ensures closed { OnOk result (Closes round.old round.new) }
+    ensures ran { OnOk result (RunsOn (λ table. table) round.old (H.kept shelf.old) round.new
+        (H.kept shelf.new) (round_for round.old.tasks)) }
+    ensures few { OnOk result
+        (length round.new.pairs ≤ length round.old.pairs + length round.old.tasks) }
 {
-    for task in tasks {
-        let reply = plain.apply(task.command)?;
-        answers.push(Answer {
-            line: task.line,
-            reply,
-        })?;
+    if round.tasks.is_empty() {
+        round.answers.clear();
+        return Ok(());
     }
+    shelve(shelf, round.last.take());
+    let ran = run_round(
+        rt,
+        gate,
+        round.alloc,
+        tables,
+        shelf,
+        round.plain.pairs(),
+        &round.tasks,
+        round.workers,
+        round.words,
+    )?;
+    let pairs = tables.pairs(round.alloc, &ran.closed)?;
+    round.plain = Plain::of(pairs);
+    round.answers = ran.answers.into_vec();
+    round.fulls = ran.fulls.as_slice().len() as u64;
+    round.last = Some(ran.closed);
+    round.tasks.clear();
     Ok(())
+}
+
+/// Puts the table on the shelf, if there is one.
+fn shelve<H: Shelf<Closed>>(shelf: &mut H, last: Option<Closed>)
+    ensures kept { IsShelved (H.kept shelf.old) (if_any last) (H.kept shelf.new) }
+{
+    if let Some(closed) = last {
+        shelf.keep(closed);
+    }
 }

@@ -1,22 +1,31 @@
 //! The top call.
-ghost use Rattle.std.specs.Prelude.{◌≡◌, ℕ, ◌≤◌, ◌⊎◌, [], Some, map, string_bytes, IfSome};
+ghost use Rattle.std.specs.Prelude.{◌≡◌, ℕ, ◌≤◌, ◌^◌, ◌⊎◌, [], Some, map, string_bytes, IfSome};
 ghost use Rattle.tele_io.specs.Bytes.{HaveRisen, Appends, AppendsPart};
 ghost use Rattle.tele_lines.specs.Answer.{answer, usage_text};
 ghost use Rattle.tele_made.specs.Summaries.{summary_of, summary_text};
 ghost use Rattle.tele_run.specs.Jobs.{job_of};
+ghost use Rattle.tele_command.specs.CommandLine.{options_in};
 ghost use Rattle.tele_run.specs.Causes.{IsAnswer, IsCutShort, IsStatus, IsWhole, Stops};
+ghost use Rattle.tele_run.specs.Rounds.{RanRounds, input_rounds, made_rounds};
+ghost use Rattle.tele_run.specs.Endings.{EndsOn, HasNoTable};
+ghost use Rattle.tele_run.specs.Open.{fresh_round};
 
-use crate::jobs::{Job, read_job};
+use crate::jobs::{Job, LINE_LIMIT, Plan, read_plan};
 use crate::made::make_all;
-use crate::outcomes::{ANSWERED, NO_MEMORY, Outcome, READ_FAILED, USAGE, WRITE_FAILED};
+use crate::outcomes::{
+    ANSWERED, NO_MEMORY, Outcome, READ_FAILED, USAGE, WRITE_FAILED, ended, without_table,
+};
 use crate::rounds::Round;
 use crate::steps::{refused, step};
+use ist_rest::Closed;
 use std::alloc::{AllocError, Global};
+use std::sync::Wait;
+use std::thread::Threads;
+use tele_generations::Shelf;
 use tele_io::{Sink, Source, write_whole};
+use tele_lanes::Gate;
 use tele_lines::Lines;
-
-/// The most lines that an input has.
-const LINE_LIMIT: u64 = 16_777_216;
+use tele_trees::TreeTables;
 
 /// Reads lines from the source, carries them out on one map, and writes the replies to the sink; or
 /// makes the lines, where the words of the command line say so. It always returns.
@@ -36,13 +45,18 @@ const LINE_LIMIT: u64 = 16_777_216;
 ///   none is bad, and the replies to those that stand in whole rounds were written;
 /// - 5, the sink failed in this call, or 7, no memory was left: a prefix of the text was written.
 ///
-/// `rt` stands for the runtime that will run the workers. Nothing here uses it.
-pub fn run<R, S: Source, O: Sink>(
-    _rt: &R,
+/// The point lines of a round run side by side on a tree, split into a lane for each worker, and on
+/// another behind it where it ran full (`tele_trees::run_round`). The last tree of a round goes to
+/// the shelf when the next round begins; with status 0 or 3 that of the last round is handed back.
+/// `gate` is told of each call on a tree. A run with much to do may wait for its workers.
+pub fn run<R: Threads + Wait + Sync, S: Source, O: Sink, G: Gate + Sync, H: Shelf<Closed>>(
+    rt: &R,
     alloc: Global,
     words: &[String],
     source: &mut S,
     out: &mut O,
+    gate: &G,
+    shelf: &mut H,
 ) -> Outcome
     // What was written is the answer to all bytes that the source had, and the status is the
     // answer's.
@@ -79,6 +93,17 @@ pub fn run<R, S: Source, O: Sink>(
         AppendsPart (O.written out.old) (O.written out.new)
         (summary_text (summary_of count seed)) }
 
+    // The tables that the shelf was given and the last one are those of the rounds with point lines.
+    ensures last { job_of (map string_bytes words.now) ≡ Job.Read → IsAnswer result.status →
+        IfSome (S.left source.old) (λ bytes.
+        EndsOn (options_in (map string_bytes words.now)) (input_rounds bytes)
+        (H.kept shelf.old) (H.kept shelf.new) result) }
+    ensures made_last { (count seed : ℕ) →
+        job_of (map string_bytes words.now) ≡ Job.Make count seed → result.status ≡ ANSWERED →
+        EndsOn (options_in (map string_bytes words.now)) (made_rounds count seed)
+        (H.kept shelf.old) (H.kept shelf.new) result }
+    ensures no_last { ¬ (IsAnswer result.status) → HasNoTable result }
+
     // Each status has its cause.
     ensures statuses { IsStatus (job_of (map string_bytes words.now)) result.status }
     ensures read_failed { result.status ≡ READ_FAILED →
@@ -95,49 +120,84 @@ pub fn run<R, S: Source, O: Sink>(
     ensures source_counted { S.faults source.old ≤ S.faults source.new }
     ensures sink_counted { O.faults out.old ≤ O.faults out.new }
 {
-    let status = match read_job(alloc, words) {
-        Ok(job) => work(alloc, job, source, out),
-        Err(AllocError) => NO_MEMORY,
-    };
-    Outcome { status }
+    match read_plan(alloc, words) {
+        Ok(plan) => {
+            let mut tables = TreeTables::new(alloc);
+            work(rt, alloc, &mut tables, plan, source, out, gate, shelf)
+        }
+        Err(AllocError) => without_table(NO_MEMORY),
+    }
 }
 
-/// Does what the words ask for, and gives the status.
-fn work<S: Source, O: Sink>(alloc: Global, job: Job, source: &mut S, out: &mut O) -> u8
-    ensures text { job ≡ Job.Read → IsAnswer result → IfSome (S.left source.old) (λ bytes.
+/// Does what the words ask for.
+fn work<R: Threads + Wait + Sync, S: Source, O: Sink, G: Gate + Sync, H: Shelf<Closed>>(
+    rt: &R,
+    alloc: Global,
+    tables: &mut TreeTables,
+    plan: Plan,
+    source: &mut S,
+    out: &mut O,
+    gate: &G,
+    shelf: &mut H,
+) -> Outcome
+    requires some { 1 ≤ plan.workers }
+    requires at_most { plan.workers ≤ 64 }
+    requires least { 64 ≤ plan.words }
+    requires most { plan.words ≤ 2 ^ 28 }
+    requires few { (count seed : ℕ) → plan.job ≡ Job.Make count seed → count ≤ LINE_LIMIT }
+
+    ensures text { plan.job ≡ Job.Read → IsAnswer result.status →
+        IfSome (S.left source.old) (λ bytes.
         Appends (O.written out.old) (O.written out.new) (answer bytes).text) }
-    ensures status { job ≡ Job.Read → IsAnswer result →
-        IfSome (S.left source.old) (λ bytes. result ≡ (answer bytes).status) }
-    ensures whole { job ≡ Job.Read → result ≡ ANSWERED →
+    ensures status { plan.job ≡ Job.Read → IsAnswer result.status →
+        IfSome (S.left source.old) (λ bytes. result.status ≡ (answer bytes).status) }
+    ensures whole { plan.job ≡ Job.Read → result.status ≡ ANSWERED →
         IfSome (S.left source.old) (λ _. S.left source.new ≡ Some []) }
 
-    ensures usage { result ≡ USAGE → Appends (O.written out.old) (O.written out.new) usage_text }
-    ensures made { (count seed : ℕ) → job ≡ Job.Make count seed → result ≡ ANSWERED →
+    ensures usage { result.status ≡ USAGE →
+        Appends (O.written out.old) (O.written out.new) usage_text }
+    ensures made { (count seed : ℕ) → plan.job ≡ Job.Make count seed →
+        result.status ≡ ANSWERED →
         Appends (O.written out.old) (O.written out.new) (summary_text (summary_of count seed)) }
-    ensures unread { ¬ (job ≡ Job.Read) → source.new ≡ source.old }
+    ensures unread { ¬ (plan.job ≡ Job.Read) → source.new ≡ source.old }
 
-    ensures stops { result ≡ READ_FAILED → IfSome (S.left source.old) (λ bytes.
+    ensures stops { result.status ≡ READ_FAILED → IfSome (S.left source.old) (λ bytes.
         Stops bytes (S.left source.new) (O.written out.old) (O.written out.new)) }
-    ensures part { job ≡ Job.Read → IsCutShort result → IfSome (S.left source.old) (λ bytes.
+    ensures part { plan.job ≡ Job.Read → IsCutShort result.status →
+        IfSome (S.left source.old) (λ bytes.
         AppendsPart (O.written out.old) (O.written out.new) (answer bytes).text) }
-    ensures usage_part { job ≡ Job.Refuse → IsCutShort result →
+    ensures usage_part { plan.job ≡ Job.Refuse → IsCutShort result.status →
         AppendsPart (O.written out.old) (O.written out.new) usage_text }
-    ensures made_part { (count seed : ℕ) → job ≡ Job.Make count seed → IsCutShort result →
-        AppendsPart (O.written out.old) (O.written out.new)
+    ensures made_part { (count seed : ℕ) → plan.job ≡ Job.Make count seed →
+        IsCutShort result.status → AppendsPart (O.written out.old) (O.written out.new)
         (summary_text (summary_of count seed)) }
 
-    ensures statuses { IsStatus job result }
-    ensures read_failed { result ≡ READ_FAILED →
+    ensures last { plan.job ≡ Job.Read → IsAnswer result.status →
+        IfSome (S.left source.old) (λ bytes. RanRounds (λ table. table) plan.workers plan.words
+        (input_rounds bytes)
+        (H.kept shelf.old) (H.kept shelf.new) result.last result.fulls) }
+    ensures made_last { (count seed : ℕ) → plan.job ≡ Job.Make count seed →
+        result.status ≡ ANSWERED → RanRounds (λ table. table) plan.workers plan.words
+        (made_rounds count seed)
+        (H.kept shelf.old) (H.kept shelf.new) result.last result.fulls }
+    ensures no_last { ¬ (IsAnswer result.status) → HasNoTable result }
+
+    ensures statuses { IsStatus plan.job result.status }
+    ensures read_failed { result.status ≡ READ_FAILED →
         HaveRisen (S.faults source.old) (S.faults source.new) }
-    ensures write_failed { result ≡ WRITE_FAILED → HaveRisen (O.faults out.old) (O.faults out.new) }
+    ensures write_failed { result.status ≡ WRITE_FAILED →
+        HaveRisen (O.faults out.old) (O.faults out.new) }
 
     ensures source_counted { S.faults source.old ≤ S.faults source.new }
     ensures sink_counted { O.faults out.old ≤ O.faults out.new }
 {
-    match job {
-        Job::Refuse => refuse(out),
-        Job::Make { count, seed } => make_all(alloc, count, seed, out),
-        Job::Read => answer_all(alloc, source, out),
+    let round = Round::new(alloc, plan.workers, plan.words);
+    match plan.job {
+        Job::Refuse => without_table(refuse(out)),
+        Job::Make { count, seed } => {
+            make_all(rt, gate, alloc, tables, shelf, round, count, seed, out)
+        }
+        Job::Read => answer_all(rt, gate, tables, shelf, round, source, out),
     }
 }
 
@@ -158,33 +218,49 @@ fn refuse<O: Sink>(out: &mut O) -> u8
     }
 }
 
-/// Answers all lines, and gives the status.
-fn answer_all<S: Source, O: Sink>(alloc: Global, source: &mut S, out: &mut O) -> u8
-    ensures text { IsAnswer result → IfSome (S.left source.old) (λ bytes.
+/// Answers all lines.
+fn answer_all<R: Threads + Wait + Sync, G: Gate + Sync, H: Shelf<Closed>, S: Source, O: Sink>(
+    rt: &R,
+    gate: &G,
+    tables: &mut TreeTables,
+    shelf: &mut H,
+    round: Round,
+    source: &mut S,
+    out: &mut O,
+) -> Outcome
+    requires fresh { round ≡ fresh_round round.workers round.words }
+
+    ensures text { IsAnswer result.status → IfSome (S.left source.old) (λ bytes.
         Appends (O.written out.old) (O.written out.new) (answer bytes).text) }
-    ensures status { IsAnswer result →
-        IfSome (S.left source.old) (λ bytes. result ≡ (answer bytes).status) }
-    ensures whole { result ≡ ANSWERED →
+    ensures status { IsAnswer result.status →
+        IfSome (S.left source.old) (λ bytes. result.status ≡ (answer bytes).status) }
+    ensures whole { result.status ≡ ANSWERED →
         IfSome (S.left source.old) (λ _. S.left source.new ≡ Some []) }
 
-    ensures stops { result ≡ READ_FAILED → IfSome (S.left source.old) (λ bytes.
+    ensures stops { result.status ≡ READ_FAILED → IfSome (S.left source.old) (λ bytes.
         Stops bytes (S.left source.new) (O.written out.old) (O.written out.new)) }
-    ensures part { IsCutShort result → IfSome (S.left source.old) (λ bytes.
+    ensures part { IsCutShort result.status → IfSome (S.left source.old) (λ bytes.
         AppendsPart (O.written out.old) (O.written out.new) (answer bytes).text) }
 
-    ensures statuses { IsStatus Job.Read result }
-    ensures read_failed { result ≡ READ_FAILED →
+    ensures last { IsAnswer result.status → IfSome (S.left source.old) (λ bytes.
+        RanRounds (λ table. table) round.workers round.words (input_rounds bytes)
+        (H.kept shelf.old) (H.kept shelf.new) result.last result.fulls) }
+    ensures no_last { ¬ (IsAnswer result.status) → HasNoTable result }
+
+    ensures statuses { IsStatus Job.Read result.status }
+    ensures read_failed { result.status ≡ READ_FAILED →
         HaveRisen (S.faults source.old) (S.faults source.new) }
-    ensures write_failed { result ≡ WRITE_FAILED → HaveRisen (O.faults out.old) (O.faults out.new) }
+    ensures write_failed { result.status ≡ WRITE_FAILED →
+        HaveRisen (O.faults out.old) (O.faults out.new) }
 
     ensures source_counted { S.faults source.old ≤ S.faults source.new }
     ensures sink_counted { O.faults out.old ≤ O.faults out.new }
 {
     let mut lines = Lines::new(LINE_LIMIT);
-    let mut round = Round::new(alloc);
+    let mut round = round;
     loop {
-        if let Some(status) = step(&mut lines, &mut round, source, out) {
-            return status;
+        if let Some(status) = step(rt, gate, tables, shelf, &mut lines, &mut round, source, out) {
+            return ended(status, round);
         }
     }
 }

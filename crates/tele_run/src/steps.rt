@@ -1,24 +1,31 @@
 //! One line: read, taken into the open round, and the round answered where it ends.
-ghost use Rattle.std.specs.Prelude.{◌≡◌, ◌<◌, ◌≤◌, [], ◌∷◌, ◌++◌, Some, None, Err, true, false, length, IsSome, IfSome, IfNone, OnOk, OnErr};
+ghost use Rattle.std.specs.Prelude.{◌≡◌, ◌+◌, ◌<◌, ◌≤◌, ◌^◌, [], ◌∷◌, ◌++◌, Some, None, Err, true, false, length, IsSome, IfSome, IfNone, OnOk, OnErr};
+ghost use Rattle.std.specs.List.Sorted.{IsStrictlyIncreasing};
 ghost use Rattle.ist_core.specs.Map.{replay};
 ghost use Rattle.tele_io.specs.Bytes.{HaveRisen, Appends, AppendsPart};
-ghost use Rattle.tele_lanes.specs.Lines.{commands_of};
+ghost use Rattle.tele_lanes.specs.Lines.{commands_of, task_lines};
 ghost use Rattle.tele_lines.specs.Lines.{line_limit};
 ghost use Rattle.tele_lines.specs.Rounds.{round_limit};
 ghost use Rattle.tele_lines.specs.Answer.{Good, Bad, text_of};
 ghost use Rattle.tele_lines.specs.Progress.{limit_of, count_of, stop_of, mode_of, has_ended, unread, TellsEnd, Waits};
 ghost use Rattle.tele_run.specs.declared.jobs.Job.TheVariants as job;
 ghost use Rattle.tele_run.specs.Causes.{IsAnswer, IsCutShort, IsStatus};
-ghost use Rattle.tele_run.specs.Open.{asked, map_in};
-ghost use Rattle.tele_run.specs.Due.{due, moment_of, Takes, RunsTo, Ends};
+ghost use Rattle.tele_run.specs.Open.{IsOpenBefore, RunsOn, asked, map_in, round_for};
+ghost use Rattle.tele_run.specs.Due.{due, rounds_due, moment_of, Takes, RunsTo, Ends};
+ghost use Rattle.tele_run.specs.Due.{TakesRounds, RunsRounds};
 
 use crate::outcomes::{ANSWERED, BAD_LINE, NO_MEMORY, READ_FAILED, WRITE_FAILED};
 use crate::replies::print_answers;
-use crate::rounds::Round;
+use crate::rounds::{Round, close};
+use ist_rest::Closed;
 use std::alloc::AllocError;
+use std::sync::Wait;
+use std::thread::Threads;
+use tele_generations::Shelf;
 use tele_io::{Sink, SinkFault, Source};
-use tele_lanes::Task;
+use tele_lanes::{Gate, Task};
 use tele_lines::{Cause, Item, Line, LineFault, Lines, Version, print_bad, print_interval};
+use tele_trees::TreeTables;
 
 /// The status at a refusal of the sink, or at want of memory.
 pub(crate) fn refused(fault: SinkFault) -> u8
@@ -33,7 +40,11 @@ pub(crate) fn refused(fault: SinkFault) -> u8
 
 /// Reads the next line that asks for something, takes it into the open round, and answers the round
 /// if it ends there. `Some` is the status with which the run ends.
-pub(crate) fn step<S: Source, O: Sink>(
+pub(crate) fn step<R: Threads + Wait + Sync, G: Gate + Sync, H: Shelf<Closed>, S: Source, O: Sink>(
+    rt: &R,
+    gate: &G,
+    tables: &mut TreeTables,
+    shelf: &mut H,
     lines: &mut Lines,
     round: &mut Round,
     source: &mut S,
@@ -43,6 +54,8 @@ pub(crate) fn step<S: Source, O: Sink>(
     requires going { stop_of lines.old ≡ None }
     requires open { length round.old.tasks < round_limit }
     requires chosen { 0 < length round.old.tasks → IsSome (mode_of lines.old) }
+    requires before { IsOpenBefore (count_of lines.old + 1) round.old }
+    requires allowed { count_of lines.old ≤ line_limit }
 
     ensures goes_on { IfNone result (IfSome (unread lines.old (S.left source.old)) (λ bytes.
         RunsTo (moment_of lines.old round.old) bytes (O.written out.old) (O.written out.new)
@@ -56,6 +69,16 @@ pub(crate) fn step<S: Source, O: Sink>(
         IfSome (unread lines.old (S.left source.old)) (λ bytes.
         AppendsPart (O.written out.old) (O.written out.new)
         (due (moment_of lines.old round.old) bytes).text)) }
+
+    // The tables of the rounds that were run are all, and in order.
+    ensures ran { IfNone result (IfSome (unread lines.old (S.left source.old)) (λ bytes.
+        RunsRounds (λ table. table) round.old (H.kept shelf.old) round.new (H.kept shelf.new)
+        (moment_of lines.old round.old) bytes (unread lines.new (S.left source.new))
+        (moment_of lines.new round.new))) }
+    ensures ran_all { IfSome result (λ status. IsAnswer status →
+        IfSome (unread lines.old (S.left source.old)) (λ bytes.
+        RunsOn (λ table. table) round.old (H.kept shelf.old) round.new (H.kept shelf.new)
+        (rounds_due (moment_of lines.old round.old) bytes))) }
 
     ensures statuses { IfSome result (IsStatus job.Read) }
     ensures read_failed { result ≡ Some READ_FAILED →
@@ -86,18 +109,29 @@ pub(crate) fn step<S: Source, O: Sink>(
     ensures allowed { count_of lines.new ≤ line_limit }
     ensures open { IfNone result (length round.new.tasks < round_limit) }
     ensures chosen { IfNone result (IsSome (mode_of lines.new)) }
+    ensures before { IfNone result (IsOpenBefore (count_of lines.new + 1) round.new) }
 {
     match lines.next(source) {
-        Ok(Some(line)) => match take(round, lines.version(), line, out) {
+        Ok(Some(line)) => match take(rt, gate, tables, shelf, round, lines.version(), line, out) {
             Ok(()) => None,
             Err(fault) => Some(refused(fault)),
         },
-        Ok(None) => match answer(round, lines.version(), out) {
+        Ok(None) => match answer(rt, gate, tables, shelf, round, lines.version(), out) {
             Ok(()) => Some(ANSWERED),
             Err(fault) => Some(refused(fault)),
         },
         Err(LineFault::Bad { line, cause }) => {
-            match name(round, lines.version(), line, cause, out) {
+            match name(
+                rt,
+                gate,
+                tables,
+                shelf,
+                round,
+                lines.version(),
+                line,
+                cause,
+                out,
+            ) {
                 Ok(()) => Some(BAD_LINE),
                 Err(fault) => Some(refused(fault)),
             }
@@ -107,19 +141,30 @@ pub(crate) fn step<S: Source, O: Sink>(
 }
 
 /// Takes a line into the round. Where the round ends there, its lines are answered.
-fn take<O: Sink>(
+fn take<R: Threads + Wait + Sync, G: Gate + Sync, H: Shelf<Closed>, O: Sink>(
+    rt: &R,
+    gate: &G,
+    tables: &mut TreeTables,
+    shelf: &mut H,
     round: &mut Round,
     version: Version,
     line: Line,
     out: &mut O,
 ) -> Result<(), SinkFault>
     requires open { length round.old.tasks < round_limit }
+    requires before { IsOpenBefore line.number round.old }
+    requires allowed { line.number ≤ 2 ^ 24 }
 
     ensures taken { OnOk result (Takes (map_in round.old)
         (asked version round.old.tasks ++ Good line.number version line.item ∷ [])
         (O.written out.old) (O.written out.new)
         (map_in round.new) (asked version round.new.tasks)) }
+    ensures ran { OnOk result (TakesRounds (λ table. table) round.old (H.kept shelf.old) round.new
+        (H.kept shelf.new)
+        (asked version round.old.tasks ++ Good line.number version line.item ∷ [])
+        (asked version round.new.tasks)) }
     ensures open { OnOk result (length round.new.tasks < round_limit) }
+    ensures before { OnOk result (IsOpenBefore (line.number + 1) round.new) }
 
     ensures failed { result ≡ Err SinkFault.Failed →
         HaveRisen (O.faults out.old) (O.faults out.new) }
@@ -139,28 +184,37 @@ fn take<O: Sink>(
                 return Err(SinkFault::Memory);
             }
             if round.is_full() {
-                answer(round, version, out)
+                answer(rt, gate, tables, shelf, round, version, out)
             } else {
                 Ok(())
             }
         }
         Item::Interval { first, last } => {
-            answer(round, version, out)?;
+            answer(rt, gate, tables, shelf, round, version, out)?;
             print_interval(out, version, line.number, round.list(first, last))
         }
     }
 }
 
 /// Answers the lines of the round, and names the bad line behind them.
-fn name<O: Sink>(
+fn name<R: Threads + Wait + Sync, G: Gate + Sync, H: Shelf<Closed>, O: Sink>(
+    rt: &R,
+    gate: &G,
+    tables: &mut TreeTables,
+    shelf: &mut H,
     round: &mut Round,
     version: Version,
     line: u64,
     cause: Cause,
     out: &mut O,
 ) -> Result<(), SinkFault>
+    requires rising { IsStrictlyIncreasing (task_lines round.old.tasks) }
+    requires few { length round.old.pairs + length round.old.tasks ≤ 2 ^ 24 }
+
     ensures printed { OnOk result (Appends (O.written out.old) (O.written out.new)
         (text_of (map_in round.old) (asked version round.old.tasks ++ Bad line cause ∷ []))) }
+    ensures ran { OnOk result (RunsOn (λ table. table) round.old (H.kept shelf.old) round.new
+        (H.kept shelf.new) (round_for round.old.tasks)) }
 
     ensures failed { result ≡ Err SinkFault.Failed →
         HaveRisen (O.faults out.old) (O.faults out.new) }
@@ -169,17 +223,32 @@ fn name<O: Sink>(
 
     ensures counted { O.faults out.old ≤ O.faults out.new }
 {
-    answer(round, version, out)?;
+    answer(rt, gate, tables, shelf, round, version, out)?;
     print_bad(out, line, cause)
 }
 
 /// Answers the lines of the round, and prints the replies in their order.
-fn answer<O: Sink>(round: &mut Round, version: Version, out: &mut O) -> Result<(), SinkFault>
+fn answer<R: Threads + Wait + Sync, G: Gate + Sync, H: Shelf<Closed>, O: Sink>(
+    rt: &R,
+    gate: &G,
+    tables: &mut TreeTables,
+    shelf: &mut H,
+    round: &mut Round,
+    version: Version,
+    out: &mut O,
+) -> Result<(), SinkFault>
+    requires rising { IsStrictlyIncreasing (task_lines round.old.tasks) }
+    requires few { length round.old.pairs + length round.old.tasks ≤ 2 ^ 24 }
+
     ensures printed { OnOk result (Appends (O.written out.old) (O.written out.new)
         (text_of (map_in round.old) (asked version round.old.tasks))) }
     ensures behind { OnOk result
         (map_in round.new ≡ replay (map_in round.old) (commands_of round.old.tasks)) }
     ensures none { OnOk result (round.new.tasks ≡ []) }
+    ensures ran { OnOk result (RunsOn (λ table. table) round.old (H.kept shelf.old) round.new
+        (H.kept shelf.new) (round_for round.old.tasks)) }
+    ensures few { OnOk result
+        (length round.new.pairs ≤ length round.old.pairs + length round.old.tasks) }
 
     ensures failed { result ≡ Err SinkFault.Failed →
         HaveRisen (O.faults out.old) (O.faults out.new) }
@@ -188,7 +257,7 @@ fn answer<O: Sink>(round: &mut Round, version: Version, out: &mut O) -> Result<(
 
     ensures counted { O.faults out.old ≤ O.faults out.new }
 {
-    match round.close() {
+    match close(rt, gate, tables, shelf, round) {
         Ok(()) => print_answers(out, version, round.answers()),
         Err(AllocError) => Err(SinkFault::Memory),
     }

@@ -1,20 +1,79 @@
 //! Worked inputs, with the output that they are to have.
+ghost use Rattle.std.specs.Prelude.{None};
 
-use crate::{Outcome, run};
+use crate::run;
+use ist_rest::Closed;
 use plain_map::Plain;
 use std::alloc::{AllocError, Global};
+use std::sync::Wait;
 use std::test::Fail;
+use std::thread::Threads;
+use tele_generations::{NoShelf, Shelf};
 use tele_io::{MemorySink, MemorySource, QuietSink, QuietSource, Sink, Source};
+use tele_lanes::NoGate;
 use tele_made::Maker;
 
-/// Runs over a source and a sink, with no words of a command line.
-fn run_over<S: Source, O: Sink>(alloc: Global, source: &mut S, out: &mut O) -> Outcome {
+/// A shelf that keeps the first eight trees that it is given, and lets the others go.
+#[derive(Drop)]
+struct Kept {
+    trees: [Option<Closed>; 8],
+    given: usize,
+}
+
+impl Kept {
+    /// An empty shelf.
+    fn new() -> Kept {
+        Kept {
+            trees: [None, None, None, None, None, None, None, None],
+            given: 0,
+        }
+    }
+
+    /// The tree that was given with this number, counted from 0, if it was kept.
+    fn get(&self, number: usize) -> Option<&Closed> {
+        if number < 8 {
+            self.trees[number].as_ref()
+        } else {
+            None
+        }
+    }
+}
+
+impl Shelf<Closed> for Kept {
+    ghost kept = { λ _. None };
+
+    fn keep(&mut self, closed: Closed) {
+        if self.given < 8 {
+            self.trees[self.given] = Some(closed);
+            self.given += 1;
+        }
+    }
+}
+
+/// Runs over a source and a sink, with no words of a command line, and gives the status.
+fn status_over<R: Threads + Wait + Sync, S: Source, O: Sink>(
+    rt: &R,
+    alloc: Global,
+    source: &mut S,
+    out: &mut O,
+) -> u8 {
     let words: Vec<String> = Vec::new(alloc);
-    run(&(), alloc, words.as_slice(), source, out)
+    let mut shelf = NoShelf;
+    run(
+        rt,
+        alloc,
+        words.as_slice(),
+        source,
+        out,
+        &NoGate,
+        &mut shelf,
+    )
+    .status
 }
 
 /// Runs over some bytes in pieces of seven, with these reads and writes failing.
-fn faulty(
+fn faulty<R: Threads + Wait + Sync>(
+    rt: &R,
     alloc: Global,
     input: &[u8],
     reads: &[u64],
@@ -22,16 +81,20 @@ fn faulty(
 ) -> Result<(Vec<u8>, u8), AllocError> {
     let mut source = MemorySource::new(input.to_vec(alloc)?, 7, reads.to_vec(alloc)?);
     let mut out = MemorySink::new(alloc, writes.to_vec(alloc)?);
-    let outcome = run_over(alloc, &mut source, &mut out);
-    Ok((out.bytes().to_vec(alloc)?, outcome.status))
+    let status = status_over(rt, alloc, &mut source, &mut out);
+    Ok((out.bytes().to_vec(alloc)?, status))
 }
 
 /// Runs over some bytes in one piece, and gives what was written and the status.
-fn answer(alloc: Global, input: &[u8]) -> Result<(Vec<u8>, u8), AllocError> {
+fn answer<R: Threads + Wait + Sync>(
+    rt: &R,
+    alloc: Global,
+    input: &[u8],
+) -> Result<(Vec<u8>, u8), AllocError> {
     let mut source = QuietSource::new(input.to_vec(alloc)?);
     let mut out = QuietSink::new(alloc);
-    let outcome = run_over(alloc, &mut source, &mut out);
-    Ok((out.bytes().to_vec(alloc)?, outcome.status))
+    let status = status_over(rt, alloc, &mut source, &mut out);
+    Ok((out.bytes().to_vec(alloc)?, status))
 }
 
 #[test]
@@ -90,7 +153,7 @@ fn each_input_has_its_answer(rt: HostRuntime) -> Result<(), Fail> {
         (b"# first\nV 02\nP -0 --1\n", b"! 3 number\n", 3),
     ];
     for (input, output, status) in rows {
-        let (written, ended) = answer(rt.alloc(), input)?;
+        let (written, ended) = answer(&rt, rt.alloc(), input)?;
         assert_eq!(rt; written.as_slice(), output, "the text for {input:?}");
         assert_eq!(rt; ended, status, "the status for {input:?}");
     }
@@ -115,7 +178,7 @@ fn a_line_has_at_most_80_bytes(rt: HostRuntime) -> Result<(), Fail> {
         }
         input.extend_from_slice(b"5 7")?;
         input.extend_from_slice(end)?;
-        let (written, ended) = answer(rt.alloc(), input.as_slice())?;
+        let (written, ended) = answer(&rt, rt.alloc(), input.as_slice())?;
         assert_eq!(rt;
             written.as_slice(),
             output,
@@ -126,17 +189,132 @@ fn a_line_has_at_most_80_bytes(rt: HostRuntime) -> Result<(), Fail> {
     Ok(())
 }
 
-/// Runs with these words behind the program's name, over a source that fails if it is read.
-fn run_unread(alloc: Global, more: &[&str]) -> Result<(Vec<u8>, u8), AllocError> {
+/// Runs over some bytes in one piece with these words behind the program's name.
+fn answer_with<R: Threads + Wait + Sync>(
+    rt: &R,
+    alloc: Global,
+    more: &[&str],
+    input: &[u8],
+    reads: &[u64],
+) -> Result<(Vec<u8>, u8), AllocError> {
     let mut words = Vec::new(alloc);
     words.push("tele".to_string(alloc)?)?;
     for word in more {
         words.push(word.to_string(alloc)?)?;
     }
-    let mut source = MemorySource::new(b"P 5 7\n".to_vec(alloc)?, 6, [0].to_vec(alloc)?);
+    let mut source = MemorySource::new(input.to_vec(alloc)?, 4_096, reads.to_vec(alloc)?);
     let mut out = QuietSink::new(alloc);
-    let outcome = run(&(), alloc, words.as_slice(), &mut source, &mut out);
-    Ok((out.bytes().to_vec(alloc)?, outcome.status))
+    let mut shelf = NoShelf;
+    let status = run(
+        rt,
+        alloc,
+        words.as_slice(),
+        &mut source,
+        &mut out,
+        &NoGate,
+        &mut shelf,
+    )
+    .status;
+    Ok((out.bytes().to_vec(alloc)?, status))
+}
+
+/// Runs with these words behind the program's name, over a source that fails if it is read.
+fn run_unread<R: Threads + Wait + Sync>(
+    rt: &R,
+    alloc: Global,
+    more: &[&str],
+) -> Result<(Vec<u8>, u8), AllocError> {
+    answer_with(rt, alloc, more, b"P 5 7\n", &[0])
+}
+
+/// Runs over some bytes by so many workers, with so many words at most in a first tree.
+fn answer_by<R: Threads + Wait + Sync>(
+    rt: &R,
+    alloc: Global,
+    workers: &str,
+    words: u64,
+    input: &[u8],
+) -> Result<(Vec<u8>, u8), AllocError> {
+    let size = format!(in alloc; "{words}")?;
+    let more = ["--workers", workers, "--words", size.as_str()];
+    answer_with(rt, alloc, &more, input, &[])
+}
+
+#[test]
+fn tables_that_run_full_leave_the_output_as_it_is(rt: HostRuntime) -> Result<(), Fail> {
+    // the words behind the program's name, the input, the output
+    let rows: [(&[&str], &[u8], &[u8]); 2] = [
+        (
+            &["--workers", "1", "--words", "64"],
+            b"P 1 1\nP 2 1\nP 3 1\nP 4 1\n",
+            b"1 -\n2 -\n3 -\n4 -\n",
+        ),
+        (
+            &["--workers", "1", "--words", "64"],
+            b"P 1 1\nP 2 1\nP 3 1\nP 4 1\nP 5 1\nP 6 1\nP 7 1\nI 0 0\nP 8 1\n",
+            b"1 -\n2 -\n3 -\n4 -\n5 -\n6 -\n7 -\n8 0\n9 -\n",
+        ),
+    ];
+    for (more, input, output) in rows {
+        let (written, status) = answer_with(&rt, rt.alloc(), more, input, &[])?;
+        assert_eq!(rt; written.as_slice(), output, "the text for {input:?}");
+        assert_eq!(rt; status, 0, "the status for {input:?}");
+    }
+    Ok(())
+}
+
+#[test]
+fn neither_workers_nor_words_show_in_the_output(rt: HostRuntime) -> Result<(), Fail> {
+    let input = b"P 40 1\nP 7 2\nP 93 3\nG 7\nP 12 4\nP 55 5\nP 3 6\nR 40\nP 71 7\nP 28 8\n\
+        I 0 60\nP 64 9\nP 7 10\nG 40\nP 86 11\nP 19 12\nR 3\nP 1 13\nP 33 14\nG 19\n\
+        P 47 15\nI 20 90\nP 99 16\nR 93\nP 60 17\nP 5 18\nG 93\nP 80 19\nP 64 20\nI 0 99\n";
+    let (expected, _) = answer(&rt, rt.alloc(), input)?;
+    for workers in ["1", "2", "3", "64"] {
+        for turn in 0..20u64 {
+            let words = 64 + 17 * turn;
+            let (written, status) = answer_by(&rt, rt.alloc(), workers, words, input)?;
+            assert_eq!(rt;
+                written.as_slice(),
+                expected.as_slice(),
+                "the text by {workers} workers with {words} words"
+            );
+            assert_eq!(rt;
+                status,
+                0,
+                "the status by {workers} workers with {words} words"
+            );
+        }
+    }
+    Ok(())
+}
+
+#[test]
+fn each_tree_but_the_last_goes_to_the_shelf(rt: HostRuntime) -> Result<(), Fail> {
+    let input = b"P 1 1\nP 2 1\nP 3 1\nP 4 1\nP 5 1\nP 6 1\nP 7 1\nI 0 0\nP 8 1\n";
+    let mut words = Vec::new(rt.alloc());
+    for word in ["tele", "--workers", "1", "--words", "64"] {
+        words.push(word.to_string(rt.alloc())?)?;
+    }
+    let mut source = QuietSource::new(input.to_vec(rt.alloc())?);
+    let mut out = QuietSink::new(rt.alloc());
+    let mut shelf = Kept::new();
+    let outcome = run(
+        &rt,
+        rt.alloc(),
+        words.as_slice(),
+        &mut source,
+        &mut out,
+        &NoGate,
+        &mut shelf,
+    );
+    assert_eq!(rt; outcome.status, 0);
+    assert_eq!(rt; shelf.get(0).map(|tree| tree.word_count()), Some(64));
+    assert!(rt; shelf.get(8).is_none());
+    assert!(rt; outcome.last.is_some());
+    if let Some(last) = &outcome.last {
+        assert_eq!(rt; last.pairs(rt.alloc())?.len(), 8);
+    }
+    Ok(())
 }
 
 #[test]
@@ -167,7 +345,7 @@ fn the_source_is_read_only_where_the_words_say_so(rt: HostRuntime) -> Result<(),
         (&["--generate", "1", "x"], b"! usage\n", 2),
     ];
     for (more, output, status) in rows {
-        let (written, ended) = run_unread(rt.alloc(), more)?;
+        let (written, ended) = run_unread(&rt, rt.alloc(), more)?;
         assert_eq!(rt; written.as_slice(), output, "the text for {more:?}");
         assert_eq!(rt; ended, status, "the status for {more:?}");
     }
@@ -176,7 +354,7 @@ fn the_source_is_read_only_where_the_words_say_so(rt: HostRuntime) -> Result<(),
 
 #[test]
 fn no_word_is_read_like_the_name_alone(rt: HostRuntime) -> Result<(), Fail> {
-    let (written, status) = answer(rt.alloc(), b"P 5 7\n")?;
+    let (written, status) = answer(&rt, rt.alloc(), b"P 5 7\n")?;
     assert_eq!(rt; written.as_slice(), b"1 -\n".as_slice());
     assert_eq!(rt; status, 0);
     Ok(())
@@ -199,7 +377,7 @@ fn many_made_lines_are_summed_up_as_one_map_has_them(rt: HostRuntime) -> Result<
         .iter()
         .fold(0u64, |sum, pair| sum.wrapping_add(pair.value));
     let text = format!(in rt.alloc(); "made 20000 keys {keys} found {found} sum {sum}\n")?;
-    let (written, status) = run_unread(rt.alloc(), &["--generate", "20000", "--seed", "1"])?;
+    let (written, status) = run_unread(&rt, rt.alloc(), &["--generate", "20000", "--seed", "1"])?;
     assert_eq!(rt; written.as_slice(), text.as_bytes());
     assert_eq!(rt; status, 0);
     Ok(())
@@ -213,7 +391,7 @@ fn a_failed_read_leaves_the_replies_of_whole_rounds(rt: HostRuntime) -> Result<(
     // the read that fails, how many bytes of the output are written then
     let reads = [(0, 0), (1, 0), (2, 0), (3, 20), (4, 20), (5, 20), (6, 36)];
     for (read, len) in reads {
-        let (written, status) = faulty(rt.alloc(), input, &[read], &[])?;
+        let (written, status) = faulty(&rt, rt.alloc(), input, &[read], &[])?;
         assert!(rt; len <= output.len());
         assert_eq!(rt;
             written.as_slice(),
@@ -222,7 +400,7 @@ fn a_failed_read_leaves_the_replies_of_whole_rounds(rt: HostRuntime) -> Result<(
         );
         assert_eq!(rt; status, 4, "the status where read {read} fails");
     }
-    let (written, status) = faulty(rt.alloc(), input, &[99], &[99])?;
+    let (written, status) = faulty(&rt, rt.alloc(), input, &[99], &[99])?;
     assert_eq!(rt; written.as_slice(), output.as_slice());
     assert_eq!(rt; status, 0);
     Ok(())
@@ -236,9 +414,9 @@ fn a_line_of_an_open_round_is_not_answered_at_a_failed_read(rt: HostRuntime) -> 
         [1].to_vec(rt.alloc())?,
     );
     let mut out = QuietSink::new(rt.alloc());
-    let outcome = run_over(rt.alloc(), &mut source, &mut out);
+    let status = status_over(&rt, rt.alloc(), &mut source, &mut out);
     assert_eq!(rt; out.bytes(), b"".as_slice());
-    assert_eq!(rt; outcome.status, 4);
+    assert_eq!(rt; status, 4);
     Ok(())
 }
 
@@ -258,10 +436,10 @@ fn a_round_has_at_most_16384_point_lines(rt: HostRuntime) -> Result<(), Fail> {
         }
         let mut source = MemorySource::new(input, 4_096, [read].to_vec(rt.alloc())?);
         let mut out = QuietSink::new(rt.alloc());
-        let outcome = run_over(rt.alloc(), &mut source, &mut out);
+        let status = status_over(&rt, rt.alloc(), &mut source, &mut out);
         let ends = out.bytes().iter().filter(|byte| **byte == b'\n').count();
         assert_eq!(rt; ends, answered, "of {lines} lines");
-        assert_eq!(rt; outcome.status, 4, "behind {lines} lines");
+        assert_eq!(rt; status, 4, "behind {lines} lines");
     }
     Ok(())
 }
@@ -271,7 +449,7 @@ fn a_failed_write_leaves_the_lines_before_it(rt: HostRuntime) -> Result<(), Fail
     let input = b"P 1 1\nP 2 2\nI 0 9\nP 3 3\nX 4 4\n";
     let output = b"1 -\n2 -\n3 2\n1 1\n2 2\n4 -\n! 5 letter\n";
     for write in 0..7 {
-        let (written, status) = faulty(rt.alloc(), input, &[], &[write as u64])?;
+        let (written, status) = faulty(&rt, rt.alloc(), input, &[], &[write as u64])?;
         assert_eq!(rt;
             written.as_slice(),
             &output[..4 * write],
@@ -293,12 +471,11 @@ fn a_refused_allocation_leaves_a_prefix(rt: HostRuntime) -> Result<(), Fail> {
         }
     };
     let mut out = QuietSink::new(rt.alloc());
-    let outcome = run_over(rt.alloc(), &mut source, &mut out);
+    let status = status_over(&rt, rt.alloc(), &mut source, &mut out);
     let written = out.bytes();
     let len = written.len();
     assert!(rt; len <= output.len());
     assert_eq!(rt; written, &output[..len], "the text");
-    let status = outcome.status;
     let whole = len == output.len();
     assert!(rt;
         (whole && status == 0) || (!whole && status == 7),

@@ -1,6 +1,12 @@
 use Rattle.tele_run.proofs.MadeLemmas.{Sums}
+use Rattle.tele_run.proofs.MadeRoundLemmas.{RunsMade}
+use Rattle.tele_run.proofs.RanLemmas.{words_here}
 use Rattle.tele_run.proofs.made.summarize.Given as goal
 
--- what was found and what is left are what all lines find
+-- what was found and what is left are what all lines find, and the rounds are those of all lines
 abbrev pub invariant-loop-line : goal.invariant-loop-line
-invariant-loop-line l = Sums l.count l.seed l.line l.maker l.found l.round
+invariant-loop-line g l = record {
+  sums : Sums l.count l.seed l.line l.maker l.found l.round;
+  runs : RunsMade words_here l.fn.round.workers l.fn.round.words l.count l.seed l.line
+      l.maker (g.H.Shelf.kept l.fn.shelf) (g.H.Shelf.kept l.shelf) l.round;
+}

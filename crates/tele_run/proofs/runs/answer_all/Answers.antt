@@ -1,19 +1,28 @@
-use Rattle.std.proofs.Common.{◌≡◌, ◌<◌, ap, sym, subst, arith, length, lit<}
+use Rattle.std.proofs.Common.{◌≡◌, ◌+◌, ◌<◌, ◌∙◌, ap, sym, subst, arith, length, lit<}
 use Rattle.std.specs.Prelude.{Some}
 use Rattle.tele_lines.specs.Progress.{Place}
 use Rattle.tele_lines.specs.Rounds.{round_limit}
-use Rattle.tele_run.specs.Open.{Open}
+use Rattle.tele_run.specs.Causes.{IsAnswer, IsCutShort}
+use Rattle.tele_run.specs.Open.{Open, IsOpenBefore}
+use Rattle.tele_run.proofs.OpenLemmas.{open_first}
+use Rattle.tele_run.proofs.DueRoundLemmas.{rounds_first, rounds_on_if, rounds_end_if}
 use Rattle.tele_run.proofs.ToldLemmas.{at_first, all_due, on_and_on_if, on_and_part_if, stops_if}
+use Rattle.tele_run.proofs.RanLemmas.{words_here}
 use Rattle.tele_run.proofs.runs.answer_all.Goals as goal
 
 -- all is due
 pub loop-status-init : goal.loop-status-init
 loop-status-init g c =
     let new = c.new-lines.ensures in
-    let empty = c.new-round.ensures.value in
-    let none : length c.new-round.result.tasks ≡ 0 = ap (λ (o : Open). length o.tasks) empty in
+    let o = c.args.round in
+    let fresh = c.requires.fresh in
+    let first = at_first o.workers o.words c.new-lines.result o new.place fresh in
+    let none : length o.tasks ≡ 0 = ap (λ (x : Open _). length x.tasks) fresh in
     record {
-      due = all_due _ _ _ _ _ new.fresh new.unended (at_first c.new-lines.result c.new-round.result new.place empty);
+      due = all_due _ _ _ _ _ new.fresh new.unended first;
+      ran = rounds_first words_here o.workers o.words _ _ _ _ _ o new.fresh new.unended first fresh;
+      lines = subst (λ n. IsOpenBefore (n + 1) o) (sym (ap (λ (p : Place). p.count) new.place))
+          (open_first o.workers o.words o fresh);
       end = λ told. record { told = told; none = λ at_end. absurd (cc (at_end, new.unended)) };
       limit = ap (λ (p : Place). p.limit) new.place;
       allowed = omega (arith, ap (λ (p : Place). p.count) new.place);
@@ -30,6 +39,9 @@ loop-status-preserved g c =
     let next = c.in_default.ensures in
     record {
       due = on_and_on_if _ _ _ _ _ _ _ _ _ _ next.ended c.loop-status.invariant.due next.goes_on;
+      ran = rounds_on_if words_here c.args.round.workers c.args.round.words _ c.loop-status.round _ _ _ _ _ _ _ _
+          c.loop-status.invariant.ran next.ran;
+      lines = next.before;
       end = λ told. next.end (c.loop-status.invariant.end told);
       limit = next.limit;
       allowed = next.allowed;
@@ -44,13 +56,22 @@ loop-status-preserved g c =
 pub returns-in-Some-clause-stops : goal.returns-in-Some-clause-stops
 returns-in-Some-clause-stops g c is =
     let last = c.in-Some.ensures in
-    let failed = ap Some is in
+    let failed = ap Some (sym c.ended.ensures.status ∙ is) in
     stops_if _ _ _ c.step.new.round c.step.new.lines _
     (on_and_on_if _ _ _ _ _ _ _ _ _ _ last.ended c.loop-status.invariant.due (last.passed failed))
     (last.waits failed)
-    (subst (λ (o : Open). length o.tasks < round_limit) (sym (last.kept failed)) c.loop-status.invariant.few)
+    (subst (λ (o : Open _). length o.tasks < round_limit) (sym (last.kept failed)) c.loop-status.invariant.few)
 
 -- the text was cut short
 pub returns-in-Some-clause-part : goal.returns-in-Some-clause-part
 returns-in-Some-clause-part g c cut =
-    on_and_part_if _ _ _ _ _ _ _ c.loop-status.invariant.due (c.in-Some.ensures.part cut)
+    on_and_part_if _ _ _ _ _ _ _ c.loop-status.invariant.due
+    (c.in-Some.ensures.part (subst IsCutShort c.ended.ensures.status cut))
+
+-- the rounds of all lines were run
+pub returns-in-Some-clause-last : goal.returns-in-Some-clause-last
+returns-in-Some-clause-last g c is =
+    let answers = subst IsAnswer c.ended.ensures.status is in
+    rounds_end_if words_here c.args.round.workers c.args.round.words _ c.loop-status.round _ _ c.step.new.round _ _ _ _ _
+    (c.ended.ensures.last answers) (c.ended.ensures.fulls answers) c.loop-status.invariant.ran
+    (c.in-Some.ensures.ran_all answers)

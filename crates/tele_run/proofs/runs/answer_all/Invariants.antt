@@ -1,10 +1,13 @@
-use Rattle.std.proofs.Common.{◌≡◌, ◌-◌, ◌<◌, ◌≤◌, length}
+use Rattle.std.proofs.Common.{◌≡◌, ◌+◌, ◌-◌, ◌<◌, ◌≤◌, length}
 use Rattle.std.specs.Prelude.{IfSome, IsSome, None}
 use Rattle.tele_lines.specs.Lines.{line_limit}
 use Rattle.tele_lines.specs.Rounds.{round_limit}
 use Rattle.tele_lines.specs.Progress.{limit_of, count_of, stop_of, mode_of, has_ended, unread, TellsEnd}
 use Rattle.tele_run.specs.Due.{RunsTo, moment_of}
+use Rattle.tele_run.specs.Open.{IsOpenBefore}
 use Rattle.tele_run.proofs.ToldLemmas.{first_moment}
+use Rattle.tele_run.proofs.DueRoundLemmas.{HasRounds}
+use Rattle.tele_run.proofs.RanLemmas.{words_here}
 use Rattle.tele_run.proofs.runs.answer_all.Given as goal
 
 -- what was printed and what is still due are the answer
@@ -16,6 +19,10 @@ invariant-loop-status g l =
       due : IfSome (left l.fn.source) (λ bytes.
           RunsTo first_moment bytes (written l.fn.out) (written l.out) (has_ended l.lines)
           (unread l.lines (left l.source)) (moment_of l.lines l.round));
+      ran : IfSome (left l.fn.source) (λ bytes. HasRounds words_here l.fn.round.workers
+          l.fn.round.words (g.H.Shelf.kept l.fn.shelf) (g.H.Shelf.kept l.shelf) l.round bytes
+          (unread l.lines (left l.source)) (moment_of l.lines l.round));
+      lines : IsOpenBefore (count_of l.lines + 1) l.round;
       end : IsSome (left l.fn.source) → TellsEnd l.lines (left l.source);
       limit : limit_of l.lines ≡ line_limit;
       allowed : count_of l.lines ≤ line_limit;

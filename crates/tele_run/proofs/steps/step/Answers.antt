@@ -1,7 +1,17 @@
-use Rattle.std.proofs.Common.{ap}
+use Rattle.std.proofs.Common.{[], ◌∷◌, sym, ap, refl, subst, append-nil}
 use Rattle.std.specs.Prelude.{Err}
-use Rattle.tele_run.proofs.StepMomentLemmas.{line_part, input_ended, bad_named, bad_part}
-use Rattle.tele_run.proofs.StepMomentLemmas.{source_failed}
+use Rattle.tele_io.specs.Bytes.{Appends}
+use Rattle.tele_lines.specs.Answer.{Good, Bad}
+use Rattle.tele_lines.specs.Progress.{version_of}
+use Rattle.tele_run.specs.Open.{asked, map_in, round_for}
+use Rattle.tele_run.specs.Due.{moment_of}
+use Rattle.tele_run.proofs.AnswerLemmas.{status-asked}
+use Rattle.tele_run.proofs.TakeLemmas.{stay_open, takes_same}
+use Rattle.tele_run.proofs.StepLemmas.{same_lines, status-taken, at_end}
+use Rattle.tele_run.proofs.ToldLemmas.{went_on_if, part_if, ended_if, ended_part_if}
+use Rattle.tele_run.proofs.CutLemmas.{task_rounds-open, task_rounds-bad}
+use Rattle.tele_run.proofs.DueRoundLemmas.{rounds_ended_if}
+use Rattle.tele_run.proofs.RanLemmas.{words_here}
 use Rattle.tele_run.proofs.steps.step.Goals as goal
 
 -- a part of what a line makes due was written
@@ -9,8 +19,11 @@ pub returns-in-Err-clause-part : goal.returns-in-Err-clause-part
 returns-in-Err-clause-part g c =
     let next = c.in-Ok-Some.ensures in
     let goes = rw c.in-Ok-Some.field-0-is at next.line in
-    λ _. line_part c.args.lines.now c.next.new.self c.args.round.now c.version.ensures.value
-    c.requires.chosen next.steady _ _ _ c.in-Ok-Some.line.number c.in-Ok-Some.line.item _ _ _
+    let v = c.version.result in
+    let tasks = c.args.round.now.tasks in
+    λ _. part_if (moment_of c.args.lines.now c.args.round.now) _ (asked v tasks) (Good c.in-Ok-Some.line.number v c.in-Ok-Some.line.item ∷ [])
+    _ _ _ _ _ (same_lines c.args.lines.now c.next.new.self v tasks c.version.ensures.value c.requires.chosen next.steady)
+    (status-taken v tasks c.in-Ok-Some.line.number c.in-Ok-Some.line.item)
     (rw (← c.version.ensures.value) at goes) c.in-Err.ensures.part
 
 -- the input has ended, and the open round was answered
@@ -18,31 +31,84 @@ pub returns-in-Ok-answer-clause-ends : goal.returns-in-Ok-answer-clause-ends
 returns-in-Ok-answer-clause-ends g c =
     let next = c.in-Ok-None.ensures in
     let reads = rw c.in-Ok-None.field-0-is at next.none in
-    λ _. input_ended c.args.lines.now c.next.new.self c.args.round.now
-    c.version-in-Ok-None.ensures.value c.requires.chosen next.steady _ _ _ reads
-    c.in-Ok-answer.ensures.printed
+    let v = c.version-in-Ok-None.result in
+    let tasks = c.args.round.now.tasks in
+    λ _. ended_if (moment_of c.args.lines.now c.args.round.now) (asked v tasks) [] _ 0 _ _
+    (same_lines c.args.lines.now c.next.new.self v tasks c.version-in-Ok-None.ensures.value c.requires.chosen next.steady)
+    (sym (status-asked v tasks [])) reads
+    (subst (Appends _ _) (at_end v (map_in c.args.round.now) tasks) c.in-Ok-answer.ensures.printed)
 
 -- a bad line was named
 pub returns-in-Ok-name-clause-ends : goal.returns-in-Ok-name-clause-ends
 returns-in-Ok-name-clause-ends g c =
-    let bad = c.in-Err-Bad in
-    let reads = bad.ensures.bad bad.line bad.cause (ap Err bad.field-0-is) c.requires.going in
-    λ _. bad_named c.args.lines.now c.next.new.self c.args.round.now
-    c.version-in-Err-Bad.ensures.value c.requires.chosen bad.ensures.steady _ _ _ bad.line bad.cause
-    reads c.in-Ok-name.ensures.printed
+    let next = c.in-Err-Bad.ensures in
+    let is = ap Err c.in-Err-Bad.field-0-is in
+    let v = c.version-in-Err-Bad.result in
+    let tasks = c.args.round.now.tasks in
+    let last = Bad c.in-Err-Bad.line c.in-Err-Bad.cause ∷ [] in
+    λ _. ended_if (moment_of c.args.lines.now c.args.round.now) (asked v tasks) last _ 3 _ _
+    (same_lines c.args.lines.now c.next.new.self v tasks c.version-in-Err-Bad.ensures.value c.requires.chosen next.steady)
+    (sym (status-asked v tasks last))
+    (next.bad c.in-Err-Bad.line c.in-Err-Bad.cause is c.requires.going) c.in-Ok-name.ensures.printed
 
 -- or a part of what names it was written
 pub returns-in-Err-name-clause-part : goal.returns-in-Err-name-clause-part
 returns-in-Err-name-clause-part g c =
-    let bad = c.in-Err-Bad in
-    let reads = bad.ensures.bad bad.line bad.cause (ap Err bad.field-0-is) c.requires.going in
-    λ _. bad_part c.args.lines.now c.next.new.self c.args.round.now
-    c.version-in-Err-Bad.ensures.value c.requires.chosen bad.ensures.steady _ _ _ bad.line bad.cause
-    reads c.in-Err-name.ensures.part
+    let next = c.in-Err-Bad.ensures in
+    let is = ap Err c.in-Err-Bad.field-0-is in
+    let v = c.version-in-Err-Bad.result in
+    let tasks = c.args.round.now.tasks in
+    let last = Bad c.in-Err-Bad.line c.in-Err-Bad.cause ∷ [] in
+    λ _. ended_part_if (moment_of c.args.lines.now c.args.round.now) (asked v tasks) last _ _ _
+    (same_lines c.args.lines.now c.next.new.self v tasks c.version-in-Err-Bad.ensures.value c.requires.chosen next.steady)
+    (next.bad c.in-Err-Bad.line c.in-Err-Bad.cause is c.requires.going) c.in-Err-name.ensures.part
 
 -- the source failed, and nothing was written
 pub returns-in-Err-Read-clause-passed : goal.returns-in-Err-Read-clause-passed
 returns-in-Err-Read-clause-passed g c is =
-    let failed = c.in-Err-Read in
-    source_failed c.args.lines.now c.next.new.self c.args.round.now c.requires.chosen
-    failed.ensures.steady _ _ _ _ (failed.ensures.passed (ap Err failed.field-0-is))
+    let next = c.in-Err-Read.ensures in
+    let v = version_of c.next.new.self in
+    let tasks = c.args.round.now.tasks in
+    went_on_if (moment_of c.args.lines.now c.args.round.now) (moment_of c.next.new.self c.args.round.now) (asked v tasks) [] _ _ _ _ _
+    (same_lines c.args.lines.now c.next.new.self v tasks refl c.requires.chosen next.steady)
+    (next.passed (ap Err c.in-Err-Read.field-0-is))
+    (takes_same _ _ _ _ _ _ _ _ (sym (append-nil (asked v tasks))) refl (stay_open (map_in c.args.round.now) (asked v tasks) _))
+
+-- a line was taken
+pub returns-in-Ok-clause-goes_on : goal.returns-in-Ok-clause-goes_on
+returns-in-Ok-clause-goes_on g c =
+    let next = c.in-Ok-Some.ensures in
+    let goes = rw c.in-Ok-Some.field-0-is at next.line in
+    let v = c.version.result in
+    let tasks = c.args.round.now.tasks in
+    went_on_if (moment_of c.args.lines.now c.args.round.now) (moment_of c.next.new.self c.take.new.round) (asked v tasks)
+    (Good c.in-Ok-Some.line.number v c.in-Ok-Some.line.item ∷ []) _ _ _ _ _
+    (same_lines c.args.lines.now c.next.new.self v tasks c.version.ensures.value c.requires.chosen next.steady)
+    (rw (← c.version.ensures.value) at goes)
+    (takes_same _ _ _ _ _ _ _ _ refl (ap (λ w. asked w c.take.new.round.tasks) c.version.ensures.value) c.in-Ok.ensures.taken)
+
+-- the rounds of the open lines were run at the end of the input
+pub returns-in-Ok-answer-clause-ran_all : goal.returns-in-Ok-answer-clause-ran_all
+returns-in-Ok-answer-clause-ran_all g c =
+    let next = c.in-Ok-None.ensures in
+    let reads = rw c.in-Ok-None.field-0-is at next.none in
+    let v = c.version-in-Ok-None.result in
+    let tasks = c.args.round.now.tasks in
+    λ _. rounds_ended_if words_here c.args.round.now c.answer.new.round _ _
+    (moment_of c.args.lines.now c.args.round.now) (asked v tasks) [] (round_for tasks) _
+    (same_lines c.args.lines.now c.next.new.self v tasks c.version-in-Ok-None.ensures.value c.requires.chosen next.steady)
+    reads (task_rounds-open v tasks c.requires.open) c.in-Ok-answer.ensures.ran
+
+-- and before a bad line
+pub returns-in-Ok-name-clause-ran_all : goal.returns-in-Ok-name-clause-ran_all
+returns-in-Ok-name-clause-ran_all g c =
+    let next = c.in-Err-Bad.ensures in
+    let is = ap Err c.in-Err-Bad.field-0-is in
+    let v = c.version-in-Err-Bad.result in
+    let tasks = c.args.round.now.tasks in
+    let last = Bad c.in-Err-Bad.line c.in-Err-Bad.cause ∷ [] in
+    λ _. rounds_ended_if words_here c.args.round.now c.name.new.round _ _
+    (moment_of c.args.lines.now c.args.round.now) (asked v tasks) last (round_for tasks) _
+    (same_lines c.args.lines.now c.next.new.self v tasks c.version-in-Err-Bad.ensures.value c.requires.chosen next.steady)
+    (next.bad c.in-Err-Bad.line c.in-Err-Bad.cause is c.requires.going)
+    (task_rounds-bad v c.in-Err-Bad.line c.in-Err-Bad.cause tasks c.requires.open) c.in-Ok-name.ensures.ran

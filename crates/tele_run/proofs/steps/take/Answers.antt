@@ -1,9 +1,11 @@
-use Rattle.std.proofs.Common.{ap}
-use Rattle.std.proofs.Common.{[], ◌∷◌}
+use Rattle.std.proofs.Common.{ap, refl, [], ◌∷◌}
 use Rattle.ist_core.specs.Map.{map_of}
 use Rattle.tele_lines.specs.Answer.{Good}
 use Rattle.tele_run.specs.Open.{map_in}
-use Rattle.tele_run.proofs.StepLemmas.{on_ok, on_err, on_ok3, at_refusal, part_before, taken_open, taken_full, taken_part, taken_interval, interval_part}
+use Rattle.tele_run.proofs.StepLemmas.{on_ok, on_ok2, on_err, on_ok3, at_ok, at_refusal, part_before, taken_open, taken_full, taken_part, taken_interval, interval_part}
+use Rattle.tele_run.proofs.OpenLemmas.{open_more}
+use Rattle.tele_run.proofs.TakenLemmas.{rounds_full, rounds_open, rounds_interval}
+use Rattle.tele_run.proofs.RanLemmas.{words_here}
 use Rattle.tele_run.proofs.steps.take.Goals as goal
 
 -- a part of the round before an interval line was answered
@@ -52,3 +54,41 @@ returns-in_ok-answer-in-Interval-clause-part g c =
     (interval_part c.args.version (map_in c.args.round.now) c.args.round.now.tasks c.args.line.number c.in-Interval.first
     c.in-Interval.last c.args.line.item c.in-Interval.is c.list.result.now (map_in c.answer-in-Interval.new.round) answered.behind
     c.list.ensures.value _ _ _ answered.printed)
+
+-- the tasks rise with the line
+pub answer-requires-clause-rising : goal.answer-requires-clause-rising
+answer-requires-clause-rising g c κs within =
+    let asks = c.in_default.ensures in
+    (open_more c.args.line.number c.args.round.now c.ask.new.self _ refl asks.asked asks.same c.requires.before).rises
+
+-- the round that the line fills is run
+pub returns-then-is_full-clause-ran : goal.returns-then-is_full-clause-ran
+returns-then-is_full-clause-ran g c =
+    let asks = c.in_default.ensures in
+    on_ok2 c.answer.result c.answer.ensures.ran c.answer.ensures.none
+    (rounds_full words_here c.args.version c.args.line.number c.args.line.item c.args.round.now
+    (g.H.Shelf.kept c.args.shelf.now) c.in-Point.command c.in-Point.is c.ask.new.self asks.asked asks.same
+    asks.last_same asks.fulls_same asks.workers_same asks.words_same c.answer.new.round _
+    (c.is_full.ensures.value.0 c.if-is_full.true))
+
+-- a round that stays open isn't
+pub returns-else-is_full-clause-ran : goal.returns-else-is_full-clause-ran
+returns-else-is_full-clause-ran g c =
+    let asks = c.in_default.ensures in
+    rounds_open words_here c.args.version c.args.line.number c.args.line.item c.args.round.now
+    (g.H.Shelf.kept c.args.shelf.now) c.in-Point.command c.in-Point.is c.ask.new.self asks.asked asks.same
+    asks.last_same asks.fulls_same asks.workers_same asks.words_same
+
+pub returns-else-is_full-clause-before : goal.returns-else-is_full-clause-before
+returns-else-is_full-clause-before g c =
+    let asks = c.in_default.ensures in
+    open_more c.args.line.number c.args.round.now c.ask.new.self _ refl asks.asked asks.same c.requires.before
+
+-- the round that an interval line ends is run
+pub returns-in_ok-answer-in-Interval-clause-ran : goal.returns-in_ok-answer-in-Interval-clause-ran
+returns-in_ok-answer-in-Interval-clause-ran g c =
+    let answered = c.in_ok-answer-in-Interval.ensures in
+    at_ok c.print_interval.result
+    (rounds_interval words_here c.args.version c.args.line.number c.args.line.item c.args.round.now
+    (g.H.Shelf.kept c.args.shelf.now) c.in-Interval.first c.in-Interval.last c.in-Interval.is c.requires.open
+    c.answer-in-Interval.new.round _ answered.ran answered.none)

@@ -1,4 +1,4 @@
-use Rattle.std.proofs.Common.{◌++◌, subst, arith, refl, IfOk}
+use Rattle.std.proofs.Common.{ℕ, List, ◌++◌, subst, arith, refl, IfOk}
 use Rattle.std.specs.List.Sorted.{IsPermutation}
 use Rattle.tele_lanes.proofs.LineLemmas.{IfOk-both}
 use Rattle.tele_generations.proofs.LeadLemmas.{tables_begin}
@@ -6,7 +6,11 @@ use Rattle.tele_generations.proofs.WayLemmas.{way_begins}
 use Rattle.tele_generations.proofs.RoundLemmas.{ran_here, some_left, behind_rise, behind_few}
 use Rattle.tele_generations.proofs.RoundLemmas.{ends_plain, ends_round, last_table, ends_with}
 use Rattle.tele_generations.proofs.RoundLemmas.{ends_for, way_goes_on, tables_go_on}
-use Rattle.tele_generations.proofs.rounds.run_round.Goals as goal
+use Rattle.tele_trees.proofs.rounds.run_round.Goals as goal
+
+-- a closed tree is seen as its words
+abbrev words_here : List ℕ → List ℕ
+words_here words = words
 
 -- before the first table
 pub loop-way-init : goal.loop-way-init
@@ -15,7 +19,7 @@ loop-way-init g c =
     let words = c.in_ok-way.way.words in
     record {
       tables = rw (e.fulls, e.pairs, e.left)
-          (tables_begin g.T.Tables.words_of c.args.workers _ c.args.pairs.now c.args.tasks.now
+          (tables_begin words_here c.args.workers _ c.args.pairs.now c.args.tasks.now
           (g.H.Shelf.kept c.args.shelf.now) words (g.H.Shelf.kept c.args.shelf.now) refl e.words);
       on = rw (e.fulls, e.answers, e.pairs, e.left)
           (way_begins c.args.workers c.args.pairs.now c.args.tasks.now words c.requires.keys
@@ -75,7 +79,7 @@ returns-in_default-clause-closed g c =
     let last = ends_round c.loop-way.invariant.on r c.requires.some c.in_default.is in
     IfOk-both c.finish.result _ _ _
     (λ v closed fulls.
-    ends_for g.T.Tables.words_of c.in_ok-made.made.closed v.closed last closed fulls)
+    ends_for words_here c.in_ok-made.made.closed v.closed last closed fulls)
     c.finish.ensures.closed c.finish.ensures.fulls
 
 -- the next table has less to do

@@ -1,0 +1,242 @@
+-- One more round was run, on its tables. Serves the closing of rounds and all above it.
+use Rattle.std.proofs.Common.{◌≡◌, ℕ, ◌+◌, ◌<◌, ◌≤◌, List, [], ◌∷◌, ◌++◌, refl, sym, ◌∙◌, ap, subst, append_assoc, append-nil, length, arith}
+use Rattle.std.specs.Prelude.{Option, Some, None, map}
+use Rattle.std.specs.List.{flat_map}
+use Rattle.std.proofs.lemmas.List.{length-map}
+use Rattle.std.proofs.lemmas.Grind.{flat_map-append}
+use Rattle.ist_core.specs.declared.pairs.Pair.{Pair}
+use Rattle.ist_core.specs.declared.ports.Full.{Full}
+use Rattle.ist_core.specs.Map.{Map, no_pairs, map_of, replay, pairs_of}
+use Rattle.tele_lanes.specs.declared.task_lists.Task.{Task}
+use Rattle.tele_lanes.specs.declared.answer_lists.Answer.{Answer}
+use Rattle.tele_lanes.specs.Lines.{commands_of}
+use Rattle.tele_lanes.specs.Lanes.{ArePlainAnswers}
+use Rattle.tele_generations.specs.Sizes.{first_words}
+use Rattle.tele_generations.specs.Generations.{IsGenerations}
+use Rattle.tele_generations.specs.Generations.IsGenerations.{whole, ran_full}
+use Rattle.tele_generations.specs.Shelves.{IsShelved}
+use Rattle.tele_generations.specs.Rounds.{RanInGenerations, EndsTheRound}
+use Rattle.tele_run.specs.Rounds.{map_after_rounds, AreTablesOf, AreTablesOfAll, if_any, RanRounds}
+use Rattle.tele_run.specs.Open.{Open, Closes, map_in, round_for, HasRun, RunsOn}
+
+-- a closed tree is seen as its words
+abbrev pub words_here : List ℕ → List ℕ
+words_here words = words
+
+-- the map behind one more round
+pub map_after_rounds-more : (m : Map) (rounds : List (List Task)) (tasks : List Task)
+    → map_after_rounds m (rounds ++ tasks ∷ [])
+    ≡ replay (map_after_rounds m rounds) (commands_of tasks)
+map_after_rounds-more m [] tasks = refl
+map_after_rounds-more m (first ∷ rounds) tasks =
+    map_after_rounds-more (replay m (commands_of first)) rounds tasks
+
+-- the tables of one more round
+tables_more : {C : Type 0} (words_of : C → List ℕ) (workers most : ℕ) (m : Map)
+    (rounds : List (List Task)) (lists : List (List C)) (tasks : List Task) (tables : List C)
+    → AreTablesOfAll words_of workers most m rounds lists
+    → AreTablesOf words_of workers most (map_after_rounds m rounds) tasks tables
+    → AreTablesOfAll words_of workers most m (rounds ++ tasks ∷ []) (lists ++ tables ∷ [])
+tables_more words_of workers most m [] [] tasks tables h one = (one, tt)
+tables_more words_of workers most m [] (list ∷ lists) tasks tables h one = absurd h
+tables_more words_of workers most m (round ∷ rounds) [] tasks tables h one = absurd h
+tables_more words_of workers most m (round ∷ rounds) (list ∷ lists) tasks tables h one = (
+  h.0,
+  tables_more words_of workers most (replay m (commands_of round)) rounds lists tasks
+      tables h.1 one,
+)
+
+-- there is one more table than tables that ran full
+tables_long : (workers : ℕ) (pairs : List Pair) (tasks : List Task) (tables : List (List ℕ))
+    (fulls : List Full) → IsGenerations workers pairs tasks tables fulls
+    → length tables ≡ length fulls + 1
+tables_long workers pairs tasks tables fulls (whole runs is all) = refl
+tables_long workers pairs tasks tables fulls (ran_full {after = after} {left = left} {next = next}
+    {more = more} {fulls = later} runs is full hands larger rest) =
+    (let one = tables_long workers after left (next ∷ more) later rest in omega arith)
+
+-- tables on a shelf, and others behind them
+pub shelved_then : {C : Type 0} (before : Option (List C)) (given : List C)
+    (middle : Option (List C)) (others : List C) (after : Option (List C))
+    → IsShelved before given middle → IsShelved middle others after
+    → IsShelved before (given ++ others) after
+shelved_then before given middle others None one two = tt
+shelved_then before given None others (Some after) one two = absurd two
+shelved_then None given (Some middle) others (Some after) one two = absurd one
+shelved_then (Some before) given (Some middle) others (Some after) one two =
+    two ∙ ap (λ l. l ++ others) one ∙ append_assoc before given others
+
+-- no table was put on a shelf
+pub none_shelved : {C : Type 0} (kept : Option (List C)) → IsShelved kept [] kept
+none_shelved None = tt
+none_shelved (Some tables) = sym (append-nil tables)
+
+-- where there are tasks they are a round
+pub round_for-some : (tasks : List Task) → 0 < length tasks → round_for tasks ≡ tasks ∷ []
+round_for-some [] some = absurd (omega arith)
+round_for-some (task ∷ tasks) some = refl
+
+-- a round was closed, whichever name it goes by
+pub closes_from : {C : Type 0} (old same new : Open C) → old ≡ same → Closes old new
+    → Closes same new
+closes_from old same new is h = subst (λ (o : Open _). Closes o new) is h
+
+-- the tasks of the open round were answered
+pub closes_round : {C : Type 0} (old new : Open C) (pairs : List Pair) (tasks : List Task)
+    (found : List Answer) → pairs ≡ old.pairs → tasks ≡ old.tasks
+    → ArePlainAnswers (map_of pairs) tasks found → new.answers ≡ found
+    → map_in new ≡ replay (map_of pairs) (commands_of tasks) → new.tasks ≡ [] → Closes old new
+closes_round old new pairs tasks found same_pairs same_tasks plain is behind none = record {
+  answered = subst (ArePlainAnswers (map_in old) old.tasks) (sym is)
+      (subst (λ ts. ArePlainAnswers (map_in old) ts found) same_tasks
+      (subst (λ ps. ArePlainAnswers (map_of ps) tasks found) same_pairs plain));
+  behind = behind ∙ ap (λ ps. replay (map_of ps) (commands_of tasks)) same_pairs
+      ∙ ap (λ ts. replay (map_in old) (commands_of ts)) same_tasks;
+  none = none;
+}
+
+-- and no more keys came than there were tasks
+pub few_from : {C : Type 0} (old same : Open C) (tasks : List Task) (now behind : List Pair)
+    → old ≡ same → tasks ≡ old.tasks → now ≡ behind
+    → length behind ≤ length old.pairs + length tasks
+    → length now ≤ length same.pairs + length same.tasks
+few_from old same tasks now behind is same_tasks is_behind few =
+    subst (λ (o : Open _). length now ≤ length o.pairs + length o.tasks) is
+    (omega (arith, ap length same_tasks, ap length is_behind, few))
+
+module _ {C : Type 0} (words_of : C → List ℕ) where
+  -- and its tables
+  pub runs_from : (old same new : Open C) (kept later : Option (List C)) → old ≡ same
+      → RunsOn words_of old kept new later (round_for old.tasks)
+      → RunsOn words_of same kept new later (round_for same.tasks)
+  runs_from old same new kept later is h =
+      subst (λ o. RunsOn words_of o kept new later (round_for o.tasks)) is h
+
+  -- before the first round
+  pub none_ran : (workers most : ℕ) (kept : Option (List C))
+      → RanRounds words_of workers most [] kept kept None 0
+  none_ran workers most kept = record {
+    lists = [];
+    given = [];
+    shelved = none_shelved kept;
+    together = refl;
+    are = tt;
+    ends = (refl, refl);
+  }
+
+  -- one more round, once the last table was put on the shelf
+  ran_more : (workers most : ℕ) (rounds : List (List Task)) (before kept middle later : Option (List C))
+      (last : Option C) (count : ℕ) (tasks : List Task) (closed : C) (fulls : List Full)
+      → RanRounds words_of workers most rounds before kept last count
+      → IsShelved kept (if_any last) middle
+      → (let pairs = pairs_of (map_after_rounds no_pairs rounds) in
+      RanInGenerations words_of workers (first_words most workers (length pairs) (length tasks))
+      pairs tasks middle later closed fulls)
+      → EndsTheRound workers (pairs_of (map_after_rounds no_pairs rounds)) tasks (words_of closed)
+      fulls
+      → RanRounds words_of workers most (rounds ++ tasks ∷ []) before later (Some closed)
+      (length fulls)
+  ran_more workers most rounds before kept middle later last count tasks closed fulls h keeps runs
+      ends =
+      let tables = runs.given ++ closed ∷ [] in
+      let given = h.given ++ if_any last in
+      record {
+        lists = h.lists ++ tables ∷ [];
+        given = given ++ runs.given;
+        shelved = shelved_then before given middle runs.given later
+            (shelved_then before h.given kept (if_any last) middle h.shelved keeps) runs.shelved;
+        together = flat_map-append (λ (ts : List C). ts) h.lists (tables ∷ [])
+            ∙ ap (λ ts. flat_map (λ (ts : List C). ts) h.lists ++ ts) (append-nil tables)
+            ∙ ap (λ ts. ts ++ tables) h.together
+            ∙ sym (append_assoc given runs.given (closed ∷ []));
+        are = tables_more words_of workers most no_pairs rounds h.lists tasks tables h.are
+            (record { fulls = fulls; are = runs.are; first_is = runs.first_is });
+        ends = record {
+          earlier = rounds;
+          tasks = tasks;
+          others = h.lists;
+          tables = tables;
+          refusals = fulls;
+          rounds_are = refl;
+          lists_are = refl;
+          count = refl;
+          one_more = sym (length-map tables words_of)
+              ∙ tables_long workers (pairs_of (map_after_rounds no_pairs rounds)) tasks
+              (map words_of tables) fulls runs.are;
+          ends = ends;
+        };
+      }
+
+  -- nothing was run, and nothing told of the open round has changed
+  pub runs_none : (old new : Open C) (kept : Option (List C)) → new.pairs ≡ old.pairs
+      → new.last ≡ old.last → new.fulls ≡ old.fulls → new.workers ≡ old.workers
+      → new.words ≡ old.words → RunsOn words_of old kept new kept []
+  runs_none old new kept pairs last fulls workers_same words_same workers most rounds before h =
+      subst (λ rs. HasRun words_of workers most rs before kept new) (sym (append-nil rounds))
+      (record {
+        ran = subst (λ n. RanRounds words_of workers most rounds before kept new.last n) (sym fulls)
+            (subst (λ l. RanRounds words_of workers most rounds before kept l old.fulls) (sym last)
+            h.ran);
+        begins = ap map_of pairs ∙ h.begins;
+        workers_are = workers_same ∙ h.workers_are;
+        most_is = words_same ∙ h.most_is;
+      })
+
+  -- the tasks of the open round were run
+  module _ (old new : Open C) (kept middle later : Option (List C)) (taken : Option C) (closed : C)
+      (fulls : List Full) (pairs : List Pair) (tasks : List Task) (same_pairs : pairs ≡ old.pairs)
+      (same_tasks : tasks ≡ old.tasks) (of_map : old.pairs ≡ pairs_of (map_in old))
+      (same_last : taken ≡ old.last) (keeps : IsShelved kept (if_any taken) middle)
+      (runs : RanInGenerations words_of old.workers
+      (first_words old.words old.workers (length pairs) (length tasks)) pairs tasks middle later
+      closed fulls)
+      (ends : EndsTheRound old.workers pairs tasks (words_of closed) fulls)
+      (behind : map_in new ≡ replay (map_of pairs) (commands_of tasks)) where
+    -- the map behind them
+    pub map_behind_round : map_in new ≡ replay (map_in old) (commands_of old.tasks)
+    map_behind_round = behind ∙ ap (λ ps. replay (map_of ps) (commands_of tasks)) same_pairs
+        ∙ ap (λ ts. replay (map_in old) (commands_of ts)) same_tasks
+
+    -- and the tables
+    pub runs_round : 0 < length old.tasks → new.last ≡ Some closed → new.fulls ≡ length fulls
+        → new.workers ≡ old.workers → new.words ≡ old.words
+        → RunsOn words_of old kept new later (round_for old.tasks)
+    runs_round some last count workers_same words_same workers most rounds before h =
+        let now = pairs_of (map_after_rounds no_pairs rounds) in
+        let pairs_are : pairs ≡ now = same_pairs ∙ of_map ∙ ap pairs_of h.begins in
+        let Runs = λ (w k : ℕ) (ps : List Pair) (ts : List Task). RanInGenerations words_of w
+        (first_words k w (length ps) (length ts)) ps ts middle later closed fulls in
+        let Ends = λ (w : ℕ) (ps : List Pair) (ts : List Task).
+        EndsTheRound w ps ts (words_of closed) fulls in
+        let here : Runs workers most now old.tasks =
+        subst (λ ts. Runs workers most now ts) same_tasks
+        (subst (λ ps. Runs workers most ps tasks) pairs_are
+        (subst (λ k. Runs workers k pairs tasks) h.most_is
+        (subst (λ w. Runs w old.words pairs tasks) h.workers_are runs))) in
+        let so : Ends workers now old.tasks = subst (λ ts. Ends workers now ts) same_tasks
+        (subst (λ ps. Ends workers ps tasks) pairs_are
+        (subst (λ w. Ends w pairs tasks) h.workers_are ends)) in
+        let all = rounds ++ old.tasks ∷ [] in
+        let ran = ran_more workers most rounds before kept middle later old.last old.fulls old.tasks
+        closed fulls h.ran (subst (λ l. IsShelved kept (if_any l) middle) same_last keeps) here so in
+        subst (λ rs. HasRun words_of workers most (rounds ++ rs) before later new)
+        (sym (round_for-some old.tasks some))
+        (record {
+          ran = subst (λ n. RanRounds words_of workers most all before later new.last n) (sym count)
+              (subst (λ l. RanRounds words_of workers most all before later l (length fulls))
+              (sym last) ran);
+          begins = map_behind_round ∙ ap (λ m. replay m (commands_of old.tasks)) h.begins
+              ∙ sym (map_after_rounds-more no_pairs rounds old.tasks);
+          workers_are = workers_same ∙ h.workers_are;
+          most_is = words_same ∙ h.most_is;
+        })
+
+  -- some rounds, and others behind them
+  pub runs_then : (first mid last : Open C) (kept middle later : Option (List C))
+      (more others : List (List Task)) → RunsOn words_of first kept mid middle more
+      → RunsOn words_of mid middle last later others
+      → RunsOn words_of first kept last later (more ++ others)
+  runs_then first mid last kept middle later more others one two workers most rounds before h =
+      subst (λ rs. HasRun words_of workers most rs before later last)
+      (append_assoc {A = List Task} rounds more others)
+      (two workers most (rounds ++ more) before (one workers most rounds before h))

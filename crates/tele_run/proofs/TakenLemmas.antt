@@ -1,0 +1,73 @@
+-- Which rounds are run where a line is taken into the open round. Serves the steps of a run.
+use Rattle.std.proofs.Common.{◌≡◌, ℕ, ◌<◌, List, [], ◌∷◌, ◌++◌, sym, ◌∙◌, ap, length}
+use Rattle.std.specs.Prelude.{Option}
+use Rattle.ist_core.specs.declared.commands.Command.{Command}
+use Rattle.ist_core.specs.Map.{no_pairs}
+use Rattle.tele_lines.specs.declared.items.Item.{Item}
+use Rattle.tele_lines.specs.declared.items.Item.TheVariants.{Point, Interval}
+use Rattle.tele_lines.specs.declared.items.Version.{Version}
+use Rattle.tele_lines.specs.Answer.{Read, Good}
+use Rattle.tele_lines.specs.Rounds.{round_limit}
+use Rattle.tele_run.specs.Rounds.{task_rounds}
+use Rattle.tele_run.specs.Open.{Open, RunsOn, asked, round_for}
+use Rattle.tele_run.specs.Due.{TakesRounds}
+use Rattle.tele_run.proofs.CutLemmas.{task_rounds-full, task_rounds-interval}
+use Rattle.tele_run.proofs.RanLemmas.{runs_none, runs_then}
+use Rattle.tele_run.proofs.StepLemmas.{taken_lines}
+
+-- lines that stay open
+pub rounds_stay : {C : Type 0} (words_of : C → List ℕ) (old new : Open C)
+    (kept : Option (List C)) (lines now : List Read) → RunsOn words_of old kept new kept []
+    → now ≡ lines → TakesRounds words_of old kept new kept lines now
+rounds_stay words_of old new kept lines now ran same = record {
+  more = [];
+  ran = ran;
+  cut = λ others. ap (λ ls. task_rounds (ls ++ others)) (sym same);
+}
+
+module _ {C : Type 0} (words_of : C → List ℕ) (version : Version) (number : ℕ) (item : Item)
+    (old : Open C) (kept : Option (List C)) where
+  abbrev lines : List Read
+  lines = asked version old.tasks ++ Good number version item ∷ []
+
+  module _ (command : Command) (is : item ≡ Point command) (mid : Open C)
+      (more : mid.tasks ≡ old.tasks ++ record { line = number; command = command } ∷ [])
+      (pairs : mid.pairs ≡ old.pairs) (last : mid.last ≡ old.last) (fulls : mid.fulls ≡ old.fulls)
+      (workers : mid.workers ≡ old.workers) (words : mid.words ≡ old.words) where
+    same_lines : asked version mid.tasks ≡ lines
+    same_lines = taken_lines version no_pairs old.tasks number item command mid.tasks is more
+
+    -- nothing is run
+    stays : RunsOn words_of old kept mid kept []
+    stays = runs_none words_of old mid kept pairs last fulls workers words
+
+    -- a point line stays open
+    pub rounds_open : TakesRounds words_of old kept mid kept lines (asked version mid.tasks)
+    rounds_open =
+        rounds_stay words_of old mid kept lines (asked version mid.tasks) stays same_lines
+
+    -- or fills the round, which is run
+    pub rounds_full : (new : Open C) (later : Option (List C)) → length mid.tasks ≡ round_limit
+        → RunsOn words_of mid kept new later (round_for mid.tasks) → new.tasks ≡ []
+        → TakesRounds words_of old kept new later lines (asked version new.tasks)
+    rounds_full new later full ran none = record {
+      more = round_for mid.tasks;
+      ran = runs_then words_of old mid new kept kept later [] (round_for mid.tasks) stays ran;
+      cut = λ others. ap (λ ls. task_rounds (ls ++ others)) (sym same_lines)
+          ∙ task_rounds-full version mid.tasks others full
+          ∙ ap (λ ts. round_for mid.tasks ++ task_rounds (asked version ts ++ others)) (sym none);
+    }
+
+  -- an interval line ends the round, which is run
+  pub rounds_interval : (first last : ℕ) → item ≡ Interval first last
+      → length old.tasks < round_limit → (new : Open C) (later : Option (List C))
+      → RunsOn words_of old kept new later (round_for old.tasks) → new.tasks ≡ []
+      → TakesRounds words_of old kept new later lines (asked version new.tasks)
+  rounds_interval first last is few new later ran none = record {
+    more = round_for old.tasks;
+    ran = ran;
+    cut = λ others.
+        ap (λ i. task_rounds ((asked version old.tasks ++ Good number version i ∷ []) ++ others)) is
+        ∙ task_rounds-interval version number first last old.tasks others few
+        ∙ ap (λ ts. round_for old.tasks ++ task_rounds (asked version ts ++ others)) (sym none);
+  }

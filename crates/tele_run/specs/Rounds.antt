@@ -1,0 +1,115 @@
+-- The rounds of a run as lists of tasks, and the tables on which they ran.
+use Rattle.std.specs.Prelude.{◌≡◌, ℕ, ◌+◌, Bool, true, false, List, [], ◌∷◌, ◌++◌, map, length}
+use Rattle.std.specs.Prelude.{Option, Some, None}
+use Rattle.std.specs.List.{filter, flat_map}
+use Rattle.ist_core.specs.declared.commands.Command.{Command}
+use Rattle.ist_core.specs.declared.ports.Full.{Full}
+use Rattle.ist_core.specs.Map.{Map, no_pairs, replay, pairs_of}
+use Rattle.tele_lanes.specs.declared.task_lists.Task.{Task}
+use Rattle.tele_lanes.specs.Lines.{commands_of}
+use Rattle.tele_lines.specs.declared.items.Item.TheVariants.{Point, Interval}
+use Rattle.tele_lines.specs.declared.items.Version.TheVariants.{One}
+use Rattle.tele_lines.specs.Lines.{lines_of}
+use Rattle.tele_lines.specs.Answer.{Read, Good, Bad, input_lines}
+use Rattle.tele_lines.specs.Rounds.{rounds}
+use Rattle.tele_made.specs.Made.{made_commands}
+use Rattle.tele_generations.specs.Sizes.{first_words}
+use Rattle.tele_generations.specs.Generations.{IsGenerations}
+use Rattle.tele_generations.specs.Shelves.{IsShelved}
+use Rattle.tele_generations.specs.Rounds.{FirstHas, EndsTheRound}
+
+-- the point lines among some lines, as tasks
+abbrev pub tasks_in : List Read → List Task
+tasks_in [] = []
+tasks_in (Good number version (Point command) ∷ lines) =
+    record { line = number; command = command } ∷ tasks_in lines
+tasks_in (Good number version (Interval first last) ∷ lines) = tasks_in lines
+tasks_in (Bad number cause ∷ lines) = tasks_in lines
+
+-- are there tasks?
+abbrev pub has_some : List Task → Bool
+has_some [] = false
+has_some (task ∷ tasks) = true
+
+-- the tasks of each round of some lines; a round without a point line is left out
+abbrev pub task_rounds : List Read → List (List Task)
+task_rounds lines = filter has_some (map tasks_in (rounds lines))
+
+-- commands as point lines, numbered from a number on
+abbrev pub numbered : ℕ → List Command → List Read
+numbered number [] = []
+numbered number (command ∷ commands) =
+    Good number One (Point command) ∷ numbered (number + 1) commands
+
+-- the rounds of an input
+abbrev pub input_rounds : List ℕ → List (List Task)
+input_rounds bytes = task_rounds (input_lines (lines_of bytes))
+
+-- the rounds of so many lines that are made from a seed
+abbrev pub made_rounds : ℕ → ℕ → List (List Task)
+made_rounds count seed = task_rounds (numbered 1 (made_commands count seed))
+
+-- the map behind some rounds that begin with a map
+abbrev pub map_after_rounds : Map → List (List Task) → Map
+map_after_rounds m [] = m
+map_after_rounds m (tasks ∷ rounds) = map_after_rounds (replay m (commands_of tasks)) rounds
+
+-- these are the tables of a round that begins with a map; the first has as many words as the pairs,
+-- the tasks and the options of the run give it
+pub record AreTablesOf {C : Type 0} (words_of : C → List ℕ) (workers most : ℕ) (m : Map)
+    (tasks : List Task) (tables : List C) : Type 0 where
+  pub fulls : List Full
+  pub are : IsGenerations workers (pairs_of m) tasks (map words_of tables) fulls
+  pub first_is : FirstHas (first_words most workers (length (pairs_of m)) (length tasks))
+      (map words_of tables)
+
+-- these are the tables of some rounds, one list for each in order; each round begins with the map
+-- behind the rounds before it
+abbrev pub AreTablesOfAll : {C : Type 0} → (C → List ℕ) → ℕ → ℕ → Map → List (List Task)
+    → List (List C) → Type 0
+AreTablesOfAll words_of workers most m [] [] = Unit {0}
+AreTablesOfAll words_of workers most m [] (tables ∷ lists) = ⊥
+AreTablesOfAll words_of workers most m (tasks ∷ rounds) [] = ⊥
+AreTablesOfAll words_of workers most m (tasks ∷ rounds) (tables ∷ lists) =
+    AreTablesOf words_of workers most m tasks tables
+    × AreTablesOfAll words_of workers most (replay m (commands_of tasks)) rounds lists
+
+-- this is the last of some rounds: so many of its tables ran full, and the words of its last one
+-- stand for the pairs at the opening of that table and for what its lanes were told
+pub record IsLastRound {C : Type 0} (words_of : C → List ℕ) (workers : ℕ)
+    (rounds : List (List Task)) (lists : List (List C)) (last : C) (fulls : ℕ) : Type 0 where
+  pub earlier : List (List Task)
+  pub tasks : List Task
+  pub others : List (List C)
+  pub tables : List C
+  pub refusals : List Full
+  pub rounds_are : rounds ≡ earlier ++ tasks ∷ []
+  pub lists_are : lists ≡ others ++ tables ∷ []
+  pub count : length refusals ≡ fulls
+  pub one_more : length tables ≡ fulls + 1
+  pub ends : EndsTheRound workers (pairs_of (map_after_rounds no_pairs earlier)) tasks (words_of last)
+      refusals
+
+-- there is a last table exactly where there is a round, and it is that of the last one
+abbrev pub EndsWith : {C : Type 0} → (C → List ℕ) → ℕ → List (List Task) → List (List C)
+    → Option C → ℕ → Type 0
+EndsWith words_of workers rounds lists None fulls = (rounds ≡ []) × (fulls ≡ 0)
+EndsWith words_of workers rounds lists (Some last) fulls =
+    IsLastRound words_of workers rounds lists last fulls
+
+-- the last table, if there is one
+abbrev pub if_any : {C : Type 0} → Option C → List C
+if_any None = []
+if_any (Some last) = last ∷ []
+
+-- the rounds were run one behind another, from the map with no key: the tables of each, list behind
+-- list, are those that the shelf was given, and the last one
+pub record RanRounds {C : Type 0} (words_of : C → List ℕ) (workers most : ℕ)
+    (rounds : List (List Task)) (before after : Option (List C)) (last : Option C)
+    (fulls : ℕ) : Type 0 where
+  pub lists : List (List C)
+  pub given : List C
+  pub shelved : IsShelved before given after
+  pub together : flat_map (λ tables. tables) lists ≡ given ++ if_any last
+  pub are : AreTablesOfAll words_of workers most no_pairs rounds lists
+  pub ends : EndsWith words_of workers rounds lists last fulls

@@ -1,0 +1,6 @@
+pub mod LaneLemmas
+pub mod NumberLemmas
+pub mod PutLemmas
+pub mod LogLemmas
+pub mod RefusalLemmas
+pub mod RanLemmas

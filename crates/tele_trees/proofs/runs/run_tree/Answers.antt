@@ -1,0 +1,78 @@
+use Rattle.std.proofs.Common.{◌≡◌, ap, sym, subst, ◌∙◌, ℕ, ◌++◌, List, map, IfSome}
+use Rattle.std.proofs.lemmas.List.{append-nil}
+use Rattle.std.proofs.lemmas.List.Elements.{All-map}
+use Rattle.std.proofs.lemmas.Simd.{map-map}
+use Rattle.ist_core.specs.Logs.{GoesOn}
+use Rattle.ist_tree.specs.Faces.{calls_in}
+use Rattle.ist_tree.specs.Refusals.{WasRefused}
+use Rattle.ist_tree.specs.declared.ports.TreePort.{TreePort}
+use Rattle.ist_tree.specs.declared.trees.Tree.{Tree}
+use Rattle.tele_lanes.specs.Lanes.{HaveOwnLines, InLineOrder, TasksInLineOrder, unanswered}
+use Rattle.tele_lanes.specs.Lanes.{first_refusal}
+use Rattle.tele_lanes.specs.declared.lanes.Lane.{Lane}
+use Rattle.tele_lanes.proofs.ClimbLemmas.{HaveOwnLines-all_lane_tasks}
+use Rattle.tele_trees.specs.Ends.{LaneEnd, ended, HasEnded}
+use Rattle.tele_trees.proofs.LaneLemmas.{all_same}
+use Rattle.tele_trees.proofs.runs.run_tree.Goals as goal
+
+abbrev Ran : Type 0
+Ran = Lane TreePort (Tree × ℕ)
+
+-- what a lane came to
+abbrev end_of : Ran → LaneEnd
+end_of l = ended l.tasks l.answers.list l.port l.stopped
+
+-- lanes that were split share no line
+pub gather_all-requires-clause-own_lines : goal.gather_all-requires-clause-own_lines
+gather_all-requires-clause-own_lines g c =
+    subst HaveOwnLines
+    (sym (ap (map (λ (l : Ran). l.tasks)) c.deref.ensures.value
+    ∙ c.run_all-lanes.ensures.tasks ∙ c.in_ok-lanes.ensures.tasks))
+    (HaveOwnLines-all_lane_tasks c.args.workers c.args.tasks.now c.requires.rising)
+
+-- the passes are still of the tree
+pub take_all_back-requires-clause-trees : goal.take_all_back-requires-clause-trees
+take_all_back-requires-clause-trees g c =
+    all_same (λ t. t ≡ c.args.tree.now) (λ (l : Ran). l.port.pass.tree) _ _
+    c.run_all-lanes.ensures.trees c.in_ok-lanes.ensures.trees
+
+-- what the lanes came to
+pub returns : goal.returns
+returns g c =
+    let lanes : List Ran = c.run_all-lanes.result.items in
+    let made = c.in_ok-lanes.ensures in
+    let ran = c.run_all-lanes.ensures in
+    let back = c.take_all_back.ensures in
+    let came = c.in_ok-came.ensures in
+    let lent = c.deref.ensures.value in
+    record {
+      came = record {
+        ends = map end_of lanes;
+        lanes = map-map (λ (e : LaneEnd). e.tasks) end_of lanes ∙ ran.tasks ∙ made.tasks;
+        ran = All-map HasEnded end_of lanes ran.ended;
+        trees = All-map (λ (e : LaneEnd). e.port.pass.tree ≡ c.args.tree.now) end_of lanes
+            (all_same (λ t. t ≡ c.args.tree.now) (λ (l : Ran). l.port.pass.tree) _ _ ran.trees
+            made.trees);
+        numbers = map-map (λ (e : LaneEnd). e.port.pass.number) end_of lanes ∙ ran.numbers
+            ∙ made.numbers;
+        same_tree = back.same_tree ∙ made.same_tree ∙ c.requires.same_tree;
+        made = back.made ∙ made.made;
+        taken = back.taken
+            ∙ ap (λ ps. map (λ (l : Ran). calls_in l.port.pass) lanes ++ ps)
+            (made.taken ∙ c.requires.none_taken)
+            ∙ append-nil (map (λ (l : Ran). calls_in l.port.pass) lanes)
+            ∙ sym (map-map (λ (e : LaneEnd). calls_in e.port.pass) end_of lanes);
+        seen = All-map (λ (e : LaneEnd). GoesOn e.port.pass.seen c.take_all_back.new.maker.seen)
+            end_of lanes back.seen;
+        causes = All-map (λ (e : LaneEnd). IfSome e.port.refused (WasRefused e.port.pass))
+            end_of lanes back.causes;
+        answered = subst (λ ls. InLineOrder ls c.in_ok-came.came.answers.items)
+            (ap (map (λ (l : Ran). l.answers.list)) lent
+            ∙ sym (map-map (λ (e : LaneEnd). e.answers) end_of lanes)) came.answers;
+        left_are = subst (λ ls. TasksInLineOrder ls c.in_ok-came.came.left.items)
+            (ap (map (λ (l : Ran). unanswered l.tasks l.answers.list)) lent
+            ∙ sym (map-map (λ (e : LaneEnd). unanswered e.tasks e.answers) end_of lanes)) came.left;
+        full_is = came.full ∙ ap (λ ls. first_refusal (map (λ (l : Ran). l.stopped) ls)) lent
+            ∙ ap first_refusal (sym (map-map (λ (e : LaneEnd). e.stopped) end_of lanes));
+      };
+    }

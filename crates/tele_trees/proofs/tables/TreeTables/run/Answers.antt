@@ -1,0 +1,13 @@
+use Rattle.tele_trees.proofs.RanLemmas.{all_back, ran_on_table}
+use Rattle.tele_trees.proofs.tables.TreeTables.run.Goals as goal
+
+-- each pass of each lane was taken back
+pub close-closed-requires-clause-all_back : goal.close-closed-requires-clause-all_back
+close-closed-requires-clause-all_back g c = all_back _ _ _ _ _ _ _ c.in_ok-came.ensures.came
+
+-- the words of the closed tree are those of the table
+pub returns : goal.returns
+returns g c = record {
+  ran = ran_on_table _ _ _ _ _ _ _ _ _ _ _ c.in_ok-tree.ensures.new c.in_ok-came.ensures.came
+      c.close-closed.ensures.words c.close-closed.ensures.stands;
+}

@@ -1,0 +1,2 @@
+-- what the functions inside this crate promise each other
+pub mod Ends

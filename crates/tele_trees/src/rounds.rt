@@ -1,0 +1,83 @@
+//! A round of tasks on trees, in as many generations as it takes.
+ghost use Rattle.std.specs.Prelude.{◌≡◌, ◌+◌, ◌≤◌, ◌^◌, All, IfOk, length};
+ghost use Rattle.std.specs.List.Sorted.{IsStrictlyIncreasing};
+ghost use Rattle.ist_core.specs.Map.{map_of};
+ghost use Rattle.tele_lanes.specs.Lines.{task_lines};
+ghost use Rattle.tele_lanes.specs.Lanes.{ArePlainAnswers};
+ghost use Rattle.plain_map.specs.Rising.{IsRising};
+ghost use Rattle.tele_generations.specs.Sizes.{first_words};
+ghost use Rattle.tele_generations.specs.Generations.{MayAsk};
+ghost use Rattle.tele_generations.specs.Rounds.{RanInGenerations, EndsTheRound};
+
+use crate::tables::TreeTables;
+use ist_core::Pair;
+use ist_rest::Closed;
+use std::alloc::{AllocError, Global};
+use std::sync::Wait;
+use std::thread::Threads;
+use tele_generations::{Generation, Round, Shelf, Turn, begin, finish, go_on};
+use tele_lanes::{Gate, Task};
+
+/// Runs the tasks over these pairs, in one generation behind another, until all are answered: each
+/// generation on a tree.
+///
+/// A tree that ran full is put on the shelf, and is followed by one of at least twice its words.
+/// Where it answered nothing, one thread answers the open task of the lowest line from the pairs at
+/// rest. `words` bounds the first tree, unless the pairs need more. Without memory the shelf may
+/// have been given trees of this call.
+pub fn run_round<R: Threads + Wait + Sync, G: Gate + Sync, H: Shelf<Closed>>(
+    rt: &R,
+    gate: &G,
+    alloc: Global,
+    tables: &mut TreeTables,
+    shelf: &mut H,
+    pairs: &[Pair],
+    tasks: &[Task],
+    workers: u32,
+    words: u32,
+) -> Result<Round<Closed>, AllocError>
+    requires keys { IsRising pairs.now }
+    requires lines { IsStrictlyIncreasing (task_lines tasks.now) }
+    requires few { length pairs.now + length tasks.now ≤ 2 ^ 24 }
+    requires some { 1 ≤ workers }
+    requires at_most { workers ≤ 64 }
+    requires least { 64 ≤ words }
+    requires most { words ≤ 2 ^ 28 }
+
+    // One thread with a plain map would answer so.
+    ensures answers { IfOk result (λ r.
+        ArePlainAnswers (map_of pairs.now) tasks.now r.answers.list) }
+
+    // The trees, and why each but the last was followed by another.
+    ensures generations { IfOk result (λ r. RanInGenerations (λ table. table) workers
+        (first_words words workers (length pairs.now) (length tasks.now))
+        pairs.now tasks.now (H.kept shelf.old) (H.kept shelf.new) r.closed r.fulls) }
+    ensures closed { IfOk result (λ r.
+        EndsTheRound workers pairs.now tasks.now r.closed r.fulls) }
+
+    ensures count { IfOk result (λ r. length r.fulls ≤ length tasks.now) }
+    ensures asked { IfOk result (λ r.
+        All (λ f. MayAsk (length pairs.now + length tasks.now) f.asked) r.fulls) }
+{
+    let mut way = begin(alloc, pairs, tasks, workers, words)?;
+    loop {
+        let made = tables.run(rt, gate, alloc, &way.pairs, &way.left, workers, way.words)?;
+        let Generation {
+            answers,
+            left,
+            closed,
+            full,
+        } = made;
+        let Some(full) = full else {
+            return finish(way, &answers, closed);
+        };
+        let pairs = tables.pairs(alloc, &closed)?;
+        shelf.keep(closed);
+        let turn = Turn {
+            answers,
+            left,
+            pairs,
+        };
+        way = go_on(way, turn, full)?;
+    }
+}

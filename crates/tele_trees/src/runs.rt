@@ -1,0 +1,47 @@
+//! The lanes of one tree, from its first pass until all are back.
+ghost use Rattle.std.specs.Prelude.{◌≡◌, ◌≤◌, [], IfOk};
+ghost use Rattle.std.specs.List.Sorted.{IsStrictlyIncreasing};
+ghost use Rattle.tele_lanes.specs.Lines.{task_lines};
+ghost use Rattle.tele_trees.specs.Ends.{CameTo};
+
+use crate::lanes::{gather_all, make_lanes, run_all, take_all_back};
+use ist_core::Full;
+use ist_tree::{Maker, Tree};
+use std::alloc::{AllocError, Global};
+use std::sync::Wait;
+use std::thread::Threads;
+use tele_lanes::{Answer, Gate, Task};
+
+// What the lanes answered and left, and the refusal of the lowest that stopped.
+#[derive(Drop)]
+pub(crate) struct Came {
+    pub answers: Vec<Answer>,
+    pub left: Vec<Task>,
+    pub full: Option<Full>,
+}
+
+// Splits the tasks into lanes, runs each with a pass of its own, and takes all passes back.
+pub(crate) fn run_tree<R: Threads + Wait + Sync, G: Gate + Sync>(
+    rt: &R,
+    gate: &G,
+    alloc: Global,
+    tree: &Tree,
+    maker: &mut Maker,
+    tasks: &[Task],
+    workers: u32,
+) -> Result<Came, AllocError>
+    requires same_tree { maker.old.tree ≡ tree.now }
+    requires no_passes { maker.old.made ≡ 0 }
+    requires none_taken { maker.old.taken ≡ [] }
+    requires rising { IsStrictlyIncreasing (task_lines tasks.now) }
+    requires some { 1 ≤ workers }
+    requires at_most { workers ≤ 64 }
+    ensures came { IfOk result (λ c.
+        CameTo tree.now maker.new workers tasks.now c.answers.items c.left.items c.full) }
+{
+    let lanes = make_lanes(alloc, tree, maker, tasks, workers)?;
+    let lanes = run_all(rt, gate, lanes);
+    let came = gather_all(alloc, &lanes)?;
+    take_all_back(tree, maker, lanes);
+    Ok(came)
+}
