@@ -1,0 +1,2 @@
+-- what the contracts of the example say
+pub mod Turns
