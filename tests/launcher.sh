@@ -4,7 +4,7 @@ set -u
 here=$(cd -P -- "$(dirname -- "$0")/.." && pwd)
 all=$(mktemp -d "${TMPDIR:-/tmp}/launcher.XXXXXX")
 trap 'rm -rf "$all"' EXIT
-unset TELE_JOBS TELE_BUILD TELE_RT CDPATH
+unset TELE_JOBS TELE_BUILD TELE_RT CDPATH GLIBC_TUNABLES
 passed=0 failed=0
 
 # A stub in the place of `rt`: it notes each call, and a program prints what its crates' files said when it was made.
@@ -53,6 +53,7 @@ run)
     {
         echo '#!/bin/bash'
         echo "echo '$(cat ../low/src/* ../left/src/* src/main.rt | tr '\n' ' ')'"
+        echo '[ -z "${PROGRAM_TELLS:-}" ] || echo "heap:$GLIBC_TUNABLES"'
         echo 'echo "words:$*"; cat; exit "${PROGRAM_STATUS:-0}"'
     } >out/tele
     chmod +x out/tele
@@ -230,6 +231,14 @@ expect "the next call goes on from there" "$out$(calls 'check-begins low')$(call
 fresh
 STUB_KILLS=left run
 expect "a check that is killed is tried once more, alone" "$out$(calls 'check-begins left')" "${answer}2"
+
+fresh
+run
+export PROGRAM_TELLS=1
+has "the program is told to keep its heap" "$(cd "$dir" && "$top/tele" <<<input)" "heap:glibc.malloc.mmap_max=0:"
+has "but for the setting of its caller" "$(GLIBC_TUNABLES=own=1 "$top/tele" <<<input)" $'heap:own=1\n'
+has "were it an empty one" "$(GLIBC_TUNABLES='' "$top/tele" <<<input)" $'heap:\n'
+unset PROGRAM_TELLS
 
 fresh
 chmod -w "$top"
