@@ -23,13 +23,14 @@ use Rattle.ist_rows.specs.declared.callers.Caller.{Caller}
 use Rattle.ist_dcss.specs.Helping.{Serves, IsDecided}
 use Rattle.ist_dcss.specs.Installing.{Filling, IsInstalled}
 use Rattle.ist_rebuild.specs.declared.answers.Started.{Started}
-use Rattle.ist_rebuild.specs.declared.answers.Started.TheVariants.{Yes, Other}
+use Rattle.ist_rebuild.specs.declared.answers.Started.TheVariants.{Yes, Other, Marked}
 use Rattle.ist_rebuild.specs.Going.{Begins}
 use Rattle.ist_rebuild.specs.Starting.{IsStartedAt, LeavesDone, IsStartRefused, StartsAreDoneBut}
+use Rattle.ist_rebuild.specs.Starting.{LeavesUninstalled, LeavesUnstarted, StartsNone}
 use Rattle.ist_rebuild.specs.StartSteps.{IsReady, start_filling}
 use Rattle.ist_rebuild.proofs.StartFillLemmas.{rebuild_good, rows_apart}
 use Rattle.ist_rebuild.proofs.StartGoingLemmas.{HasPutIn, begins_installing, begins_serving, put_went}
-use Rattle.ist_rebuild.proofs.StartOwnLemmas.{InstallsBut, starts_but, starts_reserving}
+use Rattle.ist_rebuild.proofs.StartOwnLemmas.{InstallsBut, own_was, starts_but, starts_none_reserving, starts_reserving}
 use Rattle.ist_rebuild.proofs.StartResultLemmas.{put_closed, put_said, put_started, put_to}
 
 -- ---- answers
@@ -118,6 +119,9 @@ module _ (who : Caller) (parent index target rebuild change : ℕ) (f : Filling)
 
   -- ---- decided no
 
+  two_sides : (d : ℕ) → d ≡ 1 → d ≡ 2 → ⊥
+  two_sides d e f = omega arith
+
   pub no_closed : HasPutIn v change plan false w → ¬ (IsOpen (now w) parent)
   no_closed h =
       put_closed who.number parent index target rebuild change apart v w h.helped.sound h
@@ -132,9 +136,14 @@ module _ (who : Caller) (parent index target rebuild change : ℕ) (f : Filling)
       (λ d. d)
       (starts_but (InstallsBut who.number change) v w (put_but false h) who.number change
       ready.caller.mine (λ event p. p) ready.quiet.resolved done base x e own kind said sent to)
-    where
-      two_sides : (d : ℕ) → d ≡ 1 → d ≡ 2 → ⊥
-      two_sides d e f = omega arith
+
+  pub no_start : HasPutIn v change plan false w → StartsNone (now v) (now w) who.number
+  no_start h base x e own kind said =
+      own_was (InstallsBut who.number change) v w (put_but false h) who.number change
+      ready.caller.mine (λ event p. p) ready.quiet.resolved base x e own
+      (λ same. two_sides _ said
+      (put_said who.number parent index target rebuild change apart v false w h x
+      (subst (λ b. (now w).pieces b ≡ Some (Change x)) same e) ∙ h.decided.decision))
 
 -- ---- refusals
 
@@ -171,3 +180,49 @@ behind_done v u w g number same mine resolved is answer leaves done =
     subst (λ n. LeavesDone (now w) n answer) is
     (leaves (subst (StartsAreDone (now u)) (sym is)
     (starts_reserving v u g number mine resolved done)))
+
+-- ---- what is left undone
+
+-- where it was refused, nothing was started or installed
+pub err_unstarted : (v w : View) (number : ℕ) (answer : Result Started Full) → IsErr answer
+    → StartsNone (now v) (now w) number → LeavesUnstarted (now v) (now w) number answer
+err_unstarted v w number (Ok a) is none = absurd (no is)
+  where
+    no : false ≡ true → ⊥
+    no e = cc
+err_unstarted v w number (Err full) is none = none
+
+pub err_uninstalled : (v w : View) (answer : Result Started Full) → IsErr answer
+    → WentOn Reserves v w → LeavesUninstalled v w answer
+err_uninstalled v w (Ok a) is went = absurd (no is)
+  where
+    no : false ≡ true → ⊥
+    no e = cc
+err_uninstalled v w (Err full) is went = went
+
+-- behind reservings nothing more was
+pub behind_uninstalled : (v u w : View) → WentOn Reserves v u → (answer : Result Started Full)
+    → LeavesUninstalled u w answer → LeavesUninstalled v w answer
+behind_uninstalled v u w g (Ok (Yes rebuild)) left = tt
+behind_uninstalled v u w g (Ok (Other word)) left = went_more Reserves v u w g left
+behind_uninstalled v u w g (Ok Marked) left = tt
+behind_uninstalled v u w g (Err full) left = went_more Reserves v u w g left
+
+pub behind_unstarted : (v u w : View) → WentOn Reserves v u → (number same : ℕ)
+    → v.who ≡ CallerOf number → IsResolved v number → same ≡ number
+    → (answer : Result Started Full) → LeavesUnstarted (now u) (now w) same answer
+    → LeavesUnstarted (now v) (now w) number answer
+behind_unstarted v u w g number same mine resolved is answer left =
+    at answer (subst (λ n. LeavesUnstarted (now u) (now w) n answer) is left)
+  where
+    both : StartsNone (now u) (now w) number → StartsNone (now v) (now w) number
+    both two base x e own kind said =
+        starts_none_reserving v u g number mine resolved base x (two base x e own kind said) own kind
+        said
+
+    at : (a : Result Started Full) → LeavesUnstarted (now u) (now w) number a
+        → LeavesUnstarted (now v) (now w) number a
+    at (Ok (Yes rebuild)) two = tt
+    at (Ok (Other word)) two = both two
+    at (Ok Marked) two = both two
+    at (Err full) two = both two

@@ -30,6 +30,7 @@ use Rattle.ist_rule.specs.Conditions.{IsResolved}
 use Rattle.ist_rule.specs.Going.{WentOn}
 use Rattle.ist_rule.specs.Learning.{now}
 use Rattle.ist_rule.proofs.WentOnLemmas.{went_now, went_lawful}
+use Rattle.ist_rebuild.specs.Starting.{StartsNone}
 
 -- the event installs none in the caller's name but this change
 abbrev pub InstallsBut : ℕ → ℕ → Event → Type 0
@@ -102,7 +103,7 @@ module _ (pairs : List Pair) (words : ℕ) (opens : CanOpen pairs words) where
 module _ (P : Event → Type 0) (v w : View) (g : WentOn P v w) (number but : ℕ)
     (mine : v.who ≡ Caller number) (only : (event : Event) → P event → InstallsBut number but event)
     (resolved : IsResolved v number) where
-  own_was : (base : ℕ) (x : ChangeRow) → (now w).pieces base ≡ Some (Change x) → x.owner ≡ number
+  pub own_was : (base : ℕ) (x : ChangeRow) → (now w).pieces base ≡ Some (Change x) → x.owner ≡ number
       → base ≢ but → (now v).pieces base ≡ Some (Change x)
   own_was base x e own ne =
       own_stays v.start v.words (went_lawful P v w g).opens
@@ -142,3 +143,10 @@ starts_reserving v w g number mine resolved done base x e own kind said rebuild 
     ⊎_elim (λ same. let more : base ≡ base + 1 = same in absurd (omega arith)) (λ d. d)
     (starts_but Reserves v w g number (base + 1) mine (reserves_but number (base + 1)) resolved done
     base x e own kind said rebuild to)
+
+-- and none was started
+pub starts_none_reserving : (v w : View) → WentOn Reserves v w → (number : ℕ)
+    → v.who ≡ Caller number → IsResolved v number → StartsNone (now v) (now w) number
+starts_none_reserving v w g number mine resolved base x e own kind said =
+    own_was Reserves v w g number (base + 1) mine (reserves_but number (base + 1)) resolved base x e
+    own (λ same. let more : base ≡ base + 1 = same in omega arith)

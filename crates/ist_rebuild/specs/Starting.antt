@@ -15,7 +15,9 @@ use Rattle.ist_core.specs.Slots.{SlotHolds}
 use Rattle.ist_core.specs.Snapshots.{Snapshot}
 use Rattle.ist_core.specs.StartLayout.{start}
 use Rattle.ist_core.specs.Statuses.{start_kind, decided_yes}
+use Rattle.ist_build.specs.Laying.{Reserves}
 use Rattle.ist_rule.specs.declared.view.View.{View}
+use Rattle.ist_rule.specs.Going.{WentOn}
 use Rattle.ist_rule.specs.Learning.{now}
 use Rattle.ist_settling.specs.Settling.{IsDoneStart, StartsAreDone}
 use Rattle.ist_rebuild.specs.declared.answers.Started.{Started}
@@ -65,6 +67,32 @@ LeavesDone t caller (Ok (Yes rebuild)) = StartsAreDoneBut t caller rebuild
 LeavesDone t caller (Ok (Other word)) = StartsAreDone t caller
 LeavesDone t caller (Ok Marked) = StartsAreDone t caller
 LeavesDone t caller (Err full) = StartsAreDone t caller
+
+-- ---- what it leaves undone
+
+-- the caller has started no rebuild between: each start of it that was decided yes was so already
+abbrev pub StartsNone : Snapshot → Snapshot → ℕ → Type 0
+StartsNone t u caller =
+    (base : ℕ) (change : ChangeRow) → u.pieces base ≡ Some (Change change)
+    → change.owner ≡ caller → change.kind ≡ start_kind → change.decision ≡ decided_yes
+    → t.pieces base ≡ Some (Change change)
+
+-- where no rebuild is answered, none was started
+abbrev pub LeavesUnstarted : Snapshot → Snapshot → ℕ → Result Started Full → Type 0
+LeavesUnstarted t u caller (Ok (Yes rebuild)) = Unit {0}
+LeavesUnstarted t u caller (Ok (Other word)) = StartsNone t u caller
+LeavesUnstarted t u caller (Ok Marked) = StartsNone t u caller
+LeavesUnstarted t u caller (Err full) = StartsNone t u caller
+
+-- and where the slot held another word, or a row was refused, nothing was installed: the caller has
+-- made reservings alone
+abbrev pub LeavesUninstalled : View → View → Result Started Full → Type 0
+LeavesUninstalled v w (Ok (Yes rebuild)) = Unit {0}
+LeavesUninstalled v w (Ok (Other word)) = WentOn Reserves v w
+LeavesUninstalled v w (Ok Marked) = Unit {0}
+LeavesUninstalled v w (Err full) = WentOn Reserves v w
+
+-- ---- for want of words
 
 -- the caller was refused a row for the rebuild, or for the change
 pub record IsStartRefused (v : View) (words : ℕ) (full : Full) (w : View) : Type 0 where

@@ -10,7 +10,8 @@ ghost use Rattle.ist_rows.specs.Building.{HasRefused};
 ghost use Rattle.ist_rows.specs.Rows.{IsCaller};
 ghost use Rattle.ist_settling.specs.Settling.{StartsAreDone};
 ghost use Rattle.ist_rebuild.specs.Going.{IsQuiet, Begins, KeepsFresh};
-ghost use Rattle.ist_rebuild.specs.Starting.{MayStart, IsStartedAt, StoodInstead, LeavesDone, IsStartRefused};
+ghost use Rattle.ist_rebuild.specs.Starting.{MayStart, IsStartedAt, StoodInstead, LeavesDone};
+ghost use Rattle.ist_rebuild.specs.Starting.{IsStartRefused, LeavesUninstalled, LeavesUnstarted};
 ghost use Rattle.ist_rebuild.specs.StartSteps.{IsReady, start_filling};
 
 use crate::answers::Started;
@@ -51,6 +52,9 @@ fn put_in(table: &TreeTable, who: &mut Caller, plan: Plan) -> Started
     ensures marked { result ≡ Marked → ¬ (IsOpen (now who.new.seat.view) plan.parent) }
     ensures done { StartsAreDone (now who.old.seat.view) who.old.number
         → LeavesDone (now who.new.seat.view) who.old.number (Ok result) }
+    ensures unstarted { let old = now who.old.seat.view in
+        LeavesUnstarted old (now who.new.seat.view) who.old.number (Ok result) }
+    ensures uninstalled { LeavesUninstalled who.old.seat.view who.new.seat.view (Ok result) }
 {
     know(&who.seat);
     // Install. Meets another caller's in the slot, and what a helper left there.
@@ -74,8 +78,8 @@ fn put_in(table: &TreeTable, who: &mut Caller, plan: Plan) -> Started
 /// It loads the parent's status first. `Yes` comes where the change was decided yes; `Other` where the
 /// slot held that word and not the target when the change was to be installed; `Marked` only where the
 /// parent isn't open. `Full` comes where a load of the first word in this call left too few words for
-/// the rebuild's row or the change's; nothing was installed then, and a rebuild row that was reserved
-/// stays held for the next start. Retries while others reserve, and takes no memory.
+/// the rebuild's row or the change's. With `Other` and `Full` nothing was installed, and with `Marked`
+/// no rebuild was started; a rebuild row that was reserved stays held for the next start. Retries while others reserve, and takes no memory.
 ///
 /// Source: Brown, Prokopec and Alistarh, "Non-Blocking Interpolation Search Trees with
 /// Doubly-Logarithmic Running Time", PPoPP 2020.
@@ -107,6 +111,9 @@ pub fn start<R: Wait>(
         IsStartRefused who.old.seat.view (word_count_of table.now) full who.new.seat.view) }
     ensures done { StartsAreDone (now who.old.seat.view) who.old.number
         → LeavesDone (now who.new.seat.view) who.old.number result }
+    ensures unstarted { let old = now who.old.seat.view in
+        LeavesUnstarted old (now who.new.seat.view) who.old.number result }
+    ensures uninstalled { LeavesUninstalled who.old.seat.view who.new.seat.view result }
 {
     know(&who.seat);
     // A load. Meets a mark of the parent.

@@ -123,7 +123,7 @@ module _ (who began new : Caller) (seat : SeatFace) (it : IsWay who began new se
   pub b_view : IsLaterView v b
   b_view = begun_view who began.seat it.sound it.pass it.begun
 
-  x_view : IsLaterView w x
+  pub x_view : IsLaterView w x
   x_view =
       record {
         who_is = ap (λ (y : View). y.who) it.given.view;
@@ -167,7 +167,7 @@ module _ (who began new : Caller) (seat : SeatFace) (it : IsWay who began new se
   pub lawful_x : Lawful v.start v.words x.log
   lawful_x = by_first (λ pairs words. Lawful pairs words x.log) it.given.sound.lawful
 
-  number_is : new.number ≡ who.number
+  pub number_is : new.number ≡ who.number
   number_is = it.on.number ∙ it.began_number
 
   -- ---- the pass behind it

@@ -13,6 +13,7 @@ use Rattle.ist_finished.specs.Finishing.{is_put, puts_in}
 use Rattle.ist_finished.proofs.NumberLemmas.{finished_few}
 use Rattle.ist_histories.proofs.ChangeLemmas.{changes_on}
 use Rattle.ist_rebuild.specs.Helping.{IsAskedFor, for_change, for_row}
+use Rattle.ist_rebuild.specs.Starting.{StartsNone}
 use Rattle.ist_rule.specs.declared.view.View.{View}
 use Rattle.ist_rule.specs.Faces.{SeatFace}
 use Rattle.ist_rule.specs.Learning.{now}
@@ -23,13 +24,15 @@ use Rattle.ist_tree.specs.declared.freezing.Outcome.{Outcome}
 use Rattle.ist_tree.specs.FreezeSteps.{Freezes, IsStopped}
 use Rattle.ist_tree.specs.Calls.{HasSeenMore}
 use Rattle.ist_tree.specs.Faces.{PassFace}
-use Rattle.ist_tree.specs.Freezing.{HasFrozen, IsFreezeRefused, IsFrozen, IsFrozenFor, WasFrozen}
+use Rattle.ist_tree.specs.Freezing.{HasFrozen, HasStartedNone, IsFreezeRefused, IsFrozen, IsFrozenFor, WasFrozen}
 use Rattle.ist_tree.specs.Insides.{IsPassWith, face_as, pass_face}
 use Rattle.ist_tree.specs.Refusals.{HadTooFew, IsForRebuild, IsRebuildRefused, KeepsRefusal}
 use Rattle.ist_tree.specs.Working.{IsAskedToRebuild, IsDueRefused, IsShort, for_help, for_start}
 use Rattle.ist_tree.proofs.FreezingLemmas.{was_frozen_on}
 use Rattle.ist_tree.proofs.FreezeCallLemmas.{IsWay}
 use Rattle.ist_tree.proofs.FreezeCallLemmas as way
+use Rattle.ist_tree.proofs.BetweenLemmas.{between_calls}
+use Rattle.ist_tree.proofs.StartLemmas.{starts_none_later, starts_none_more}
 
 module _ (who began new : Caller) (seat : SeatFace) (it : IsWay who began new seat) where
   abbrev v : View
@@ -94,6 +97,19 @@ module _ (who began new : Caller) (seat : SeatFace) (it : IsWay who began new se
       ∙ length-append (filter (λ (e : Entry). is_put e.command) (changes_of v.start v.words w.log))
       (filter (λ (e : Entry). is_put e.command) on.0) in
       omega arith
+
+  -- where it started no rebuild, none was started in the call
+  pub has_started_none : StartsNone (now b) (now w) began.number
+      → StartsNone (now v) (now x) who.number
+  has_started_none none =
+      starts_none_more (now v) (now b) (now x) who.number
+      (starts_none_later v b (way.b_view who began new seat it) who.number it.pass.caller.mine
+      (between_calls v who.number it.sound it.pass.caller.mine it.pass.in_none).resolved)
+      (starts_none_more (now b) (now w) (now x) who.number
+      (subst (StartsNone (now b) (now w)) it.began_number none)
+      (subst (StartsNone (now w) (now x)) (way.number_is who began new seat it)
+      (starts_none_later w x (way.x_view who began new seat it) new.number
+      it.on.ready.caller.mine it.on.ready.quiet.resolved)))
 
   -- what helping a rebuild took
   asked_for_rebuild : (r q : Option Full) (rebuild asked : ℕ) → IsAskedFor (now w) rebuild asked
@@ -198,6 +214,7 @@ pub record StopEnds (old : PassFace) (new : Caller) (seat : SeatFace) (r : Optio
   pub seen : HasSeenMore old (face_as seat new.number r)
   pub full_is : IsFreezeRefused old (face_as seat new.number r) full
   pub calls : seat.view.calls ≡ old.calls
+  pub none : HasStartedNone old (face_as seat new.number r)
   pub unrefused : r ≡ old.refused
   pub refused : KeepsRefusal old (face_as seat new.number r)
 
@@ -207,10 +224,11 @@ pub stop_ends : (who began new : Caller) (seat : SeatFace) (it : IsWay who began
     → (old : PassFace) → pass_face who r ≡ old → StopEnds old new seat r full
 stop_ends who began new seat it r all words same table full s old view =
     subst (λ (o : PassFace). StopEnds o new seat r full) view record {
-      pass = way.ended_pass_with who began new seat it r r all (λ none. none) (λ none. s.done);
+      pass = way.ended_pass_with who began new seat it r r all (λ none. none) (λ none. s.idle.done);
       seen = way.has_seen_more who began new seat it r r table;
       full_is = freeze_refused who began new seat it r r words full same s.short s.asked;
       calls = way.calls_are who began new seat it;
+      none = has_started_none who began new seat it s.idle.none;
       unrefused = refl;
       refused = record { stays = λ first e. e; cause = λ first e. inl e };
     }

@@ -11,11 +11,15 @@ use Rattle.ist_core.specs.Rebuilding.{IsFinishedWith}
 use Rattle.ist_core.specs.RowLayout.{anchor}
 use Rattle.ist_links.proofs.FinishedLemmas.{target_grows}
 use Rattle.ist_links.proofs.FormLemmas.{started_grows}
+use Rattle.ist_rebuild.specs.declared.answers.Started.{Started}
+use Rattle.ist_rebuild.specs.declared.answers.Started.TheVariants.{Marked, Other}
 use Rattle.ist_rebuild.specs.Going.{Begins}
-use Rattle.ist_rebuild.specs.Starting.{IsStartedAt, IsStartRefused, StartsAreDoneBut}
+use Rattle.ist_rebuild.specs.Starting.{IsStartedAt, IsStartRefused, LeavesUnstarted, StartsAreDoneBut, StartsNone}
 use Rattle.ist_rule.specs.declared.view.View.{View}
 use Rattle.ist_rule.specs.Going.{WentOn}
+use Rattle.ist_rule.specs.Faces.{SeatFace}
 use Rattle.ist_rule.specs.Learning.{now}
+use Rattle.ist_rule.specs.Rule.{IsSound}
 use Rattle.ist_rule.proofs.LaterLemmas.{goes_on_more}
 use Rattle.ist_rule.proofs.WentOnLemmas.{later_by-goes_on, went_grow, went_lawful, went_now}
 use Rattle.ist_rows.specs.declared.callers.Caller.{Caller}
@@ -25,11 +29,13 @@ use Rattle.ist_tree.specs.declared.freezing.Outcome.{Outcome}
 use Rattle.ist_tree.specs.declared.freezing.Site.{Site}
 use Rattle.ist_tree.specs.declared.freezing.Site.TheVariants.{Rebuilt, Still}
 use Rattle.ist_tree.specs.Freezing.{WasFrozen}
-use Rattle.ist_tree.specs.FreezeSteps.{Freezes, FreezesTarget, HasMet, IsRebuildOf, IsSite, IsStopped, KeepsDoneBut, MayHaveMet, WasTop, rebuild_in}
-use Rattle.ist_tree.specs.Working.{KeepsDone, Rebuilds, RebuildsOn}
+use Rattle.ist_tree.specs.FreezeSteps.{Freezes, FreezesTarget, GoesIdle, HasMet, IsRebuildOf, IsSite, IsStopped, KeepsDoneBut, MayHaveMet, WasTop, rebuild_in}
+use Rattle.ist_tree.specs.Working.{IsReady, KeepsDone, Rebuilds, RebuildsOn}
 use Rattle.ist_tree.proofs.DueLemmas.{done_more}
 use Rattle.ist_tree.proofs.FreezingLemmas.{row_was_frozen, was_frozen_on}
-use Rattle.ist_tree.proofs.RebuildLemmas.{rebuilds_more, short_now}
+use Rattle.ist_tree.proofs.EventLemmas.{IsPlainHelp, none_starts_none}
+use Rattle.ist_tree.proofs.RebuildLemmas.{plain_done, plain_on, rebuilds_more, rebuilds_same, short_now}
+use Rattle.ist_tree.proofs.StartLemmas.{starts_none_more, starts_none_went}
 
 -- ---- one table
 
@@ -76,6 +82,61 @@ pub all_but : (a c : Caller) (rebuild : ℕ) → KeepsDone a c → KeepsDoneBut 
 all_but a c rebuild done =
     λ was base change e own kind said other to. inr (done was base change e own kind said other to)
 
+-- ---- going on without a start
+
+-- a caller goes on so to itself
+pub idle_same : (who : Caller) → IsSound who.seat.view → IsReady who → GoesIdle who who
+idle_same who s r =
+    record {
+      on = rebuilds_same who s r;
+      done = λ done. done;
+      none = λ base change e own kind said. e;
+    }
+
+-- and goes on twice
+pub idle_more : (a b c : Caller) → GoesIdle a b → GoesIdle b c → GoesIdle a c
+idle_more a b c one two =
+    record {
+      on = rebuilds_more a b c one.on two.on;
+      done = done_more a b c one.on.number one.done two.done;
+      none =
+          starts_none_more (now a.seat.view) (now b.seat.view) (now c.seat.view) a.number one.none
+          (subst (StartsNone (now b.seat.view) (now c.seat.view)) one.on.number two.none);
+    }
+
+-- steps that install nothing are such
+pub plain_idle : (P : Event → Type 0) → ((event : Event) → P event → IsPlainHelp event)
+    → (who : Caller) (seat : SeatFace) → IsReady who → WentOn P who.seat.view seat.view
+    → GoesIdle who (record who { seat = seat })
+plain_idle P all who seat r went =
+    record {
+      on = plain_on P all who seat r went;
+      done = plain_done P all who seat r went;
+      none =
+          starts_none_went P who.number
+          (λ event p. none_starts_none who.number event (all event p).installs) who.seat.view
+          seat.view r.caller.mine r.quiet.resolved went;
+    }
+
+-- and so is a start that started none
+pub begins_idle : (old new : Caller) → RebuildsOn old new → KeepsDone old new
+    → StartsNone (now old.seat.view) (now new.seat.view) old.number → GoesIdle old new
+begins_idle old new on done none = record { on = on; done = done; none = none }
+
+-- what a start that was answered by another word, or by a parent that isn't open, didn't start
+pub other_unstarted : (v w : View) (number : ℕ) (answer : Started) (word : ℕ)
+    → answer ≡ Other word → LeavesUnstarted (now v) (now w) number (Ok answer)
+    → StartsNone (now v) (now w) number
+other_unstarted v w number answer word is left =
+    subst (λ a. LeavesUnstarted (now v) (now w) number (Ok a)) is left
+
+pub marked_unstarted : (v w : View) (number : ℕ) (answer : Started) → answer ≡ Marked
+    → LeavesUnstarted (now v) (now w) number (Ok answer) → StartsNone (now v) (now w) number
+marked_unstarted v w number answer is left =
+    subst (λ a. LeavesUnstarted (now v) (now w) number (Ok a)) is left
+
+-- ---- what was met, over further steps
+
 pub met_more : (a b c : Caller) (site : Site) → RebuildsOn a b → KeepsDone a b → HasMet b c site
     → HasMet a c site
 met_more a b c site on done m =
@@ -94,32 +155,24 @@ met_more a b c site on done m =
     here (Rebuilt rebuild target) w =
         (w.0, top_more Rebuilds a.seat.view b.seat.view c.seat.view.log on.went target w.1)
 
-pub may_have_met_more : (a b c : Caller) (o : Option Site) → RebuildsOn a b → KeepsDone a b
-    → MayHaveMet b c o → MayHaveMet a c o
-may_have_met_more a b c (Some site) on done m = met_more a b c site on done m
-may_have_met_more a b c None on done m =
-    (rebuilds_more a b c on m.0, done_more a b c on.number done m.1)
+pub may_have_met_more : (a b c : Caller) (o : Option Site) → GoesIdle a b → MayHaveMet b c o
+    → MayHaveMet a c o
+may_have_met_more a b c (Some site) g m = met_more a b c site g.on g.done m
+may_have_met_more a b c None g m = idle_more a b c g m
 
 -- ---- refusals
 
-pub stopped_more : (a b c : Caller) (words : ℕ) (full : Full) → RebuildsOn a b → KeepsDone a b
+pub stopped_more : (a b c : Caller) (words : ℕ) (full : Full) → GoesIdle a b
     → IsStopped b c words full → IsStopped a c words full
-stopped_more a b c words full on done s =
-    record {
-      on = rebuilds_more a b c on s.on;
-      done = done_more a b c on.number done s.done;
-      short = s.short;
-      asked = s.asked;
-    }
+stopped_more a b c words full g s =
+    record { idle = idle_more a b c g s.idle; short = s.short; asked = s.asked }
 
 -- a start was refused
-pub start_stopped : (old new : Caller) (words : ℕ) (full : Full) → RebuildsOn old new
-    → KeepsDone old new → IsStartRefused old.seat.view words full new.seat.view
-    → IsStopped old new words full
-start_stopped old new words full on done r =
+pub start_stopped : (old new : Caller) (words : ℕ) (full : Full) → GoesIdle old new
+    → IsStartRefused old.seat.view words full new.seat.view → IsStopped old new words full
+start_stopped old new words full g r =
     record {
-      on = on;
-      done = done;
+      idle = g;
       short = short_now Begins old.seat.view words full new.seat.view r.short;
       asked = r.asked;
     }
@@ -196,6 +249,6 @@ err_map P Q (Err full) all h = all full h
 
 -- where no site was met, the caller has gone on
 pub none_met : (old new : Caller) (o : Option Site) → ((site : Site) → o ≢ Some site)
-    → MayHaveMet old new o → RebuildsOn old new × KeepsDone old new
+    → MayHaveMet old new o → GoesIdle old new
 none_met old new (Some site) other m = absurd (other site refl)
 none_met old new None other m = m

@@ -33,10 +33,10 @@ use Rattle.ist_rows.specs.declared.callers.Caller.{Caller}
 use Rattle.ist_tree.specs.declared.freezing.Frozen.{Frozen}
 use Rattle.ist_tree.specs.declared.freezing.Site.TheVariants.{Rebuilt, Still}
 use Rattle.ist_tree.specs.Freezing.{IsStill, WasFrozen, all_keys, no_key, one_key}
-use Rattle.ist_tree.specs.FreezeSteps.{HasBegun, HasMet, WasTop}
-use Rattle.ist_tree.specs.Working.{IsReady, KeepsDone, RebuildsOn}
+use Rattle.ist_tree.specs.FreezeSteps.{GoesIdle, HasBegun, HasMet, WasTop}
+use Rattle.ist_tree.specs.Working.{IsReady}
 use Rattle.ist_tree.proofs.CameLemmas.{ever_here}
-use Rattle.ist_tree.proofs.FreezeGoingLemmas.{all_but, frozen_more}
+use Rattle.ist_tree.proofs.FreezeGoingLemmas.{all_but, frozen_more, plain_idle}
 use Rattle.ist_tree.proofs.FreezingLemmas.{top_was_frozen}
 use Rattle.ist_tree.proofs.RebuildLemmas.{load_plain, plain_done, plain_on}
 
@@ -142,21 +142,18 @@ module _ (who : Caller) (seat : SeatFace) (ready : IsReady who)
   went : WentOn (λ event. ⊥) who.seat.view seat.view
   went = goes_on_went (λ event. ⊥) who.seat.view seat.view seen
 
-  pub looked_on : RebuildsOn who (record who { seat = seat })
-  looked_on = plain_on (λ event. ⊥) load_plain who seat ready went
-
-  pub looked_done : KeepsDone who (record who { seat = seat })
-  looked_done = plain_done (λ event. ⊥) load_plain who seat ready went
+  pub looked_idle : GoesIdle who (record who { seat = seat })
+  looked_idle = plain_idle (λ event. ⊥) load_plain who seat ready went
 
   pub looked_still : (frozen : Frozen)
       → WasFrozen seat.view.start seat.view.words seat.view.log seat.view.log frozen
       → HasMet who (record who { seat = seat }) (Still frozen)
   looked_still frozen was =
       record {
-        on = looked_on;
+        on = looked_idle.on;
         is = frozen_more (λ event. ⊥) who.seat.view seat.view seat.view.log went frozen
             seen.sound.lawful was;
-        done = looked_done;
+        done = looked_idle.done;
       }
 
 -- ---- rebuilds that were met

@@ -1,6 +1,7 @@
 pub mod BetweenLemmas
 pub mod SettlingLemmas
 pub mod EventLemmas
+pub mod StartLemmas
 pub mod RebuildLemmas
 pub mod DueLemmas
 pub mod CameLemmas

@@ -2,20 +2,18 @@
 use Rattle.std.proofs.Common.{◌≡◌, ◌≢◌, ℕ, ◌≤◌, ◌⊎◌, Bool, true, false, not, IsTrue, ◌↔◌, Some, Result, Ok, Err, IsErrAnd, IfErr, refl, sym, ap, ◌∙◌, subst, inl, inr, ⊎_elim}
 use Rattle.ist_core.specs.declared.events.Event.{Event}
 use Rattle.ist_core.specs.declared.ports.Full.{Full}
-use Rattle.ist_core.specs.declared.states.ChangeRow.{ChangeRow}
 use Rattle.ist_core.specs.declared.states.InnerRow.{InnerRow}
 use Rattle.ist_core.specs.declared.states.RebuildRow.{RebuildRow}
 use Rattle.ist_core.specs.Arithmetic.{limit}
 use Rattle.ist_core.specs.Growing.{InnerGrows}
 use Rattle.ist_core.specs.Lawful.{state_of}
 use Rattle.ist_core.specs.Links.{Linked, WasLinked}
-use Rattle.ist_core.specs.Pieces.{Change, Rebuild}
+use Rattle.ist_core.specs.Pieces.{Rebuild}
 use Rattle.ist_core.specs.Rebuilding.{IsStarted, IsReplaced, IsDue}
 use Rattle.ist_core.specs.References.{ChangeAt, InnerAt, RebuildAt, ref_of, word_of}
 use Rattle.ist_core.specs.Shown.{shown_next}
 use Rattle.ist_core.specs.Slots.{IsOpen, SlotHolds, past_change}
 use Rattle.ist_core.specs.StartLayout.{start}
-use Rattle.ist_core.specs.Statuses.{start_kind}
 use Rattle.ist_core.proofs.DrawLemmas.{same_rebuild}
 use Rattle.std.proofs.Math.Nat.{le_trans}
 use Rattle.ist_links.specs.Linking.{IsFinished}
@@ -49,7 +47,8 @@ use Rattle.ist_rebuild.specs.Helping.{IsLeftToParent, IsHelpRefused}
 use Rattle.ist_rebuild.specs.Starting.{MayStart, IsStartedAt, StoodInstead, StartsAreDoneBut, IsStartRefused}
 use Rattle.ist_tree.specs.Working.{IsReady, Rebuilds, RebuildsOn, KeepsDone, IsShut, IsShort, for_start, for_help, IsDueRefused}
 use Rattle.ist_tree.proofs.EventLemmas.{IsPlainHelp, none_starts_none, serves_start_none}
-use Rattle.ist_tree.proofs.SettlingLemmas.{else_by, own_start_stays}
+use Rattle.ist_tree.proofs.SettlingLemmas.{else_by}
+use Rattle.ist_tree.proofs.StartLemmas.{own_start_was}
 use Rattle.ist_rebuild.specs.Helping as helping
 
 -- ---- going on
@@ -182,20 +181,6 @@ left_is_shut P v w went rebuild parent index target s l =
 
 -- ---- starts that were helped
 
--- a start that the caller has behind its help was there before
-own_start_was : (number : ℕ) (v w : View) → v.who ≡ CallerOf number → IsResolved v number
-    → WentOn Serves v w → (base : ℕ) (change : ChangeRow)
-    → (now w).pieces base ≡ Some (Change change) → change.owner ≡ number
-    → change.kind ≡ start_kind → (now v).pieces base ≡ Some (Change change)
-own_start_was number v w mine resolved went base change e own kind =
-    let lawful = went_lawful Serves v w went in
-    own_start_stays v.start v.words lawful.opens
-    (λ event. (whose event ≢ CallerOf number) ⊎ Serves event) v.log number
-    (λ event. ⊎_elim (λ other. others_start_nothing number event (else_by number event other))
-    (serves_start_none number event))
-    w.log (by_caller Serves number v w mine went) lawful.enabled resolved base change
-    (subst (λ t. t.pieces base ≡ Some (Change change)) (went_now Serves v w went) e) own kind
-
 -- where a rebuild is done behind its help, all starts of the caller are, if the others were
 pub all_done : (number : ℕ) (v w : View) → v.who ≡ CallerOf number → IsResolved v number
     → WentOn Serves v w → (rebuild : ℕ) → StartsAreDoneBut (now v) number rebuild
@@ -204,7 +189,8 @@ pub all_done : (number : ℕ) (v w : View) → v.who ≡ CallerOf number → IsR
 all_done number v w mine resolved went rebuild but done base change e own kind said other to =
     let lawful = went_lawful Serves v w went in
     let now_is = went_now Serves v w went in
-    let old = own_start_was number v w mine resolved went base change e own kind in
+    let old = own_start_was Serves number (serves_start_none number) v w mine resolved went base
+    change e own kind in
     ⊎_elim
     (λ same. subst (IsDoneStart (now w) change) (sym same)
     (this_done (subst (λ n. ref_of change.to ≡ Some (RebuildAt n)) same to)))

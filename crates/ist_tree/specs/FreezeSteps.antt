@@ -19,7 +19,7 @@ use Rattle.ist_settling.specs.Settling.{StartsAreDone}
 use Rattle.ist_rule.specs.declared.view.View.{View}
 use Rattle.ist_rule.specs.Learning.{now}
 use Rattle.ist_rows.specs.declared.callers.Caller.{Caller}
-use Rattle.ist_rebuild.specs.Starting.{StartsAreDoneBut}
+use Rattle.ist_rebuild.specs.Starting.{StartsAreDoneBut, StartsNone}
 use Rattle.ist_tree.specs.declared.freezing.Outcome.{Outcome}
 use Rattle.ist_tree.specs.declared.freezing.Site.{Site}
 use Rattle.ist_tree.specs.declared.freezing.Site.TheVariants.{Still, Rebuilt}
@@ -51,6 +51,12 @@ KeepsDoneBut old new None = KeepsDone old new
 KeepsDoneBut old new (Some rebuild) = StartsAreDone (now old.seat.view) old.number
     → StartsAreDoneBut (now new.seat.view) old.number rebuild
 
+-- the caller went on by steps of rebuilding, kept its starts done, and started no rebuild
+pub record GoesIdle (old new : Caller) : Type 0 where
+  pub on : RebuildsOn old new
+  pub done : KeepsDone old new
+  pub none : StartsNone (now old.seat.view) (now new.seat.view) old.number
+
 -- the rebuild that is to be helped, if there is one
 abbrev pub rebuild_in : Site → Option ℕ
 rebuild_in (Still frozen) = None
@@ -65,20 +71,19 @@ pub record HasMet (old new : Caller) (site : Site) : Type 0 where
 -- it has met this, or nothing yet
 abbrev pub MayHaveMet : Caller → Caller → Option Site → Type 0
 MayHaveMet old new (Some site) = HasMet old new site
-MayHaveMet old new None = RebuildsOn old new × KeepsDone old new
+MayHaveMet old new None = GoesIdle old new
 
 -- the caller has started this rebuild of the target, or none
 abbrev pub HasBegun : Caller → Caller → ℕ → Option ℕ → Type 0
 HasBegun old new target (Some rebuild) = RebuildsOn old new
     × IsRebuildOf (now new.seat.view) rebuild target × KeepsDoneBut old new (Some rebuild)
-HasBegun old new target None = RebuildsOn old new × KeepsDone old new
+HasBegun old new target None = GoesIdle old new
 
 -- ---- what comes of it
 
--- the caller was refused a row for the start
+-- the caller was refused a row for the start, and has started no rebuild
 pub record IsStopped (old new : Caller) (words : ℕ) (full : Full) : Type 0 where
-  pub on : RebuildsOn old new
-  pub done : KeepsDone old new
+  pub idle : GoesIdle old new
   pub short : IsShort new.seat.view words full
   pub asked : (full.asked ≡ rebuild_words) ⊎ (full.asked ≡ change_words)
 

@@ -14,6 +14,7 @@ use Rattle.ist_core.specs.RowLayout.{change_words, rebuild_words}
 use Rattle.ist_core.specs.Snapshots.{Snapshot}
 use Rattle.ist_finished.specs.Freezing.{WereThePairs}
 use Rattle.ist_layout.specs.Meanings.{ref_meant}
+use Rattle.ist_rebuild.specs.Starting.{StartsNone}
 use Rattle.ist_tree.specs.declared.freezing.Frozen.{Frozen}
 use Rattle.ist_tree.specs.Faces.{PassFace}
 use Rattle.ist_tree.specs.Refusals.{HadTooFew}
@@ -100,6 +101,13 @@ HasFrozen p q frozen = WasFrozen p.tree.start p.tree.words p.seen q.seen frozen
 pub record IsFreezeRefused (p q : PassFace) (full : Full) : Type 0 where
   pub had : HadTooFew p q full
   pub asked : (full.asked ≡ rebuild_words) ⊎ (full.asked ≡ change_words)
+
+-- the pass has started no rebuild in the call: each start of it that was decided yes by the end was so
+-- before
+abbrev pub HasStartedNone : PassFace → PassFace → Type 0
+HasStartedNone p q =
+    StartsNone (state_of p.tree.start p.tree.words p.seen)
+    (state_of q.tree.start q.tree.words q.seen) p.number
 
 -- the pair is number i of the frozen tree, counted from 0 in the order of the keys
 pub record IsPairAt (pairs : List Pair) (words : ℕ) (log : Log) (frozen : Frozen) (i : ℕ)

@@ -12,14 +12,14 @@ ghost use Rattle.ist_rule.specs.Faces.{word_count_of};
 ghost use Rattle.ist_rule.specs.Learning.{now, GoesOnTo, Turned, beginning};
 ghost use Rattle.ist_rule.specs.Rule.{IsSound};
 ghost use Rattle.ist_tree.specs.FreezeSteps.{IsRebuildOf, WasTop, HasBegun, HasMet, MayHaveMet};
-ghost use Rattle.ist_tree.specs.FreezeSteps.{IsStopped, FreezesTarget, Freezes};
+ghost use Rattle.ist_tree.specs.FreezeSteps.{GoesIdle, IsStopped, FreezesTarget, Freezes};
 ghost use Rattle.ist_tree.specs.FreezeSteps.{IsLeafNumber, IsPairOf};
 ghost use Rattle.ist_tree.specs.Calls.{HasSeenMore};
 ghost use Rattle.ist_tree.specs.Freezing.{IsStill, IsFrozenFor, HasFrozen, IsPairAt};
-ghost use Rattle.ist_tree.specs.Freezing.{IsFreezeRefused, IsFrozenPair};
+ghost use Rattle.ist_tree.specs.Freezing.{HasStartedNone, IsFreezeRefused, IsFrozenPair};
 ghost use Rattle.ist_tree.specs.Insides.{IsPass};
 ghost use Rattle.ist_tree.specs.Refusals.{KeepsRefusal};
-ghost use Rattle.ist_tree.specs.Working.{IsReady, RebuildsOn, KeepsDone};
+ghost use Rattle.ist_tree.specs.Working.{IsReady};
 
 use crate::passes::Pass;
 use crate::trees::Tree;
@@ -150,8 +150,7 @@ fn met_change(table: &TreeTable, who: &mut Caller, change: u32)
     requires ready { IsReady who.old }
     requires row { SeesChange who.old.seat.view change }
     ensures same_table { who.new.seat.table ≡ table.now.table }
-    ensures on { RebuildsOn who.old who.new }
-    ensures done { KeepsDone who.old who.new }
+    ensures idle { GoesIdle who.old who.new }
 {
     // Okay, Decide and Resolve. Meets whoever helps the change.
     help(table, &mut who.seat, change);
@@ -325,14 +324,15 @@ impl Tree {
     /// What was the tree stays as it was for good, while the map goes on in the rebuilt one. The
     /// pairs are those of the map at some number of changes, no fewer than the pass had seen before.
     /// Nothing or a leaf below the anchor is frozen as it is. The calls of the pass are as before.
-    /// `Full` where the tree had too few words left for a row of the start. Where only the rebuild
-    /// behind it met that, the tree is frozen, and the pass keeps the first such refusal.
+    /// `Full` where the tree had too few words left for a row of the start: no rebuild was started in
+    /// the call then. Where only the rebuild behind it met that, the tree is frozen, and the pass keeps the first such refusal.
     pub fn freeze<R: Wait>(&self, rt: &R, pass: &mut Pass) -> Result<Frozen, Full>
         requires same_tree { pass.old.tree ≡ self.now }
         ensures seen { HasSeenMore pass.old pass.new }
         ensures frozen { IfOk result (IsFrozenFor pass.new) }
         ensures pairs { IfOk result (HasFrozen pass.old pass.new) }
         ensures full { IfErr result (IsFreezeRefused pass.old pass.new) }
+        ensures unstarted { OnErr result (HasStartedNone pass.old pass.new) }
         ensures calls { pass.new.calls ≡ pass.old.calls }
         ensures unrefused { OnErr result (pass.new.refused ≡ pass.old.refused) }
         ensures refused { KeepsRefusal pass.old pass.new }

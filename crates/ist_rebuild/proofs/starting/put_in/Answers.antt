@@ -4,8 +4,8 @@ use Rattle.ist_rule.proofs.WentOnLemmas.{goes_on_went}
 use Rattle.ist_rows.proofs.CallerGoingLemmas.{caller_goes_on}
 use Rattle.ist_rebuild.specs.Going.{Begins}
 use Rattle.ist_rebuild.specs.Starting.{StoodInstead}
-use Rattle.ist_rebuild.proofs.StartAnswerLemmas.{has_put, no_closed, no_done, put_begins, same_word, yes_done, yes_started}
-use Rattle.ist_rebuild.proofs.StartOwnLemmas.{starts_reserving}
+use Rattle.ist_rebuild.proofs.StartAnswerLemmas.{has_put, no_closed, no_done, no_start, put_begins, same_word, yes_done, yes_started}
+use Rattle.ist_rebuild.proofs.StartOwnLemmas.{starts_none_reserving, starts_reserving}
 use Rattle.ist_rebuild.proofs.StartPutLemmas.{loads_quiet, loads_refused, put_caller, put_refused, put_quiet, start_bases}
 use Rattle.ist_rebuild.proofs.StartResultLemmas.{other_stood}
 use Rattle.ist_rebuild.proofs.starting.put_in.Goals as goal
@@ -44,6 +44,16 @@ returns-in-Other-clause-done g c =
     starts_reserving _ _
     (goes_on_went Reserves _ _ (c.in-Other.ensures.other c.in-Other.word refl).seen) _
     c.requires.1.0.caller.mine c.requires.1.0.quiet.resolved
+
+pub returns-in-Other-clause-unstarted : goal.returns-in-Other-clause-unstarted
+returns-in-Other-clause-unstarted g c =
+    starts_none_reserving _ _
+    (goes_on_went Reserves _ _ (c.in-Other.ensures.other c.in-Other.word refl).seen) _
+    c.requires.1.0.caller.mine c.requires.1.0.quiet.resolved
+
+pub returns-in-Other-clause-uninstalled : goal.returns-in-Other-clause-uninstalled
+returns-in-Other-clause-uninstalled g c =
+    goes_on_went Reserves _ _ (c.in-Other.ensures.other c.in-Other.word refl).seen
 
 -- ---- it was decided yes
 
@@ -136,6 +146,14 @@ returns-in-No-clause-marked g c _ =
 pub returns-in-No-clause-done : goal.returns-in-No-clause-done
 returns-in-No-clause-done g c =
     no_done c.args.who.now c.args.plan.parent c.args.plan.index c.args.plan.target
+    c.args.plan.rows.rebuild c.args.plan.rows.change g.filling c.requires.1.0 c.know.ensures.sound
+    _
+    (has_put _ c.args.plan.rows.change g.filling _ false _ _ c.requires.1.1
+    (c.install.ensures.yes c.in_default.is) c.help.ensures.went c.in-No.ensures.decided)
+
+pub returns-in-No-clause-unstarted : goal.returns-in-No-clause-unstarted
+returns-in-No-clause-unstarted g c =
+    no_start c.args.who.now c.args.plan.parent c.args.plan.index c.args.plan.target
     c.args.plan.rows.rebuild c.args.plan.rows.change g.filling c.requires.1.0 c.know.ensures.sound
     _
     (has_put _ c.args.plan.rows.change g.filling _ false _ _ c.requires.1.1

@@ -4,9 +4,9 @@ use Rattle.ist_rebuild.specs.declared.answers.Started.TheVariants.{Marked}
 use Rattle.ist_rebuild.specs.Going.{Begins}
 use Rattle.ist_rule.proofs.WentOnLemmas.{goes_on_went, went_all, went_more}
 use Rattle.ist_rows.proofs.CallerGoingLemmas.{caller_goes_on}
-use Rattle.ist_rebuild.proofs.StartAnswerLemmas.{behind_done, err_done, refused_behind, same_answer}
+use Rattle.ist_rebuild.proofs.StartAnswerLemmas.{behind_done, behind_uninstalled, behind_unstarted, err_done, err_uninstalled, err_unstarted, refused_behind, same_answer}
 use Rattle.ist_rebuild.proofs.StartGoingLemmas.{begins_reserving}
-use Rattle.ist_rebuild.proofs.StartOwnLemmas.{starts_reserving}
+use Rattle.ist_rebuild.proofs.StartOwnLemmas.{starts_none_reserving, starts_reserving}
 use Rattle.ist_rebuild.proofs.StartPutLemmas.{loads_quiet, loads_refused}
 use Rattle.ist_rebuild.proofs.StartReadyLemmas.{may_start_on, start_node}
 use Rattle.ist_rebuild.proofs.starting.start.Goals as goal
@@ -38,6 +38,11 @@ pub returns-then-not-is_open-clause-done : goal.returns-then-not-is_open-clause-
 returns-then-not-is_open-clause-done g c =
     starts_reserving _ _ (goes_on_went Reserves _ _ c.is_open.ensures.seen) _ c.requires.caller.mine
     c.requires.quiet.resolved
+
+pub returns-then-not-is_open-clause-unstarted : goal.returns-then-not-is_open-clause-unstarted
+returns-then-not-is_open-clause-unstarted g c =
+    starts_none_reserving _ _ (goes_on_went Reserves _ _ c.is_open.ensures.seen) _
+    c.requires.caller.mine c.requires.quiet.resolved
 
 -- ---- the parent is open, and no change of the caller on it was decided no
 
@@ -83,6 +88,20 @@ returns-in_err-rows-clause-done g c done =
     (went_more Reserves _ _ _ (goes_on_went Reserves _ _ c.is_open.ensures.seen)
     c.in_err-rows.ensures.went) _ c.requires.caller.mine c.requires.quiet.resolved done)
 
+pub returns-in_err-rows-clause-unstarted : goal.returns-in_err-rows-clause-unstarted
+returns-in_err-rows-clause-unstarted g c =
+    err_unstarted c.args.who.now.seat.view c.prepare.new.who.seat.view _ _
+    c.from_residual.ensures.0
+    (starts_none_reserving _ _
+    (went_more Reserves _ _ _ (goes_on_went Reserves _ _ c.is_open.ensures.seen)
+    c.in_err-rows.ensures.went) _ c.requires.caller.mine c.requires.quiet.resolved)
+
+pub returns-in_err-rows-clause-uninstalled : goal.returns-in_err-rows-clause-uninstalled
+returns-in_err-rows-clause-uninstalled g c =
+    err_uninstalled _ _ _ c.from_residual.ensures.0
+    (went_more Reserves _ _ _ (goes_on_went Reserves _ _ c.is_open.ensures.seen)
+    c.in_err-rows.ensures.went)
+
 -- ---- the install
 
 -- the rows are filled
@@ -111,3 +130,17 @@ returns-clause-done g c =
     c.in_ok-rows.ensures.went) c.args.who.now.number _ c.requires.caller.mine
     c.requires.quiet.resolved c.in_ok-rows.ensures.number (Ok c.put_in.result)
     c.put_in.ensures.done
+
+pub returns-clause-unstarted : goal.returns-clause-unstarted
+returns-clause-unstarted g c =
+    behind_unstarted _ _ c.put_in.new.who.seat.view
+    (went_more Reserves _ _ _ (goes_on_went Reserves _ _ c.is_open.ensures.seen)
+    c.in_ok-rows.ensures.went) c.args.who.now.number _ c.requires.caller.mine
+    c.requires.quiet.resolved c.in_ok-rows.ensures.number (Ok c.put_in.result)
+    c.put_in.ensures.unstarted
+
+pub returns-clause-uninstalled : goal.returns-clause-uninstalled
+returns-clause-uninstalled g c =
+    behind_uninstalled _ _ _
+    (went_more Reserves _ _ _ (goes_on_went Reserves _ _ c.is_open.ensures.seen)
+    c.in_ok-rows.ensures.went) (Ok c.put_in.result) c.put_in.ensures.uninstalled

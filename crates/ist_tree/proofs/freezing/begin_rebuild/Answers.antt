@@ -1,7 +1,7 @@
 -- A start puts a rebuild below the anchor, or finds another word there.
 use Rattle.std.proofs.Common.{Ok, ap}
 use Rattle.ist_tree.proofs.DueLemmas.{begins_on, marked_leaves, other_leaves, yes_leaves}
-use Rattle.ist_tree.proofs.FreezeGoingLemmas.{begun_of, start_stopped}
+use Rattle.ist_tree.proofs.FreezeGoingLemmas.{begins_idle, begun_of, marked_unstarted, other_unstarted, start_stopped}
 use Rattle.ist_tree.proofs.RebuildLemmas.{passed_on}
 use Rattle.ist_tree.proofs.freezing.begin_rebuild.Goals as goal
 
@@ -9,9 +9,11 @@ pub returns-in_err-rebuild-clause-full : goal.returns-in_err-rebuild-clause-full
 returns-in_err-rebuild-clause-full g c =
     passed_on c.from_residual.result _ _ c.from_residual.ensures.1
     (start_stopped _ _ _ _
+    (begins_idle _ _
     (begins_on _ _ c.requires.ready c.start.ensures.caller c.start.ensures.refused
     c.start.ensures.quiet c.start.ensures.went c.start.ensures.number)
-    c.in_err-rebuild.ensures.done c.in_err-rebuild.ensures.full)
+    c.in_err-rebuild.ensures.done c.in_err-rebuild.ensures.unstarted)
+    c.in_err-rebuild.ensures.full)
 
 -- a rebuild was started
 pub returns-in-Yes-clause-begun : goal.returns-in-Yes-clause-begun
@@ -24,15 +26,17 @@ returns-in-Yes-clause-begun g c = (
 
 -- another word stood there
 pub returns-in-Other-clause-begun : goal.returns-in-Other-clause-begun
-returns-in-Other-clause-begun g c = (
-  begins_on _ _ c.requires.ready c.start.ensures.caller c.start.ensures.refused
-      c.start.ensures.quiet c.start.ensures.went c.start.ensures.number,
-  λ done. other_leaves _ _ _ _ c.in-Other.is (c.in_ok-rebuild.ensures.done done),
-)
+returns-in-Other-clause-begun g c =
+    begins_idle _ _
+    (begins_on _ _ c.requires.ready c.start.ensures.caller c.start.ensures.refused
+    c.start.ensures.quiet c.start.ensures.went c.start.ensures.number)
+    (λ done. other_leaves _ _ _ _ c.in-Other.is (c.in_ok-rebuild.ensures.done done))
+    (other_unstarted c.args.who.now.seat.view c.start.new.who.seat.view _ _ _ c.in-Other.is c.in_ok-rebuild.ensures.unstarted)
 
 pub returns-in-Marked-clause-begun : goal.returns-in-Marked-clause-begun
-returns-in-Marked-clause-begun g c = (
-  begins_on _ _ c.requires.ready c.start.ensures.caller c.start.ensures.refused
-      c.start.ensures.quiet c.start.ensures.went c.start.ensures.number,
-  λ done. marked_leaves _ _ _ c.in-Marked.is (c.in_ok-rebuild.ensures.done done),
-)
+returns-in-Marked-clause-begun g c =
+    begins_idle _ _
+    (begins_on _ _ c.requires.ready c.start.ensures.caller c.start.ensures.refused
+    c.start.ensures.quiet c.start.ensures.went c.start.ensures.number)
+    (λ done. marked_leaves _ _ _ c.in-Marked.is (c.in_ok-rebuild.ensures.done done))
+    (marked_unstarted c.args.who.now.seat.view c.start.new.who.seat.view _ _ c.in-Marked.is c.in_ok-rebuild.ensures.unstarted)

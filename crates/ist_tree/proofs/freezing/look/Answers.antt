@@ -1,18 +1,16 @@
 -- What stands below the anchor is read by its word, and met.
 use Rattle.ist_mark.proofs.BelowLemmas.{read_as}
 use Rattle.ist_tree.specs.Freezing.{no_key}
-use Rattle.ist_tree.proofs.DueLemmas.{done_more}
-use Rattle.ist_tree.proofs.FreezeGoingLemmas.{err_map, may_have_met_more, met_more, ok_map, stopped_more}
-use Rattle.ist_tree.proofs.FreezeLookLemmas.{change_seen, leaf_still, looked_done, looked_on, looked_still, rebuild_started, rebuild_top, row_may_start, row_top, still_top}
-use Rattle.ist_tree.proofs.RebuildLemmas.{rebuilds_more}
+use Rattle.ist_tree.proofs.FreezeGoingLemmas.{err_map, idle_more, may_have_met_more, met_more, ok_map, stopped_more}
+use Rattle.ist_tree.proofs.FreezeLookLemmas.{change_seen, leaf_still, looked_idle, looked_still, rebuild_started, rebuild_top, row_may_start, row_top, still_top}
 use Rattle.ist_tree.proofs.freezing.look.Goals as goal
 
 -- ---- an inner row
 
 pub met_row-requires-clause-ready : goal.met_row-requires-clause-ready
 met_row-requires-clause-ready g c =
-    (looked_on c.args.who.now c.anchor_word-word.new.seat c.requires.ready
-    c.anchor_word-word.ensures.seen).ready
+    (looked_idle c.args.who.now c.anchor_word-word.new.seat c.requires.ready
+    c.anchor_word-word.ensures.seen).on.ready
 
 pub met_row-requires-clause-top : goal.met_row-requires-clause-top
 met_row-requires-clause-top g c =
@@ -28,9 +26,7 @@ pub returns-in-Some-Inner-clause-met : goal.returns-in-Some-Inner-clause-met
 returns-in-Some-Inner-clause-met g c =
     ok_map _ _ c.met_row.result
     (λ site. may_have_met_more c.args.who.now _ c.met_row.new.who site
-    (looked_on c.args.who.now c.anchor_word-word.new.seat c.requires.ready
-    c.anchor_word-word.ensures.seen)
-    (looked_done c.args.who.now c.anchor_word-word.new.seat c.requires.ready
+    (looked_idle c.args.who.now c.anchor_word-word.new.seat c.requires.ready
     c.anchor_word-word.ensures.seen))
     c.met_row.ensures.met
 
@@ -38,9 +34,7 @@ pub returns-in-Some-Inner-clause-full : goal.returns-in-Some-Inner-clause-full
 returns-in-Some-Inner-clause-full g c =
     err_map _ _ c.met_row.result
     (λ full. stopped_more c.args.who.now _ c.met_row.new.who _ full
-    (looked_on c.args.who.now c.anchor_word-word.new.seat c.requires.ready
-    c.anchor_word-word.ensures.seen)
-    (looked_done c.args.who.now c.anchor_word-word.new.seat c.requires.ready
+    (looked_idle c.args.who.now c.anchor_word-word.new.seat c.requires.ready
     c.anchor_word-word.ensures.seen))
     c.met_row.ensures.full
 
@@ -48,8 +42,8 @@ returns-in-Some-Inner-clause-full g c =
 
 pub met_rebuild-requires-clause-ready : goal.met_rebuild-requires-clause-ready
 met_rebuild-requires-clause-ready g c =
-    (looked_on c.args.who.now c.anchor_word-word.new.seat c.requires.ready
-    c.anchor_word-word.ensures.seen).ready
+    (looked_idle c.args.who.now c.anchor_word-word.new.seat c.requires.ready
+    c.anchor_word-word.ensures.seen).on.ready
 
 pub met_rebuild-requires-clause-started : goal.met_rebuild-requires-clause-started
 met_rebuild-requires-clause-started g c =
@@ -64,18 +58,18 @@ met_rebuild-requires-clause-top g c =
 pub returns-in-Some-Rebuild-clause-met : goal.returns-in-Some-Rebuild-clause-met
 returns-in-Some-Rebuild-clause-met g c =
     met_more c.args.who.now _ c.met_rebuild.new.who _
-    (looked_on c.args.who.now c.anchor_word-word.new.seat c.requires.ready
-    c.anchor_word-word.ensures.seen)
-    (looked_done c.args.who.now c.anchor_word-word.new.seat c.requires.ready
-    c.anchor_word-word.ensures.seen)
+    (looked_idle c.args.who.now c.anchor_word-word.new.seat c.requires.ready
+    c.anchor_word-word.ensures.seen).on
+    (looked_idle c.args.who.now c.anchor_word-word.new.seat c.requires.ready
+    c.anchor_word-word.ensures.seen).done
     c.met_rebuild.ensures.met
 
 -- ---- a change
 
 pub met_change-requires-clause-ready : goal.met_change-requires-clause-ready
 met_change-requires-clause-ready g c =
-    (looked_on c.args.who.now c.anchor_word-word.new.seat c.requires.ready
-    c.anchor_word-word.ensures.seen).ready
+    (looked_idle c.args.who.now c.anchor_word-word.new.seat c.requires.ready
+    c.anchor_word-word.ensures.seen).on.ready
 
 pub met_change-requires-clause-row : goal.met_change-requires-clause-row
 met_change-requires-clause-row g c =
@@ -84,14 +78,10 @@ met_change-requires-clause-row g c =
 
 pub returns-in-Some-Change-clause-met : goal.returns-in-Some-Change-clause-met
 returns-in-Some-Change-clause-met g c =
-    let mid = record c.args.who.now { seat = c.anchor_word-word.new.seat } in
-    let on = looked_on c.args.who.now c.anchor_word-word.new.seat c.requires.ready
-    c.anchor_word-word.ensures.seen in
-    let done = looked_done c.args.who.now c.anchor_word-word.new.seat c.requires.ready
-    c.anchor_word-word.ensures.seen in (
-      rebuilds_more _ _ _ on c.met_change.ensures.on,
-      done_more c.args.who.now mid c.met_change.new.who on.number done c.met_change.ensures.done,
-    )
+    idle_more _ _ _
+    (looked_idle c.args.who.now c.anchor_word-word.new.seat c.requires.ready
+    c.anchor_word-word.ensures.seen)
+    c.met_change.ensures.idle
 
 -- ---- nothing, or a leaf
 
@@ -114,17 +104,11 @@ returns-in-Some-Empty-clause-met g c =
 -- ---- neither of these ever stands there
 
 pub returns-in-Some-Unset-clause-met : goal.returns-in-Some-Unset-clause-met
-returns-in-Some-Unset-clause-met g c = (
-  looked_on c.args.who.now c.anchor_word-word.new.seat c.requires.ready
-      c.anchor_word-word.ensures.seen,
-  looked_done c.args.who.now c.anchor_word-word.new.seat c.requires.ready
-      c.anchor_word-word.ensures.seen,
-)
+returns-in-Some-Unset-clause-met g c =
+    looked_idle c.args.who.now c.anchor_word-word.new.seat c.requires.ready
+    c.anchor_word-word.ensures.seen
 
 pub returns-in-None-clause-met : goal.returns-in-None-clause-met
-returns-in-None-clause-met g c = (
-  looked_on c.args.who.now c.anchor_word-word.new.seat c.requires.ready
-      c.anchor_word-word.ensures.seen,
-  looked_done c.args.who.now c.anchor_word-word.new.seat c.requires.ready
-      c.anchor_word-word.ensures.seen,
-)
+returns-in-None-clause-met g c =
+    looked_idle c.args.who.now c.anchor_word-word.new.seat c.requires.ready
+    c.anchor_word-word.ensures.seen

@@ -17,7 +17,7 @@ pub give_up-requires-in-Err-clause-may_give_up : goal.give_up-requires-in-Err-cl
 give_up-requires-in-Err-clause-may_give_up g c =
     may_give_up c.pass.inside.caller c.begin.new.who c.freeze_below.new.who c.begin.ensures.sound
     c.pass.invariant.pass c.begin.ensures.number c.begin.ensures.begun c.begin.ensures.ready
-    c.in-Err.ensures.full.on
+    c.in-Err.ensures.full.idle.on
 
 -- what an answer comes to
 ends : (g : given.Over) (c : goal.After-result-1 g) → FreezeEnds c.args.pass.now c.freeze_below.new.who
@@ -71,7 +71,7 @@ stops g c =
       began_number = c.begin.ensures.number;
       begun = c.begin.ensures.begun;
       ready = c.begin.ensures.ready;
-      on = c.in-Err.ensures.full.on;
+      on = c.in-Err.ensures.full.idle.on;
       given = c.give_up-in-Err.ensures.given_up;
     } in
     stop_ends c.pass.inside.caller c.begin.new.who c.freeze_below.new.who c.give_up-in-Err.new.seat
@@ -88,3 +88,6 @@ returns-in-Err-clause-seen g c = (stops g c).seen
 
 pub returns-in-Err-clause-full : goal.returns-in-Err-clause-full
 returns-in-Err-clause-full g c = (stops g c).full_is
+
+pub returns-in-Err-clause-unstarted : goal.returns-in-Err-clause-unstarted
+returns-in-Err-clause-unstarted g c = (stops g c).none

@@ -1,0 +1,58 @@
+-- A caller that starts no rebuild: its starts were there before. Serves `rebuild_due` and `freeze`.
+use Rattle.std.proofs.Common.{◌≡◌, ◌≢◌, ◌⊎◌, ℕ, Some, ⊎_elim, subst}
+use Rattle.ist_core.specs.declared.events.Event.{Event}
+use Rattle.ist_core.specs.declared.states.ChangeRow.{ChangeRow}
+use Rattle.ist_core.specs.Lawful.{state_of}
+use Rattle.ist_core.specs.Pieces.{Change}
+use Rattle.ist_core.specs.Snapshots.{Snapshot}
+use Rattle.ist_core.specs.Statuses.{start_kind}
+use Rattle.ist_settling.specs.Settling.{InstallsNoStart}
+use Rattle.ist_settling.proofs.DoneLemmas.{others_start_nothing}
+use Rattle.ist_rule.specs.declared.view.View.{View}
+use Rattle.ist_rule.specs.declared.view.Who.TheVariants.{Caller as CallerOf}
+use Rattle.ist_rule.specs.Authors.{whose, Later, LaterBy}
+use Rattle.ist_rule.specs.Conditions.{IsResolved}
+use Rattle.ist_rule.specs.Going.{WentOn}
+use Rattle.ist_rule.specs.Learning.{now}
+use Rattle.ist_rule.proofs.WentOnLemmas.{went_lawful, went_now}
+use Rattle.ist_rebuild.specs.Starting.{StartsNone}
+use Rattle.ist_tree.proofs.GoingLemmas.{IsLaterView, lawful_behind}
+use Rattle.ist_tree.proofs.SettlingLemmas.{else_by, own_start_stays}
+
+-- one behind another
+pub starts_none_more : (t u w : Snapshot) (number : ℕ) → StartsNone t u number
+    → StartsNone u w number → StartsNone t w number
+starts_none_more t u w number one two base x e own kind said =
+    one base x (two base x e own kind said) own kind said
+
+module _ (P : Event → Type 0) (number : ℕ)
+    (none : (event : Event) → P event → InstallsNoStart number event) (v w : View)
+    (mine : v.who ≡ CallerOf number) (resolved : IsResolved v number) (went : WentOn P v w) where
+  -- a start that the caller has behind its steps was there before, where none of them installs one
+  pub own_start_was : (base : ℕ) (change : ChangeRow) → (now w).pieces base ≡ Some (Change change)
+      → change.owner ≡ number → change.kind ≡ start_kind
+      → (now v).pieces base ≡ Some (Change change)
+  own_start_was base change e own kind =
+      let lawful = went_lawful P v w went in
+      own_start_stays v.start v.words lawful.opens
+      (λ event. (whose event ≢ CallerOf number) ⊎ P event) v.log number
+      (λ event. ⊎_elim (λ other. others_start_nothing number event (else_by number event other))
+      (none event))
+      w.log (subst (λ x. LaterBy x P v.log w.log) mine went.later) lawful.enabled resolved base
+      change (subst (λ t. t.pieces base ≡ Some (Change change)) (went_now P v w went) e) own kind
+
+  -- so it has started none
+  pub starts_none_went : StartsNone (now v) (now w) number
+  starts_none_went base change e own kind said = own_start_was base change e own kind
+
+-- nor has it where others alone made events
+pub starts_none_later : (v w : View) → IsLaterView v w → (number : ℕ) → v.who ≡ CallerOf number
+    → IsResolved v number → StartsNone (now v) (now w) number
+starts_none_later v w l number mine resolved base x e own kind said =
+    let lawful = lawful_behind v w l in
+    own_start_stays v.start v.words lawful.opens (λ event. whose event ≢ CallerOf number) v.log
+    number (λ event other. others_start_nothing number event (else_by number event other)) w.log
+    (subst (λ who. Later who v.log w.log) mine l.later) lawful.enabled resolved base x
+    (subst (λ pairs. (state_of pairs v.words w.log).pieces base ≡ Some (Change x)) l.start_is
+    (subst (λ words. (state_of w.start words w.log).pieces base ≡ Some (Change x)) l.words_is e))
+    own kind
