@@ -1,0 +1,2 @@
+-- what the contracts rest on
+pub mod Steps

@@ -1,0 +1,145 @@
+//! Leaves of a finished row by their numbers, and the ideal subtree over all of them.
+ghost use Rattle.std.specs.Prelude.{◌≡◌, ◌<◌, IsTrue};
+ghost use Rattle.ist_buildings.specs.Steps.{IsMarked};
+ghost use Rattle.ist_core.specs.Shapes.{share_from};
+ghost use Rattle.ist_rebuild.specs.Finishing.{IsAble};
+ghost use Rattle.ist_rule.specs.Learning.{now};
+
+use crate::callers::{Marked, begin, enter_call, mark, see_row};
+use crate::tables::{Opened, all_words, are_alike, open_numbered, word_at};
+use ist_build::{build_part, leaf_at};
+use ist_core::Full;
+use ist_layout::Ref;
+use ist_math::SHARE_FROM;
+use ist_math::laws::shared_roots_have_several_keys;
+use ist_rebuild::Started;
+use ist_rows::Caller;
+use ist_rule::{TreeSeat, TreeTable, know};
+use ist_tree::OpenFault;
+use std::alloc::Global;
+use std::sync::Wait;
+use std::test::Fail;
+
+// The base of the leaf that the reference names.
+fn base_of(reference: Ref) -> u32 {
+    match reference {
+        Ref::Leaf { base } => base,
+        _ => 0,
+    }
+}
+
+// The base of the leaf number `i` of the finished target.
+fn leaf_base(table: &TreeTable, who: &mut Caller, rebuild: u32, marked: Marked, i: u64) -> u32
+    requires same_table { who.old.seat.table ≡ table.now.table }
+    requires able { IsAble who.old }
+    requires marked { IsMarked (now who.old.seat.view) rebuild marked.target marked.keys }
+    requires within { i < marked.keys }
+    ensures same_table { who.new.seat.table ≡ table.now.table }
+    ensures able { IsAble who.new }
+    ensures marked { IsMarked (now who.new.seat.view) rebuild marked.target marked.keys }
+{
+    know(&who.seat);
+    let leaf = leaf_at(table, &mut who.seat, marked.target, i);
+    base_of(leaf)
+}
+
+// Does each leaf have its number as key and value, counted from 1?
+fn are_numbered(
+    table: &TreeTable,
+    maker: &mut TreeSeat,
+    who: &mut Caller,
+    rebuild: u32,
+    marked: Marked,
+) -> bool
+    requires maker_table { maker.old.table ≡ table.now.table }
+    requires same_table { who.old.seat.table ≡ table.now.table }
+    requires able { IsAble who.old }
+    requires marked { IsMarked (now who.old.seat.view) rebuild marked.target marked.keys }
+    ensures maker_table { maker.new.table ≡ table.now.table }
+    ensures same_table { who.new.seat.table ≡ table.now.table }
+    ensures able { IsAble who.new }
+    ensures marked { IsMarked (now who.new.seat.view) rebuild marked.target marked.keys }
+{
+    let mut right = true;
+    for i in 0..marked.keys {
+        let base = u64::from(leaf_base(table, who, rebuild, marked, i));
+        right = right && word_at(table, maker, base) == i + 1;
+        right = right && word_at(table, maker, base + 1) == i + 1;
+    }
+    right
+}
+
+// The ideal subtree over all leaves of the finished target, in rows that stay the caller's.
+fn part<R: Wait>(
+    table: &TreeTable,
+    rt: &R,
+    who: &mut Caller,
+    rebuild: u32,
+    marked: Marked,
+) -> Result<Ref, Full>
+    requires same_table { who.old.seat.table ≡ table.now.table }
+    requires able { IsAble who.old }
+    requires marked { IsMarked (now who.old.seat.view) rebuild marked.target marked.keys }
+    requires few { marked.keys < share_from }
+    ensures same_table { who.new.seat.table ≡ table.now.table }
+{
+    build_part(table, rt, who, marked.target, 0, marked.keys)
+}
+
+// Are so few keys built whole?
+fn are_few(keys: u64) -> bool
+    ensures few { IsTrue result → keys < share_from }
+{
+    shared_roots_have_several_keys();
+    keys < SHARE_FROM
+}
+
+// Is the leaf of each number that of its key, and the part over them the ideal tree?
+fn agree_in<R: Wait>(rt: &R, alloc: Global, last: u64) -> Result<(bool, bool), OpenFault> {
+    if last > 200 {
+        return Ok((false, false));
+    }
+    let Opened {
+        table,
+        mut maker,
+        image,
+    } = open_numbered(alloc, last, 20_000)?;
+    let mut who = enter_call(&table, &mut maker);
+    let Some(target) = see_row(&table, &mut who) else {
+        return Ok((false, false));
+    };
+    let Ok(Started::Yes { rebuild }) = begin(&table, rt, &mut who, target) else {
+        return Ok((false, false));
+    };
+    let marked = mark(&table, rt, &mut who, rebuild);
+    if marked.keys != last || marked.target != target {
+        return Ok((false, false));
+    }
+    let right = are_numbered(&table, &mut maker, &mut who, rebuild, marked);
+    if !are_few(marked.keys) {
+        return Ok((right, false));
+    }
+    let Ok(Ref::Inner { base }) = part(&table, rt, &mut who, rebuild, marked) else {
+        return Ok((right, false));
+    };
+    let words = all_words(alloc, &table, &mut maker)?;
+    let roots = (*image.get(3).unwrap_or(&0), u64::from(base) * 8 + 2);
+    Ok((
+        right,
+        are_alike(alloc, image.as_slice(), words.as_slice(), roots)?,
+    ))
+}
+
+#[test]
+fn leaves_are_numbered_by_their_keys_and_the_part_over_them_is_ideal(
+    rt: HostRuntime,
+) -> Result<(), Fail> {
+    for last in [2, 3, 16, 17, 100, 200] {
+        assert_eq!(rt;
+            agree_in(&rt, rt.alloc(), last)?,
+            (true, true),
+            "{last} pairs"
+        );
+    }
+    Ok(())
+}

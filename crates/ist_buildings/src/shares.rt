@@ -1,0 +1,175 @@
+//! Roots that are built whole or shared: set by one caller and filled by another, in turn and on threads.
+ghost use Rattle.std.specs.Prelude.{◌≡◌, IfSome};
+ghost use Rattle.ist_core.specs.Rebuilding.{IsStarted};
+ghost use Rattle.ist_rebuild.specs.Finishing.{IsAble};
+ghost use Rattle.ist_rule.specs.Learning.{now};
+
+use crate::callers::{begin, enter_call, fill_all, help_on, mark, see_rebuild, see_row, set};
+use crate::tables::{Opened, all_words, are_alike, open_numbered, word_at};
+use ist_layout::Ref;
+use ist_rebuild::{Helped, Started};
+use ist_rows::Caller;
+use ist_rule::{TreeSeat, TreeTable};
+use ist_tree::OpenFault;
+use std::alloc::Global;
+use std::sync::Wait;
+use std::test::Fail;
+use std::thread::join;
+
+// Starts a rebuild of what stands below the anchor.
+fn begin_top<R: Wait>(table: &TreeTable, rt: &R, who: &mut Caller) -> Option<u32>
+    requires same_table { who.old.seat.table ≡ table.now.table }
+    requires able { IsAble who.old }
+    ensures same_table { who.new.seat.table ≡ table.now.table }
+    ensures able { IsAble who.new }
+    ensures started { IfSome result (IsStarted (now who.new.seat.view)) }
+{
+    let Some(target) = see_row(table, who) else {
+        return None;
+    };
+    match begin(table, rt, who, target) {
+        Ok(Started::Yes { rebuild }) => Some(rebuild),
+        _ => None,
+    }
+}
+
+// How many slots the row at the base has, and how many of them are Unset.
+fn unset_slots(table: &TreeTable, seat: &mut TreeSeat, base: u32) -> (u64, u64)
+    requires same_table { seat.old.table ≡ table.now.table }
+    ensures same_table { seat.new.table ≡ table.now.table }
+{
+    let base = u64::from(base);
+    let degree = word_at(table, seat, base + 2);
+    if degree > 100_000 {
+        return (degree, 0);
+    }
+    let mut unset: u64 = 0;
+    for i in 0..degree {
+        if word_at(table, seat, base + degree + 3 + i) == Ref::Unset.to_word() {
+            unset = unset.saturating_add(1);
+        }
+    }
+    (degree, unset)
+}
+
+// What is seen of a rebuild of so many pairs that one caller sets the root of, another fills, and the
+// first ends: the slots of the root and how many are Unset behind each of these, and the rest.
+#[derive(Clone, Copy, Debug, PartialEq, Eq, Drop)]
+struct Shared {
+    set: (u64, u64),
+    filled: (u64, u64),
+    same_root: bool,
+    replaced: bool,
+    ideal: bool,
+}
+
+fn share<R: Wait>(rt: &R, alloc: Global, last: u64) -> Result<Option<Shared>, OpenFault> {
+    if last > 1000 {
+        return Ok(None);
+    }
+    let Opened {
+        table,
+        mut maker,
+        image,
+    } = open_numbered(alloc, last, 20_000)?;
+    let mut first = enter_call(&table, &mut maker);
+    let mut second = enter_call(&table, &mut maker);
+    let Some(rebuild) = begin_top(&table, rt, &mut first) else {
+        return Ok(None);
+    };
+    mark(&table, rt, &mut first, rebuild);
+    let Ok(Ref::Inner { base }) = set(&table, rt, &mut first, rebuild) else {
+        return Ok(None);
+    };
+    let set_by_first = unset_slots(&table, &mut maker, base);
+    let Some(seen) = see_rebuild(&table, &mut second) else {
+        return Ok(None);
+    };
+    mark(&table, rt, &mut second, seen);
+    let Ok(root) = set(&table, rt, &mut second, seen) else {
+        return Ok(None);
+    };
+    if fill_all(&table, rt, &mut second, seen).is_err() {
+        return Ok(None);
+    }
+    let filled = unset_slots(&table, &mut maker, base);
+    let helped = help_on(&table, rt, &mut first, rebuild);
+    let words = all_words(alloc, &table, &mut maker)?;
+    let roots = (*image.get(3).unwrap_or(&0), *words.get(3).unwrap_or(&0));
+    Ok(Some(Shared {
+        set: set_by_first,
+        filled,
+        same_root: root == (Ref::Inner { base }),
+        replaced: helped == Ok(Helped::Replaced),
+        ideal: are_alike(alloc, image.as_slice(), words.as_slice(), roots)?,
+    }))
+}
+
+#[test]
+fn a_shared_root_that_one_sets_is_filled_by_another(rt: HostRuntime) -> Result<(), Fail> {
+    // the pairs, the slots of the root, those that are Unset behind who sets it
+    let cases = [
+        (2, 2, 0),
+        (16, 4, 0),
+        (255, 15, 0),
+        (256, 16, 16),
+        (300, 17, 17),
+        (400, 20, 20),
+    ];
+    for (last, slots, unset) in cases {
+        let wanted = Shared {
+            set: (slots, unset),
+            filled: (slots, 0),
+            same_root: true,
+            replaced: true,
+            ideal: true,
+        };
+        assert_eq!(rt; share(&rt, rt.alloc(), last)?, Some(wanted), "{last} pairs");
+    }
+    Ok(())
+}
+
+// Helps a rebuild by a caller that has no more to do.
+fn help_moved<R: Wait>(table: &TreeTable, rt: &R, who: Caller, rebuild: u32) -> bool
+    requires same_table { who.seat.table ≡ table.now.table }
+    requires able { IsAble who }
+    requires started { IsStarted (now who.seat.view) rebuild }
+{
+    let mut who = who;
+    help_on(table, rt, &mut who, rebuild) == Ok(Helped::Replaced)
+}
+
+#[test]
+fn two_threads_that_help_one_rebuild_leave_its_leaves_ideal(rt: HostRuntime) -> Result<(), Fail> {
+    let Opened {
+        table,
+        mut maker,
+        image,
+    } = open_numbered(rt.alloc(), 300, 20_000)?;
+    let mut first = enter_call(&table, &mut maker);
+    let mut second = enter_call(&table, &mut maker);
+    let one = begin_top(&table, &rt, &mut first);
+    let two = see_rebuild(&table, &mut second);
+    assert!(rt; one.is_some() && one == two);
+    let (Some(one), Some(two)) = (one, two) else {
+        return Ok(());
+    };
+    let (left, right) = join(
+        &rt,
+        ||
+            requires same_table { first.seat.table ≡ table.table }
+            requires able { IsAble first }
+            requires started { IsStarted (now first.seat.view) one }
+        { help_moved(&table, &rt, first, one) },
+        ||
+            requires same_table { second.seat.table ≡ table.table }
+            requires able { IsAble second }
+            requires started { IsStarted (now second.seat.view) two }
+        { help_moved(&table, &rt, second, two) },
+    );
+    assert!(rt; left && right);
+    let words = all_words(rt.alloc(), &table, &mut maker)?;
+    let roots = (*image.get(3).unwrap_or(&0), *words.get(3).unwrap_or(&0));
+    assert!(rt; are_alike(rt.alloc(), image.as_slice(), words.as_slice(), roots)?);
+    Ok(())
+}
