@@ -77,6 +77,7 @@ fn options_at(matches: &ArgMatches) -> Options
 
     ensures workers { (1 ≤ result.workers) × (result.workers ≤ 64) }
     ensures words { (64 ≤ result.words) × (result.words ≤ 268435456) }
+    ensures generate { IfSome result.generate (λ count. count ≤ 1048576) }
 {
     Options {
         workers: number(matches, "workers").unwrap_or(4),
@@ -98,6 +99,8 @@ pub(crate) fn read<S: AsStr>(alloc: Global, words: &[S]) -> Result<Options, Refu
         (1 ≤ options.workers) × (options.workers ≤ 64)) }
     ensures words { IfOk result (λ options.
         (64 ≤ options.words) × (options.words ≤ 268435456)) }
+    ensures generate { IfOk result (λ options.
+        IfSome options.generate (λ count. count ≤ 1048576)) }
 {
     let matches = matches_of(alloc, words)?;
     Ok(options_at(&matches))

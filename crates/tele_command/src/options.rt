@@ -1,5 +1,5 @@
 //! What the words of a command line ask for.
-ghost use Rattle.std.specs.Prelude.{◌≡◌, ◌≤◌, true, false, map, string_bytes, Err, IfOk, IsOk};
+ghost use Rattle.std.specs.Prelude.{◌≡◌, ◌≤◌, true, false, map, string_bytes, Err, IfOk, IfSome, IsOk};
 ghost use Rattle.tele_command.specs.CommandLine.{are_refused, options_in};
 
 use crate::command::read;
@@ -42,6 +42,8 @@ pub fn read_options(alloc: Global, words: &[String]) -> Result<Options, Refusal>
         (1 ≤ options.workers) × (options.workers ≤ 64)) }
     ensures words { IfOk result (λ options.
         (64 ≤ options.words) × (options.words ≤ 268435456)) }
+    ensures generate { IfOk result (λ options.
+        IfSome options.generate (λ count. count ≤ 1048576)) }
 {
     if words.is_empty() {
         let name = ["tele"];

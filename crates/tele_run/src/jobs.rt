@@ -29,7 +29,7 @@ pub(crate) struct Plan {
     pub words: u32,
 }
 
-/// Reads the words of the command line. More lines to be made than a run may have find no memory.
+/// Reads the words of the command line. No more lines are to be made than a run may have.
 pub(crate) fn read_plan(alloc: Global, words: &[String]) -> Result<Plan, AllocError>
     ensures value { IfOk result (λ plan. plan.job ≡ job_of (map string_bytes words.now)) }
     ensures workers { IfOk result (λ plan. ¬ (plan.job ≡ Job.Refuse) →
@@ -46,7 +46,6 @@ pub(crate) fn read_plan(alloc: Global, words: &[String]) -> Result<Plan, AllocEr
 {
     match read_options(alloc, words) {
         Ok(options) => match options.generate {
-            Some(count) if count > LINE_LIMIT => Err(AllocError),
             Some(count) => Ok(plan_for(
                 Job::Make {
                     count,

@@ -5,11 +5,11 @@ use Rattle.tele_run.proofs.JobLemmas.{makes, reads, refuses}
 use Rattle.tele_run.proofs.jobs.read_plan.Goals as goal
 
 -- the words are taken
-pub returns-in-Some-2-clause-value : goal.returns-in-Some-2-clause-value
-returns-in-Some-2-clause-value c =
+pub returns-in-Some-clause-value : goal.returns-in-Some-clause-value
+returns-in-Some-clause-value c =
     let met = c.in-Ok.ensures in
     ap (λ (p : Plan). p.job) c.plan_for.ensures.value
-    ∙ makes _ c.in-Ok.options c.in-Some-2.count (met.taken refl) met.values c.in-Some-2.is
+    ∙ makes _ c.in-Ok.options c.in-Some.count (met.taken refl) met.values c.in-Some.is
 
 pub returns-in-None-clause-value : goal.returns-in-None-clause-value
 returns-in-None-clause-value c =
