@@ -4,3 +4,4 @@ pub mod LeadLemmas
 pub mod TableLemmas
 pub mod WayLemmas
 pub mod RoundLemmas
+pub mod KeptLemmas

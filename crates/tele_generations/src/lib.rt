@@ -5,6 +5,7 @@
 //! `tele_rounds`, `tele_lanes`, `plain_map` and `ist_math`.
 #![tactic(auto)]
 
+mod kept;
 mod rests;
 mod rounds;
 mod shelves;
@@ -12,6 +13,7 @@ mod sizes;
 mod tables;
 mod ways;
 
+pub use kept::Kept;
 pub use rests::Turn;
 pub use rounds::{Fulls, Round, finish};
 pub use shelves::{NoShelf, Shelf};

@@ -1,6 +1,9 @@
 //! Where the tables go that a round has done with.
-ghost use Rattle.std.specs.Prelude.{[], ◌∷◌, List, Option, None};
-ghost use Rattle.tele_generations.specs.Shelves.{IsShelved};
+ghost use Rattle.std.specs.Prelude.{◌≡◌, [], ◌∷◌, ◌++◌, ◌<◌, ◌≤◌, List, Option, Some, None, length, slice_get, option_copied};
+ghost use Rattle.tele_generations.specs.Shelves.{IsShelved, tables_in, told_by};
+
+use crate::kept::{Kept, ROOM};
+use arrayvec::ArrayVec;
 
 /// Takes the closed tables that a round has done with.
 pub trait Shelf<C> {
@@ -20,4 +23,50 @@ impl<C: Drop> Shelf<C> for NoShelf {
     ghost kept = { λ _. None };
 
     fn keep(&mut self, closed: C) {}
+}
+
+impl<C: Drop> Kept<C> {
+    /// An empty shelf.
+    pub fn new() -> Kept<C>
+        ensures told { told_by result ≡ Some [] }
+        ensures empty { tables_in result ≡ [] }
+    {
+        Kept {
+            places: ArrayVec::new(),
+            has_all: true,
+        }
+    }
+
+    /// The table of this number, counted from 0 in the order in which they came, if it is kept.
+    pub fn get(&self, number: usize) -> Option<&C>
+        ensures value { option_copied result ≡ slice_get (tables_in self.now) number }
+    {
+        let places = self.places.as_slice();
+        if number < places.len() {
+            places[number].as_ref()
+        } else {
+            None
+        }
+    }
+}
+
+impl<C: Drop> Shelf<C> for Kept<C> {
+    ghost kept = { told_by };
+
+    fn keep(&mut self, closed: C)
+        ensures kept { IsShelved (told_by self.old) (closed ∷ []) (told_by self.new) }
+        ensures taken { length (tables_in self.old) < ROOM →
+            tables_in self.new ≡ tables_in self.old ++ closed ∷ [] }
+        ensures told { length (tables_in self.old) < ROOM →
+            told_by self.old ≡ Some (tables_in self.old) →
+            told_by self.new ≡ Some (tables_in self.new) }
+        ensures let_go { ROOM ≤ length (tables_in self.old) →
+            tables_in self.new ≡ tables_in self.old }
+    {
+        if self.places.len() < ROOM {
+            self.places.push(Some(closed));
+        } else {
+            self.has_all = false;
+        }
+    }
 }
