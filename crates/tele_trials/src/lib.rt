@@ -1,0 +1,16 @@
+//! Runs of the whole program, and rounds on trees: tests alone.
+//!
+//! Read `running.rt`, then `meetings.rt`, `full_trees.rt`, `sizes.rt` and `long_inputs.rt`. Stands on
+//! `tele_run` and `tele_trees`.
+#![tactic(auto)]
+
+#[cfg(test)]
+mod full_trees;
+#[cfg(test)]
+mod long_inputs;
+#[cfg(test)]
+mod meetings;
+#[cfg(test)]
+mod running;
+#[cfg(test)]
+mod sizes;
