@@ -46,7 +46,7 @@ pub struct Frozen {
 
 /// What a look below the anchor finds.
 #[derive(Clone, Copy, Drop)]
-enum Site {
+pub(crate) enum Site {
     /// A tree that is frozen as it is.
     Still(Frozen),
     /// A started rebuild with this base, and its target.
@@ -61,7 +61,7 @@ struct Outcome {
 }
 
 // The word in the anchor's slot.
-fn anchor_word(table: &TreeTable, seat: &mut TreeSeat) -> u64
+pub(crate) fn anchor_word(table: &TreeTable, seat: &mut TreeSeat) -> u64
     requires same_table { seat.old.table ≡ table.now.table }
     ensures same_table { seat.new.table ≡ seat.old.table }
     ensures seen { GoesOnTo seat.old.view seat.new.view }
@@ -188,7 +188,7 @@ fn look<R: Wait>(table: &TreeTable, rt: &R, who: &mut Caller) -> Result<Option<S
 }
 
 // Looks below the anchor until a tree is frozen there, or a rebuild stands.
-fn look_below<R: Wait>(table: &TreeTable, rt: &R, who: &mut Caller) -> Result<Site, Full>
+pub(crate) fn look_below<R: Wait>(table: &TreeTable, rt: &R, who: &mut Caller) -> Result<Site, Full>
     requires same_table { who.old.seat.table ≡ table.now.table }
     requires ready { IsReady who.old }
     ensures same_table { who.new.seat.table ≡ table.now.table }
@@ -248,7 +248,7 @@ fn freeze_below<R: Wait>(table: &TreeTable, rt: &R, who: &mut Caller) -> Result<
 }
 
 // Begins a call without a command.
-fn begin(table: &TreeTable, who: &mut Caller)
+pub(crate) fn begin(table: &TreeTable, who: &mut Caller)
     requires same_table { who.old.seat.table ≡ table.now.table }
     requires pass { IsPass who.old }
     ensures same_table { who.new.seat.table ≡ table.now.table }

@@ -23,4 +23,6 @@ pub use trees::Tree;
 #[cfg(test)]
 mod freezing_tests;
 #[cfg(test)]
+mod standing_tests;
+#[cfg(test)]
 mod tests;

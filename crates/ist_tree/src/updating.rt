@@ -31,7 +31,7 @@ fn command_of(key: u64, value: Option<u64>) -> Command
 }
 
 // Begins the call with this command.
-fn begin(table: &TreeTable, who: &mut Caller, command: Command)
+pub(crate) fn begin(table: &TreeTable, who: &mut Caller, command: Command)
     requires same_table { who.old.seat.table ≡ table.now.table }
     requires pass { IsPass who.old }
     ensures same_table { who.new.seat.table ≡ table.now.table }
