@@ -24,8 +24,8 @@ use Rattle.ist_core.proofs.RoomLemmas.{words_same}
 use Rattle.ist_core.proofs.SoundLemmas.{sound}
 use Rattle.ist_core.proofs.StartLemmas.{sound_start}
 use Rattle.ist_rule.specs.declared.view.View.{View}
-use Rattle.ist_rule.specs.declared.view.Who.TheVariants.{Caller as CallerOf}
-use Rattle.ist_rule.specs.Authors.{Later}
+use Rattle.ist_core.specs.declared.events.Who.TheVariants.{Caller as CallerOf}
+use Rattle.ist_core.specs.Authors.{Later, no_more, one_more, LaterBy}
 use Rattle.ist_rule.specs.declared.view.OwnWord.{OwnWord}
 use Rattle.ist_rule.specs.Conditions.{StoredAll}
 use Rattle.ist_rule.specs.Rule.{IsSound, own_at}
@@ -41,8 +41,6 @@ use Rattle.ist_rows.proofs.BuildingLemmas.{all_stuck_on}
 use Rattle.ist_rows.proofs.CallerLemmas.{spare_kind}
 use Rattle.ist_rows.proofs.CallerGoingLemmas.{base_same}
 use Rattle.ist_rows.proofs.HeldListLemmas.{held_by_step, held_by_later}
-use Rattle.ist_core.specs.Authors.{no_more, one_more}
-use Rattle.ist_rule.specs.Authors.{LaterBy}
 use Rattle.ist_rule.proofs.WentOnLemmas.{later_by, later_by_more, later_by_all, later_by-goes_on}
 use Rattle.ist_build.specs.Naming.{is_from, row_stored, rows_from}
 use Rattle.ist_build.specs.Midway.{words_at}

@@ -17,13 +17,12 @@ use Rattle.ist_core.proofs.SoundLemmas.{sound}
 use Rattle.ist_core.proofs.StartLemmas.{sound_start}
 use Rattle.ist_rule.specs.declared.view.View.{View}
 use Rattle.ist_rule.specs.declared.view.OwnWord.{OwnWord}
-use Rattle.ist_rule.specs.declared.view.Who.TheVariants.{Caller}
+use Rattle.ist_core.specs.declared.events.Who.TheVariants.{Caller}
 use Rattle.ist_rule.specs.Rule.{IsSound, own_at}
 use Rattle.ist_rule.specs.Learning.{now, GoesOnTo, storing}
 use Rattle.ist_rule.proofs.HeldLemmas.{held_by_others}
 use Rattle.ist_rows.specs.Rows.{Reserved}
-use Rattle.ist_core.specs.Authors.{no_more, one_more}
-use Rattle.ist_rule.specs.Authors.{LaterBy}
+use Rattle.ist_core.specs.Authors.{no_more, one_more, LaterBy}
 use Rattle.ist_rule.proofs.WentOnLemmas.{goes_on_grow}
 use Rattle.ist_build.proofs.LaidOnLemmas.{laid_now, laid_lawful, laid_who, laid_grow, laid_next, laid_same, laid_more, goes_on_laid, logged_laid}
 use Rattle.ist_build.specs.Laying.{Reserves, BuiltOn}

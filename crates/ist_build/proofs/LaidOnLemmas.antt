@@ -4,7 +4,7 @@ use Rattle.std.proofs.Common.{◌≡◌, ℕ, ◌+◌, ◌≤◌, List, ◌∷�
 use Rattle.std.proofs.Math.Nat.{le_trans}
 use Rattle.ist_core.specs.declared.events.Event.{Event}
 use Rattle.ist_core.specs.declared.pairs.Pair.{Pair}
-use Rattle.ist_core.specs.Authors.{no_more, one_more}
+use Rattle.ist_core.specs.Authors.{no_more, one_more, LaterBy}
 use Rattle.ist_core.specs.Growing.{AllGrow}
 use Rattle.ist_core.specs.Lawful.{EachEnabled, Lawful, state_of}
 use Rattle.ist_core.specs.Logs.{Log}
@@ -13,8 +13,7 @@ use Rattle.ist_core.proofs.FateLemmas.{grow_between}
 use Rattle.ist_core.proofs.PlaceLemmas.{placed, claimed_within}
 use Rattle.ist_core.proofs.SpendingLemmas.{next-state}
 use Rattle.ist_rule.specs.declared.view.View.{View}
-use Rattle.ist_rule.specs.declared.view.Who.{Who}
-use Rattle.ist_rule.specs.Authors.{LaterBy}
+use Rattle.ist_core.specs.declared.events.Who.{Who}
 use Rattle.ist_rule.specs.Going.{WentOn, KeepsWords}
 use Rattle.ist_rule.specs.Rule.{IsSound, own_at}
 use Rattle.ist_rule.specs.Learning.{now, made_behind, logging, logging_load, GoesOnTo, Logged, LoggedLoad}

@@ -25,7 +25,7 @@ use Rattle.ist_rebuilds.proofs.FewLeafLemmas.{leaves_stand}
 use Rattle.ist_rebuilds.proofs.FinishedLeafLemmas.{finished_few}
 use Rattle.ist_rule.specs.declared.view.View.{View}
 use Rattle.ist_rule.specs.declared.view.OwnWord.{OwnWord}
-use Rattle.ist_rule.specs.Authors.{Later}
+use Rattle.ist_core.specs.Authors.{Later}
 use Rattle.ist_rule.specs.Faces.{SeatFace}
 use Rattle.ist_rule.specs.Rule.{IsSound, own_at}
 use Rattle.ist_rule.specs.Learning.{now, GoesOnTo}

@@ -7,12 +7,11 @@ use Rattle.ist_core.specs.Lawful.{state_of}
 use Rattle.ist_core.specs.Logs.{Log}
 use Rattle.ist_core.specs.References.{unset_word}
 use Rattle.ist_rule.specs.declared.view.View.{View}
-use Rattle.ist_rule.specs.declared.view.Who.{Who}
-use Rattle.ist_rule.specs.declared.view.Who.TheVariants.{Caller}
+use Rattle.ist_core.specs.declared.events.Who.{Who}
+use Rattle.ist_core.specs.declared.events.Who.TheVariants.{Caller}
 use Rattle.ist_core.specs.Shown.{IsShown}
 use Rattle.ist_coming.specs.Builds.{EndsBuild, WasUnset, EndsNone}
-use Rattle.ist_core.specs.Authors.{no_more, one_more}
-use Rattle.ist_rule.specs.Authors.{LaterBy}
+use Rattle.ist_core.specs.Authors.{no_more, one_more, LaterBy}
 use Rattle.ist_coming.proofs.BeatenLemmas.{others_build}
 use Rattle.ist_build.specs.Laying.{Reserves, BuiltOn}
 

@@ -24,7 +24,7 @@ use Rattle.ist_rule.specs.Learning.{now, Looked}
 use Rattle.ist_rule.specs.Conditions.{StoredAll}
 use Rattle.ist_rows.specs.declared.callers.Caller.{Caller}
 use Rattle.ist_rows.specs.Building.{IsInBuild, sizes_built}
-use Rattle.ist_rule.specs.Authors.{LaterBy}
+use Rattle.ist_core.specs.Authors.{LaterBy}
 
 -- ---- how the seat goes on
 

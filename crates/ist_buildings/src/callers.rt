@@ -10,7 +10,7 @@ ghost use Rattle.ist_buildings.specs.Steps.{IsMarked};
 ghost use Rattle.ist_rebuild.specs.declared.answers.Started.TheVariants.{Yes};
 ghost use Rattle.ist_rebuild.specs.Finishing.{IsAble};
 ghost use Rattle.ist_rebuild.specs.Starting.{MayStart};
-ghost use Rattle.ist_rule.specs.declared.view.Who.TheVariants.{Maker};
+ghost use Rattle.ist_core.specs.declared.events.Who.TheVariants.{Maker};
 ghost use Rattle.ist_rule.specs.Learning.{now, GoesOnTo};
 
 use ist_build::{fill_parts, set_root};

@@ -1,7 +1,7 @@
 //! Tables of so many pairs, and what their words hold.
 ghost use Rattle.std.specs.Prelude.{◌≡◌, ◌≤◌, ◌<◌, ◌^◌, length, map, IfOk};
 ghost use Rattle.std.specs.List.Sorted.{IsStrictlyIncreasing};
-ghost use Rattle.ist_rule.specs.declared.view.Who.TheVariants.{Maker};
+ghost use Rattle.ist_core.specs.declared.events.Who.TheVariants.{Maker};
 ghost use Rattle.ist_core.specs.RowLayout.{place_limit};
 
 use ist_core::{Command, Pair};

@@ -1,11 +1,12 @@
 -- An add may be the event that it is named for, whatever others do meanwhile. Serves
 -- `laws.enabled_events_come`.
-use Rattle.std.proofs.Common.{◌≡◌, ℕ, ◌+◌, Some, refl, sym, ap, ◌∙◌, arith}
+use Rattle.std.proofs.Common.{◌≡◌, ℕ, ◌+◌, Some, refl, sym, ap, ◌∙◌, subst, arith}
 use Rattle.ist_core.specs.declared.events.Event.TheVariants.{Count, Draw}
 use Rattle.ist_core.specs.declared.states.InnerRow.{InnerRow}
 use Rattle.ist_core.specs.declared.states.RebuildRow.{RebuildRow}
 use Rattle.ist_core.specs.RowLayout.{inner_count_offset, rebuild_draw_offset}
 use Rattle.ist_core.specs.Pieces.{Inner, Rebuild, as_inner, as_rebuild}
+use Rattle.ist_core.specs.Authors.{Later}
 use Rattle.ist_core.specs.StartLayout.{start}
 use Rattle.ist_core.specs.Logs.{Log}
 use Rattle.ist_core.specs.Building.{CanDraw}
@@ -17,7 +18,7 @@ use Rattle.ist_core.proofs.YesLemmas.{count_low}
 use Rattle.ist_core.proofs.GrowingLemmas.{inner_there, rebuild_there}
 use Rattle.ist_rebuilds.proofs.LowLemmas.{draw_low}
 use Rattle.ist_rule.specs.declared.view.View.{View}
-use Rattle.ist_rule.specs.declared.view.Who.TheVariants.{Caller}
+use Rattle.ist_core.specs.declared.events.Who.TheVariants.{Caller}
 use Rattle.ist_core.specs.Shown.{IsShown}
 use Rattle.ist_rule.specs.Rule.{IsSound}
 use Rattle.ist_rule.specs.Learning.{now}
@@ -26,7 +27,6 @@ use Rattle.ist_rule.proofs.WatchLemmas.{shown_in_row}
 use Rattle.ist_stability.proofs.BuildEventLemmas.{next_draw_stays}
 use Rattle.ist_stability.proofs.CountEventLemmas.{count_stays}
 use Rattle.ist_stability.proofs.QuietLemmas.{none_accepted}
-use Rattle.ist_coming.proofs.AuthorLemmas.{by_others}
 use Rattle.ist_coming.proofs.KnownLemmas.{in_piece, fast_known, grow}
 
 module _ (v : View) (s : IsSound v) (number : ℕ) (mine : v.who ≡ Caller number) where
@@ -61,7 +61,7 @@ module _ (v : View) (s : IsSound v) (number : ℕ) (mine : v.who ≡ Caller numb
             let r = count_behind node it.0 it.1 log m found shown in
             record {
               enabled = count_stays v.start v.words number
-                  (by_others (Count number node) (sym mine) m.later) m.lawful.enabled node can
+                  (subst (λ who. Later who v.log log) mine m.later) m.lawful.enabled node can
                   (none_accepted v.start v.words s.lawful.opens v.log s.lawful.enabled number all
                   u);
               touches = ap (λ o. touch_of_count node (as_inner o)) r.1
@@ -107,7 +107,7 @@ module _ (v : View) (s : IsSound v) (number : ℕ) (mine : v.who ≡ Caller numb
             let r = draw_behind rebuild can.row can.published log m found shown in
             record {
               enabled = next_draw_stays v.start v.words m.lawful.opens number
-                  (by_others (Draw number rebuild part) (sym mine) m.later) m.lawful.enabled
+                  (subst (λ who. Later who v.log log) mine m.later) m.lawful.enabled
                   rebuild part found can shown;
               touches = ap (λ o. touch_of_draw rebuild (as_rebuild o)) r.1
                   ∙ ap (λ n. Some record {

@@ -12,7 +12,7 @@ use Rattle.ist_core.specs.Statuses.{finished_word}
 use Rattle.ist_core.specs.Pieces.{Inner, Rebuild}
 use Rattle.ist_core.specs.Snapshots.{Snapshot, sizes_of}
 use Rattle.ist_core.specs.StartLayout.{start}
-use Rattle.ist_core.specs.Authors.{GoesOnBy, no_more, one_more}
+use Rattle.ist_core.specs.Authors.{GoesOnBy, no_more, one_more, whose, Later}
 use Rattle.ist_core.specs.Logs.{Log, GoesOn, same_log, one_event}
 use Rattle.ist_core.specs.Building.{IsBeaten, CanRoot}
 use Rattle.ist_core.specs.Rebuilding.{IsFinishedWith}
@@ -24,9 +24,8 @@ use Rattle.ist_links.proofs.FormedLemmas.{rooted_is_finished}
 use Rattle.ist_links.proofs.InductionLemmas.{grow_behind, sound_behind}
 use Rattle.ist_links.proofs.OriginLemmas.{RebuildComes, rebuild_was, is_begun, is_rooted, is_drawn}
 use Rattle.ist_rebuilds.proofs.NumberLemmas.{number_is}
-use Rattle.ist_rule.specs.declared.view.Who.{Who}
-use Rattle.ist_rule.specs.declared.view.Who.TheVariants.{Caller}
-use Rattle.ist_rule.specs.Authors.{whose, Later}
+use Rattle.ist_core.specs.declared.events.Who.{Who}
+use Rattle.ist_core.specs.declared.events.Who.TheVariants.{Caller}
 use Rattle.ist_coming.specs.Builds.{EndsBuild, EndsNone}
 use Rattle.ist_coming.proofs.SizeLemmas.{IsRootSizes, root_sizes, root_sizes_once}
 

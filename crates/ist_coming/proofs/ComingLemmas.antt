@@ -1,8 +1,10 @@
 -- An event that is enabled in the seat's log may be made, whatever others do meanwhile. Serves
 -- `laws.enabled_events_come`.
-use Rattle.std.proofs.Common.{◌≡◌, ℕ, Option, Some, refl, ap, ◌∙◌, subst, arith}
+use Rattle.std.proofs.Common.{◌≡◌, ℕ, Option, Some, refl, ap, ◌∙◌, subst, sym, arith}
 use Rattle.ist_core.specs.declared.events.Event.{Event}
 use Rattle.ist_core.specs.declared.events.Event.TheVariants.{Enter, Reserve, Install, Okay, Decide, Resolve, Count, Mark, Pass, Finish, Root, Draw, Place, Lose}
+use Rattle.ist_core.specs.declared.events.Who.{Who}
+use Rattle.ist_core.specs.Authors.{Later}
 use Rattle.ist_core.specs.Pieces.{Change, Inner, Rebuild, as_change, as_rebuild}
 use Rattle.ist_core.specs.Snapshots.{Snapshot}
 use Rattle.ist_core.specs.StartLayout.{start}
@@ -27,7 +29,6 @@ use Rattle.ist_stability.proofs.QuietLemmas.{none_refused}
 use Rattle.ist_stability.proofs.SpareEventLemmas.{reserve_stays}
 use Rattle.ist_stability.proofs.TouchLemmas.{touch_stays}
 use Rattle.ist_coming.specs.Coming.{IsExchange}
-use Rattle.ist_coming.proofs.AuthorLemmas.{by_others}
 use Rattle.ist_coming.proofs.KnownLemmas.{IsFast, at_next, in_piece, fast_known, slot_fast}
 
 one_touch : (o : Option Touch) (a b : Touch) → o ≡ Some a → o ≡ Some b → a ≡ b
@@ -92,16 +93,20 @@ module _ (v : View) (s : IsSound v) where
     abbrev u : Snapshot
     u = state_of v.start v.words log
 
+    -- the further events are made by others than the seat
+    others : {who : Who} → who ≡ v.who → Later who v.log log
+    others mine = subst (λ who. Later who v.log log) (sym mine) m.later
+
     -- an enabled exchange is enabled still where its word stands
     enabled_still : (event : Event) → IsExchange event → CanMake v event
         → Enabled (start v.start v.words) v.log event → FindsItsWord (now v) u event
         → Enabled (start v.start v.words) log event
     enabled_still (Reserve caller base size) x k can f =
         reserve_stays v.start v.words m.lawful.opens caller
-        (by_others (Reserve caller base size) k.mine m.later) m.lawful.enabled base size can f
+        (others k.mine) m.lawful.enabled base size can f
     enabled_still (Install caller base rows) x k can f =
         install_stays v.start v.words m.lawful.opens caller
-        (by_others (Install caller base rows) k.mine m.later) m.lawful.enabled base rows can f
+        (others k.mine) m.lawful.enabled base rows can f
         (λ change is. none_refused v.start v.words s.lawful.opens v.log s.lawful.enabled caller
         (k.allowed change is).resolved u change.node)
     enabled_still (Decide caller base said) x k can f =
@@ -118,12 +123,10 @@ module _ (v : View) (s : IsSound v) where
         node keys can f
     enabled_still (Root caller rebuild word rows) x k can f =
         builds.root_stays v.start v.words m.lawful.opens caller
-        (by_others (Root caller rebuild word rows) k.mine m.later) m.lawful.enabled rebuild word
-        rows can f
+        (others k.mine) m.lawful.enabled rebuild word rows can f
     enabled_still (Place caller rebuild i word rows) x k can f =
         builds.place_stays v.start v.words m.lawful.opens caller
-        (by_others (Place caller rebuild i word rows) k.mine m.later) m.lawful.enabled rebuild i
-        word rows can f
+        (others k.mine) m.lawful.enabled rebuild i word rows can f
     enabled_still (Enter caller) x k can f = absurd x
     enabled_still (Okay caller base) x k can f = absurd x
     enabled_still (Count caller node) x k can f = absurd x

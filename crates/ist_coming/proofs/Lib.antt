@@ -1,4 +1,3 @@
-pub mod AuthorLemmas
 pub mod KnownLemmas
 pub mod ComingLemmas
 pub mod AddingLemmas

@@ -11,6 +11,7 @@ use Rattle.ist_core.specs.Shapes.{shape}
 use Rattle.ist_core.specs.References.{ref_of, unset_word}
 use Rattle.ist_core.specs.Pieces.{Inner, as_rebuild}
 use Rattle.ist_core.specs.Snapshots.{bases_of, sizes_of}
+use Rattle.ist_core.specs.Authors.{Later}
 use Rattle.ist_core.specs.StartLayout.{start}
 use Rattle.ist_core.specs.Logs.{Log, same_log}
 use Rattle.ist_core.specs.Fairness.{IsBuild, build_part}
@@ -29,7 +30,7 @@ use Rattle.ist_links.proofs.FormLemmas.{finished_with_grows, started_grows}
 use Rattle.ist_links.proofs.InductionLemmas.{sound_behind}
 use Rattle.ist_rebuilds.proofs.NumberLemmas.{number_is}
 use Rattle.ist_rule.specs.declared.view.View.{View}
-use Rattle.ist_rule.specs.declared.view.Who.TheVariants.{Caller}
+use Rattle.ist_core.specs.declared.events.Who.TheVariants.{Caller}
 use Rattle.ist_core.specs.Shown.{IsShown}
 use Rattle.ist_rule.specs.Rule.{IsSound}
 use Rattle.ist_rule.specs.Learning.{now}
@@ -44,7 +45,6 @@ use Rattle.ist_coming.specs.Builds.{IsPartBuilt, WasUnset}
 use Rattle.ist_coming.proofs.BeatenLemmas.{without_later, without-goes_on}
 use Rattle.ist_coming.proofs.ComingLemmas.{exchange_comes}
 use Rattle.ist_coming.proofs.FilledLemmas.{beaten_part, slot_was}
-use Rattle.ist_coming.proofs.AuthorLemmas.{by_others}
 use Rattle.ist_coming.proofs.KnownLemmas.{IsFast, grow, slot_fast, fast_known, gone_missed}
 use Rattle.ist_coming.proofs.PlacedLemmas.{part_length, part_sizes, slot_there}
 use Rattle.ist_coming.proofs.RootLemmas.{holds_sizes}
@@ -163,7 +163,7 @@ module _ (v : View) (s : IsSound v) (number rebuild i word : ℕ) (rows : List R
             sizes = sizes_of rows;
             held = holds_sizes u number rows
                 (rows_later v.start v.words number
-                (by_others (Place number rebuild i word rows) (sym mine) m.later) m.lawful.enabled
+                (subst (λ who. Later who v.log log) mine m.later) m.lawful.enabled
                 rows b.held);
             once = b.once;
             building = record {

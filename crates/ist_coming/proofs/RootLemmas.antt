@@ -9,6 +9,7 @@ use Rattle.ist_core.specs.Shapes.{shape}
 use Rattle.ist_core.specs.References.{unset_word}
 use Rattle.ist_core.specs.Pieces.{Rebuild}
 use Rattle.ist_core.specs.Snapshots.{Snapshot, bases_of, sizes_of, HoldsRows}
+use Rattle.ist_core.specs.Authors.{Later}
 use Rattle.ist_core.specs.StartLayout.{start}
 use Rattle.ist_core.specs.Logs.{Log}
 use Rattle.ist_core.specs.Fairness.{IsBuild, build_whole, build_top}
@@ -23,7 +24,7 @@ use Rattle.ist_links.proofs.FormLemmas.{finished_with_grows, started_grows}
 use Rattle.ist_links.proofs.InductionLemmas.{sound_behind}
 use Rattle.ist_rebuilds.proofs.NumberLemmas.{number_is}
 use Rattle.ist_rule.specs.declared.view.View.{View}
-use Rattle.ist_rule.specs.declared.view.Who.TheVariants.{Caller}
+use Rattle.ist_core.specs.declared.events.Who.TheVariants.{Caller}
 use Rattle.ist_core.specs.Shown.{IsShown}
 use Rattle.ist_rule.specs.Rule.{IsSound}
 use Rattle.ist_rule.specs.Learning.{now}
@@ -34,7 +35,6 @@ use Rattle.ist_stability.proofs.HoldingLemmas.{rows_later}
 use Rattle.ist_coming.specs.Builds.{IsRootBuilt, WasUnset}
 use Rattle.ist_coming.proofs.BeatenLemmas.{beaten_root, without_later, without-goes_on}
 use Rattle.ist_coming.proofs.ComingLemmas.{exchange_comes}
-use Rattle.ist_coming.proofs.AuthorLemmas.{by_others}
 use Rattle.ist_coming.proofs.KnownLemmas.{grow, in_piece, fast_known, gone_missed}
 use Rattle.ist_coming.proofs.SizeLemmas.{IsRootSizes, of_whole, of_top, root_sizes}
 
@@ -153,7 +153,7 @@ module _ (v : View) (s : IsSound v) (number rebuild word : ℕ) (rows : List Row
             sizes = sizes_of rows;
             held = holds_sizes u number rows
                 (rows_later v.start v.words number
-                (by_others (Root number rebuild word rows) (sym mine) m.later) m.lawful.enabled
+                (subst (λ who. Later who v.log log) mine m.later) m.lawful.enabled
                 rows b.held);
             once = b.once;
             building = record {

@@ -5,14 +5,13 @@ use Rattle.ist_core.specs.References.{unset_word}
 use Rattle.ist_core.specs.Logs.{Log}
 use Rattle.ist_core.specs.Lawful.{state_of}
 use Rattle.ist_rule.specs.declared.view.View.{View}
-use Rattle.ist_rule.specs.declared.view.Who.{Who}
-use Rattle.ist_rule.specs.declared.view.Who.TheVariants.{Caller}
-use Rattle.ist_core.specs.Authors.{no_more, one_more}
+use Rattle.ist_core.specs.declared.events.Who.{Who}
+use Rattle.ist_core.specs.declared.events.Who.TheVariants.{Caller}
+use Rattle.ist_core.specs.Authors.{no_more, one_more, LaterBy}
 use Rattle.ist_core.specs.Shown.{IsShown}
 use Rattle.ist_rule.specs.Learning.{now, Looked}
 use Rattle.ist_rule.specs.Conditions.{IsKnown}
 use Rattle.ist_rule.proofs.GoingOnLemmas.{looked_goes_on, may_come_before}
-use Rattle.ist_rule.specs.Authors.{LaterBy}
 use Rattle.ist_rule.specs.Going.{WentOn}
 use Rattle.ist_coming.specs.Builds.{EndsBuild, EndsNone, WasUnset}
 use Rattle.ist_coming.proofs.BeatenLemmas.{others_build}

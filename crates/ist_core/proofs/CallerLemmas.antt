@@ -2,10 +2,11 @@
 use Rattle.std.proofs.Common.{List, None, Option, Some, [], arith, inl, inr, refl, ℕ, ⊎_elim, ◌+◌, ◌<◌, ◌∷◌, ◌≡◌, ◌⊎◌}
 use Rattle.ist_core.specs.declared.events.Event.TheVariants.{Count, Decide, Draw, Enter, Finish, Install, Lose, Mark, Okay, Pass, Place, Reserve, Resolve, Root}
 use Rattle.ist_core.specs.declared.events.Event.{Event}
+use Rattle.ist_core.specs.declared.events.Who.TheVariants.{Maker}
 use Rattle.ist_core.specs.declared.lists.Row.{Row}
 use Rattle.ist_core.specs.declared.states.ChangeRow.{ChangeRow}
 use Rattle.ist_core.specs.After.{installed, resolved, with_change}
-use Rattle.ist_core.specs.Authors.{author}
+use Rattle.ist_core.specs.Authors.{whose}
 use Rattle.ist_core.specs.Logs.{Log, state}
 use Rattle.ist_core.specs.Pieces.{as_change, change_of}
 use Rattle.ist_core.specs.Snapshots.{Snapshot}
@@ -30,7 +31,7 @@ callers-resolved t (Some change) = refl
 
 -- an event enters one caller, and is the maker's, or leaves how many there are
 pub callers_step : (first : Snapshot) (log : Log) (event : Event)
-    → ((author event ≡ None)
+    → ((whose event ≡ Maker)
     × ((state first (event ∷ log)).callers ≡ (state first log).callers + 1))
     ⊎ ((state first (event ∷ log)).callers ≡ (state first log).callers)
 callers_step first log (Enter caller) = inl (refl, refl)

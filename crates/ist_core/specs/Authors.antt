@@ -1,26 +1,27 @@
 -- Whose events are whose, and logs that have gone on by some events alone: by those of others, say.
-use Rattle.std.specs.Prelude.{None, Option, Some, ℕ, ◌∷◌, ◌≢◌}
+use Rattle.std.specs.Prelude.{ℕ, ◌≢◌, ◌⊎◌, [], ◌∷◌}
 use Rattle.ist_core.specs.declared.events.Event.{Event}
 use Rattle.ist_core.specs.declared.events.Event.TheVariants.{Count, Decide, Draw, Enter, Finish, Install, Lose, Mark, Okay, Pass, Place, Reserve, Resolve, Root}
+use Rattle.ist_core.specs.declared.events.Who.{Who}
+use Rattle.ist_core.specs.declared.events.Who.TheVariants.{Caller, Maker}
 use Rattle.ist_core.specs.Logs.{Log}
 
--- the caller that makes the event, and none where it is the maker of the table: an Enter is the
--- maker's
-abbrev pub author : Event → Option ℕ
-author (Enter caller) = None
-author (Reserve caller base size) = Some caller
-author (Install caller change rows) = Some caller
-author (Okay caller change) = Some caller
-author (Decide caller change said) = Some caller
-author (Resolve caller change) = Some caller
-author (Count caller node) = Some caller
-author (Mark caller node) = Some caller
-author (Pass caller node i word) = Some caller
-author (Finish caller node keys) = Some caller
-author (Root caller rebuild word rows) = Some caller
-author (Draw caller rebuild part) = Some caller
-author (Place caller rebuild i word rows) = Some caller
-author (Lose caller bases) = Some caller
+-- who makes the event: the maker of the table an Enter, and its caller any other
+abbrev pub whose : Event → Who
+whose (Enter caller) = Maker
+whose (Reserve caller base size) = Caller caller
+whose (Install caller change rows) = Caller caller
+whose (Okay caller change) = Caller caller
+whose (Decide caller change said) = Caller caller
+whose (Resolve caller change) = Caller caller
+whose (Count caller node) = Caller caller
+whose (Mark caller node) = Caller caller
+whose (Pass caller node i word) = Caller caller
+whose (Finish caller node keys) = Caller caller
+whose (Root caller rebuild word rows) = Caller caller
+whose (Draw caller rebuild part) = Caller caller
+whose (Place caller rebuild i word rows) = Caller caller
+whose (Lose caller bases) = Caller caller
 
 -- the log goes on from an earlier one, by events of which P is true
 pub data GoesOnBy (P : Event → Type 0) (earlier : Log) : Log → Type 0 where
@@ -28,6 +29,15 @@ pub data GoesOnBy (P : Event → Type 0) (earlier : Log) : Log → Type 0 where
   one_more : {log : Log} (event : Event) → GoesOnBy P earlier log → P event
       → GoesOnBy P earlier (event ∷ log)
 
--- the log goes on from an earlier one, by events of others than this author
-abbrev pub GoesOnByOthers : Option ℕ → Log → Log → Type 0
-GoesOnByOthers who = GoesOnBy (λ event. author event ≢ who)
+-- the log goes on from an earlier one, by events of others than this one
+abbrev pub Later : Who → Log → Log → Type 0
+Later who = GoesOnBy (λ event. whose event ≢ who)
+
+-- the log goes on from an earlier one, by events of others, and by own ones that P is true of
+abbrev pub LaterBy : Who → (Event → Type 0) → Log → Log → Type 0
+LaterBy who P = GoesOnBy (λ event. (whose event ≢ who) ⊎ P event)
+
+-- no event of the log is this one's
+abbrev pub IsIdleIn : Who → Log → Type 0
+IsIdleIn who [] = Unit {0}
+IsIdleIn who (event ∷ log) = (whose event ≢ who) × IsIdleIn who log

@@ -1,5 +1,16 @@
-//! The events of a log.
+//! The events of a log, and who makes them.
 use crate::lists::{Bases, Rows};
+
+/// Who acts on a table. The maker enters callers, a caller makes all other events, and no one else
+/// makes any.
+pub enum Who {
+    Maker,
+    Caller(u64),
+    /// A note, which tells what its caller has seen, if it was split from one.
+    Note(Option<u64>),
+    /// One that was joined away.
+    Spent,
+}
 
 /// One atomic step that counts, on one word of the table. `Enabled.antt` says when it may come,
 /// and `After.antt` what it writes.

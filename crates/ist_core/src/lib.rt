@@ -17,7 +17,7 @@ mod states;
 
 pub use calls::Call;
 pub use commands::{Command, Reply};
-pub use events::Event;
+pub use events::{Event, Who};
 pub use lists::{Bases, HeldRow, HeldRows, Row, Rows, Words};
 pub use loads::Load;
 pub use maps::{Changes, Inners, Leaves, Rebuilds};

@@ -19,7 +19,7 @@ use Rattle.ist_core.proofs.SlotStepLemmas.{install_writes}
 use Rattle.ist_core.proofs.FateLemmas.{grow_between}
 use Rattle.ist_links.proofs.InductionLemmas.{sound_behind}
 use Rattle.ist_rule.specs.declared.view.View.{View}
-use Rattle.ist_rule.specs.declared.view.Who.TheVariants.{Caller}
+use Rattle.ist_core.specs.declared.events.Who.TheVariants.{Caller}
 use Rattle.ist_rule.specs.Watching.{number_of}
 use Rattle.ist_core.specs.Shown.{IsShown}
 use Rattle.ist_rule.specs.Rule.{IsSound}

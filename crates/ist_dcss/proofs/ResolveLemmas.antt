@@ -17,7 +17,7 @@ use Rattle.ist_core.proofs.FateLemmas.{grow_between}
 use Rattle.ist_links.proofs.ChangeLemmas.{unresolved_stands}
 use Rattle.ist_links.proofs.ResolvedLemmas.{resolved_gone}
 use Rattle.ist_rule.specs.declared.view.View.{View}
-use Rattle.ist_rule.specs.declared.view.Who.TheVariants.{Caller}
+use Rattle.ist_core.specs.declared.events.Who.TheVariants.{Caller}
 use Rattle.ist_core.specs.Shown.{IsShown}
 use Rattle.ist_rule.specs.Rule.{IsSound}
 use Rattle.ist_rule.specs.Learning.{now, Looked, Logged, Exchanged}

@@ -12,7 +12,7 @@ use Rattle.ist_core.specs.Logs.{Log, GoesOn, Happened, Resolves}
 use Rattle.ist_core.specs.Slots.{SlotHolds, IsOpen}
 use Rattle.ist_core.specs.Lawful.{state_of}
 use Rattle.ist_rule.specs.declared.view.View.{View}
-use Rattle.ist_rule.specs.declared.view.Who.TheVariants.{Caller}
+use Rattle.ist_core.specs.declared.events.Who.TheVariants.{Caller}
 use Rattle.ist_rule.specs.Learning.{now}
 use Rattle.ist_dcss.specs.declared.decisions.Decision.{Decision}
 use Rattle.ist_dcss.specs.declared.decisions.Decision.TheVariants.{Yes, No}

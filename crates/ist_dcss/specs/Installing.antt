@@ -14,7 +14,7 @@ use Rattle.ist_core.specs.Slots.{SlotHolds}
 use Rattle.ist_core.specs.Links.{WasLinked}
 use Rattle.ist_core.specs.Installing.{FitsKind, IsUnrefused}
 use Rattle.ist_rule.specs.declared.view.View.{View}
-use Rattle.ist_rule.specs.declared.view.Who.TheVariants.{Caller}
+use Rattle.ist_core.specs.declared.events.Who.TheVariants.{Caller}
 use Rattle.ist_rule.specs.Learning.{now, GoesOnTo, Logged}
 use Rattle.ist_rule.specs.Conditions.{StoredAll, MayInstall}
 

@@ -4,7 +4,7 @@ use Rattle.ist_core.specs.declared.states.ChangeRow.{ChangeRow}
 use Rattle.ist_core.specs.declared.events.Event.{Event}
 use Rattle.ist_core.specs.declared.events.Event.TheVariants.{Install, Decide, Resolve}
 use Rattle.ist_core.specs.Snapshots.{HoldsRow}
-use Rattle.ist_rule.specs.declared.view.Who.TheVariants.{Caller}
+use Rattle.ist_core.specs.declared.events.Who.TheVariants.{Caller}
 use Rattle.ist_rule.specs.Rule.{own_at}
 use Rattle.ist_dcss.specs.Installing.{Filling, rows_of}
 use Rattle.ist_core.specs.RowLayout.{change_from_offset, change_to_offset}

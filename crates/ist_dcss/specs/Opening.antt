@@ -6,7 +6,7 @@ use Rattle.ist_core.specs.Lawful.{Lawful, state_of}
 use Rattle.ist_core.specs.Logs.{Log, GoesOn}
 use Rattle.ist_core.specs.Slots.{IsOpen}
 use Rattle.ist_rule.specs.declared.view.View.{View}
-use Rattle.ist_rule.specs.declared.view.Who.TheVariants.{Caller}
+use Rattle.ist_core.specs.declared.events.Who.TheVariants.{Caller}
 use Rattle.ist_rule.specs.Conditions.{IsResolved}
 use Rattle.ist_rule.specs.Going.{WentOn}
 use Rattle.ist_rule.specs.Learning.{now}

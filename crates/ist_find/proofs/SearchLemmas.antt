@@ -19,7 +19,7 @@ use Rattle.ist_rule.specs.declared.view.View.{View}
 use Rattle.ist_rule.specs.Rule.{IsSound}
 use Rattle.ist_rule.specs.Learning.{now, GoesOnTo, Turned, searching}
 use Rattle.ist_rule.proofs.LaterLemmas.{later_more, later-goes_on}
-use Rattle.ist_rule.specs.Authors.{Later}
+use Rattle.ist_core.specs.Authors.{Later}
 use Rattle.ist_histories.specs.Loads.{log_at, IsLoad}
 use Rattle.ist_histories.specs.Searching.{LooksAt, ComesTo, HasPosition}
 use Rattle.ist_walks.specs.Walking.{begins_by}

@@ -9,7 +9,7 @@ use Rattle.ist_core.specs.Pieces.{Change}
 use Rattle.ist_core.specs.References.{InnerAt, RebuildAt, ref_of}
 use Rattle.ist_core.specs.Snapshots.{Snapshot}
 use Rattle.ist_rule.specs.declared.view.View.{View}
-use Rattle.ist_rule.specs.declared.view.Who.TheVariants.{Caller}
+use Rattle.ist_core.specs.declared.events.Who.TheVariants.{Caller}
 use Rattle.ist_rule.specs.Learning.{now}
 
 -- a caller may mark a node where its log has a cause: the node is the target of a started rebuild,

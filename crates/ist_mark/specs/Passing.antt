@@ -9,7 +9,7 @@ use Rattle.ist_core.specs.Snapshots.{Snapshot}
 use Rattle.ist_core.specs.Logs.{Log}
 use Rattle.ist_core.specs.Marking.{IsCalled, IsFrozen, CountsFor}
 use Rattle.ist_rule.specs.declared.view.View.{View}
-use Rattle.ist_rule.specs.declared.view.Who.TheVariants.{Caller}
+use Rattle.ist_core.specs.declared.events.Who.TheVariants.{Caller}
 use Rattle.ist_rule.specs.Learning.{now}
 use Rattle.ist_dcss.specs.Helping.{MayHelp}
 use Rattle.ist_mark.specs.declared.below.Below.{Below}

@@ -7,7 +7,7 @@ use Rattle.ist_core.proofs.GrowingLemmas.{rebuild_there}
 use Rattle.ist_links.proofs.FinishedLemmas.{target_grows}
 use Rattle.ist_links.proofs.FormLemmas.{finished_with_grows}
 use Rattle.ist_rule.specs.declared.view.View.{View}
-use Rattle.ist_rule.specs.declared.view.Who.TheVariants.{Caller as CallerOf}
+use Rattle.ist_core.specs.declared.events.Who.TheVariants.{Caller as CallerOf}
 use Rattle.ist_rule.specs.Going.{WentOn}
 use Rattle.ist_rule.specs.Faces.{SeatFace}
 use Rattle.ist_rule.specs.Learning.{now, GoesOnTo}

@@ -15,9 +15,8 @@ use Rattle.ist_core.proofs.StartLemmas.{sound_start}
 use Rattle.ist_core.proofs.RoomLemmas.{words_same}
 use Rattle.ist_core.proofs.SpendingLemmas.{next-state}
 use Rattle.ist_core.proofs.FateLemmas.{grow_between}
-use Rattle.ist_rule.specs.declared.view.Who.TheVariants.{Caller as CallerOf}
-use Rattle.ist_core.specs.Authors.{no_more, one_more}
-use Rattle.ist_rule.specs.Authors.{Later}
+use Rattle.ist_core.specs.declared.events.Who.TheVariants.{Caller as CallerOf}
+use Rattle.ist_core.specs.Authors.{no_more, one_more, Later}
 use Rattle.ist_rule.specs.Rule.{IsSound}
 use Rattle.ist_rule.proofs.LaterLemmas.{later-goes_on}
 use Rattle.ist_rule.proofs.HeldLemmas.{held_later}

@@ -4,7 +4,7 @@ use Rattle.ist_core.specs.declared.events.Event.{Event}
 use Rattle.ist_core.specs.declared.events.Event.TheVariants.{Lose}
 use Rattle.ist_core.specs.RowLayout.{inner_status_offset}
 use Rattle.ist_rule.specs.declared.view.View.{View}
-use Rattle.ist_rule.specs.declared.view.Who.TheVariants.{Caller as CallerOf}
+use Rattle.ist_core.specs.declared.events.Who.TheVariants.{Caller as CallerOf}
 use Rattle.ist_rule.specs.Faces.{SeatFace}
 use Rattle.ist_rule.specs.Learning.{LoggedLoad, LoadedAs, as_event, as_load}
 use Rattle.ist_rule.specs.Watching.{number_of, past_of, CanLoadPast}

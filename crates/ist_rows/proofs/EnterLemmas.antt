@@ -14,8 +14,8 @@ use Rattle.ist_core.specs.Lawful.{EachEnabled, state_of}
 use Rattle.ist_core.proofs.PlaceLemmas.{placed, claimed_within, next_behind_fixed}
 use Rattle.ist_core.specs.Pieces.{Piece, size_of}
 use Rattle.ist_rule.specs.declared.view.View.{View}
-use Rattle.ist_rule.specs.declared.view.Who.TheVariants.{Maker, Caller as CallerOf, Note}
-use Rattle.ist_rule.specs.Authors.{Later, IsIdleIn}
+use Rattle.ist_core.specs.declared.events.Who.TheVariants.{Maker, Caller as CallerOf, Note}
+use Rattle.ist_core.specs.Authors.{Later, IsIdleIn}
 use Rattle.ist_core.specs.Shown.{IsShown, shown_next, shown_callers, shown_status, shown_slot, shown_row, shown_free}
 use Rattle.ist_rule.specs.Rule.{IsSound}
 use Rattle.ist_rule.specs.Learning.{now, logging, Logged}

@@ -9,7 +9,7 @@ use Rattle.ist_core.specs.declared.events.Event.TheVariants.{Enter, Reserve, Ins
 use Rattle.ist_core.specs.declared.lists.HeldRow.{HeldRow}
 use Rattle.ist_core.specs.declared.pairs.Pair.{Pair}
 use Rattle.ist_core.specs.After.{after}
-use Rattle.ist_core.specs.Authors.{no_more, one_more}
+use Rattle.ist_core.specs.Authors.{no_more, one_more, whose, LaterBy}
 use Rattle.ist_core.specs.Elements.{Among}
 use Rattle.ist_core.specs.Fairness.{AreBuilds}
 use Rattle.ist_core.specs.Lawful.{EachEnabled, Lawful, state_of}
@@ -20,8 +20,7 @@ use Rattle.ist_core.specs.StartLayout.{start}
 use Rattle.ist_core.proofs.ElementLemmas.{among-filter, among_filter}
 use Rattle.ist_core.proofs.FateLemmas.{grow_between}
 use Rattle.ist_core.proofs.RoomLemmas.{words_same}
-use Rattle.ist_rule.specs.declared.view.Who.TheVariants.{Caller as CallerOf}
-use Rattle.ist_rule.specs.Authors.{whose, LaterBy}
+use Rattle.ist_core.specs.declared.events.Who.TheVariants.{Caller as CallerOf}
 use Rattle.ist_rule.proofs.HeldBetweenLemmas.{next_between}
 use Rattle.ist_rule.proofs.HeldLemmas.{held-resolved}
 use Rattle.ist_rows.specs.Kinds.{kind_words}

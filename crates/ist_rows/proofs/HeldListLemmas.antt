@@ -19,9 +19,8 @@ use Rattle.ist_core.proofs.PublishingLemmas.{among_bases}
 use Rattle.ist_core.proofs.MoveLemmas.{HeldLieApart}
 use Rattle.ist_core.proofs.SoundLemmas.{sound}
 use Rattle.ist_core.proofs.StartLemmas.{sound_start}
-use Rattle.ist_rule.specs.declared.view.Who.TheVariants.{Caller}
-use Rattle.ist_core.specs.Authors.{no_more, one_more}
-use Rattle.ist_rule.specs.Authors.{whose, Later}
+use Rattle.ist_core.specs.declared.events.Who.TheVariants.{Caller}
+use Rattle.ist_core.specs.Authors.{no_more, one_more, whose, Later}
 use Rattle.ist_rule.proofs.HeldLemmas.{rows_holder, lost_holder, held-resolved}
 use Rattle.ist_rows.specs.Rows.{held_by}
 

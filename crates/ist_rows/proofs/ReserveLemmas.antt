@@ -7,7 +7,7 @@ use Rattle.ist_core.specs.Fairness.{IsFair}
 use Rattle.ist_core.specs.Lawful.{state_of}
 use Rattle.ist_core.proofs.RoomLemmas.{next_within, words_same}
 use Rattle.ist_rule.specs.declared.view.View.{View}
-use Rattle.ist_rule.specs.declared.view.Who.TheVariants.{Caller}
+use Rattle.ist_core.specs.declared.events.Who.TheVariants.{Caller}
 use Rattle.ist_core.specs.Shown.{shown_next}
 use Rattle.ist_rule.specs.Rule.{IsSound}
 use Rattle.ist_rule.specs.Learning.{now, GoesOnTo, Looked}

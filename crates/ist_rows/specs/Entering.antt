@@ -3,7 +3,7 @@ use Rattle.std.specs.Prelude.{◌≡◌, ℕ, ◌+◌, ◌∷◌}
 use Rattle.ist_core.specs.declared.events.Event.TheVariants.{Enter}
 use Rattle.ist_core.specs.Logs.{Log}
 use Rattle.ist_rule.specs.declared.view.View.{View}
-use Rattle.ist_rule.specs.Authors.{Later}
+use Rattle.ist_core.specs.Authors.{Later}
 
 -- the view that entered the caller behind this log, and has given it its seat
 abbrev pub entering : View → Log → ℕ → View

@@ -7,7 +7,7 @@ use Rattle.ist_core.specs.Snapshots.{Snapshot, HoldsRow}
 use Rattle.ist_core.specs.RowLayout.{next_place}
 use Rattle.ist_core.specs.Fairness.{AreBuilds}
 use Rattle.ist_rule.specs.declared.view.View.{View}
-use Rattle.ist_rule.specs.declared.view.Who.TheVariants.{Caller as CallerOf}
+use Rattle.ist_core.specs.declared.events.Who.TheVariants.{Caller as CallerOf}
 use Rattle.ist_rule.specs.Learning.{now, GoesOnTo, Looked, Logged}
 use Rattle.ist_rows.specs.declared.callers.Caller.{Caller}
 use Rattle.ist_rows.specs.declared.kinds.Kind.{Kind}

@@ -1,8 +1,8 @@
 //! Entering: one caller more.
 ghost use Rattle.std.specs.Prelude.{◌≡◌, ◌+◌, ◌<◌, ◌-◌, ◌^◌, [], None};
 ghost use Rattle.ist_core.specs.Enabled.{caller_limit};
-ghost use Rattle.ist_rule.specs.declared.view.Who.TheVariants.{Maker, Caller as CallerOf};
-ghost use Rattle.ist_rule.specs.Authors.{IsIdleIn};
+ghost use Rattle.ist_core.specs.declared.events.Who.TheVariants.{Maker, Caller as CallerOf};
+ghost use Rattle.ist_core.specs.Authors.{IsIdleIn};
 ghost use Rattle.ist_rule.specs.Learning.{now};
 ghost use Rattle.ist_rule.specs.Seating.{plain};
 ghost use Rattle.ist_rows.specs.Rows.{IsCaller, spares_of, no_spares, held_by};

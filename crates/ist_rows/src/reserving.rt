@@ -1,7 +1,7 @@
 //! Reserving a row of one's own, and filling it.
 ghost use Rattle.std.specs.Prelude.{◌≡◌, ◌+◌, ◌<◌, ◌≤◌, ◌^◌, [], ◌∷◌, IfSome, IfOk, IfErr, Ok};
 ghost use Rattle.ist_core.specs.RowLayout.{inner_words, place_limit};
-ghost use Rattle.ist_rule.specs.declared.view.Who.TheVariants.{Caller as CallerOf};
+ghost use Rattle.ist_core.specs.declared.events.Who.TheVariants.{Caller as CallerOf};
 ghost use Rattle.ist_rule.specs.Faces.{word_count_of};
 ghost use Rattle.ist_rule.specs.Learning.{storing};
 ghost use Rattle.ist_rows.specs.Kinds.{kind_words};

@@ -9,8 +9,8 @@ use Rattle.ist_core.specs.Logs.{Log, state}
 use Rattle.ist_core.specs.Enabled.{Enabled}
 use Rattle.ist_core.specs.Writing.{published_by}
 use Rattle.ist_core.proofs.CallerLemmas.{callers-installed, callers-resolved}
-use Rattle.ist_rule.specs.declared.view.Who.TheVariants.{Maker, Caller, Note}
-use Rattle.ist_rule.specs.Authors.{whose}
+use Rattle.ist_core.specs.declared.events.Who.TheVariants.{Maker, Caller, Note}
+use Rattle.ist_core.specs.Authors.{whose}
 use Rattle.ist_rule.specs.Rule.{IsNamed}
 use Rattle.ist_rule.specs.Learning.{made_behind}
 

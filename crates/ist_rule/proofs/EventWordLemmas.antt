@@ -22,8 +22,8 @@ use Rattle.ist_core.proofs.PlaceLemmas.{next_behind_fixed}
 use Rattle.ist_core.proofs.RoomLemmas.{words-state}
 use Rattle.ist_core.proofs.ImageStepLemmas.{image_step}
 use Rattle.ist_rule.specs.declared.view.View.{View}
-use Rattle.ist_rule.specs.declared.view.Who.TheVariants.{Caller}
-use Rattle.ist_rule.specs.Authors.{whose}
+use Rattle.ist_core.specs.declared.events.Who.TheVariants.{Caller}
+use Rattle.ist_core.specs.Authors.{whose}
 use Rattle.ist_rule.specs.Rule.{own_at, Owns}
 use Rattle.ist_rule.specs.Conditions.{StoredAll}
 use Rattle.ist_rule.proofs.ShownLemmas.{IsLoose, held_loose, touch_tight}

@@ -17,9 +17,8 @@ use Rattle.ist_rule.specs.declared.view.View.{View}
 use Rattle.ist_core.specs.declared.loads.Load.{Load}
 use Rattle.ist_rule.specs.declared.view.Taken.{Taken}
 use Rattle.ist_rule.specs.declared.view.Pending.{Pending}
-use Rattle.ist_rule.specs.declared.view.Who.TheVariants.{Maker, Caller}
-use Rattle.ist_core.specs.Authors.{one_more}
-use Rattle.ist_rule.specs.Authors.{whose, Later}
+use Rattle.ist_core.specs.declared.events.Who.TheVariants.{Maker, Caller}
+use Rattle.ist_core.specs.Authors.{one_more, whose, Later}
 use Rattle.ist_rule.specs.Rule.{Recalls, IsMet, IsWellMade, IsTakenBack, IsTrueIn}
 use Rattle.ist_rule.specs.Standings.{StandsInPrefix, HasMade}
 use Rattle.ist_rule.specs.Learning.{made_behind, logging}

@@ -13,7 +13,7 @@ use Rattle.ist_core.specs.Lawful.{Lawful, state_of}
 use Rattle.ist_rule.specs.declared.view.View.{View}
 use Rattle.ist_rule.specs.declared.view.About.{About}
 use Rattle.ist_rule.specs.declared.view.Taken.{Taken}
-use Rattle.ist_rule.specs.declared.view.Who.TheVariants.{Maker, Caller, Spent}
+use Rattle.ist_core.specs.declared.events.Who.TheVariants.{Maker, Caller, Spent}
 use Rattle.ist_rule.specs.Rule.{IsNamed, HasView, IsRetired, Fits, Kept}
 use Rattle.ist_rule.proofs.FitLemmas.{each_map}
 

@@ -24,9 +24,8 @@ use Rattle.ist_core.proofs.ShapedLemmas.{each-flat_map}
 use Rattle.ist_core.proofs.SoundLemmas.{sound, moves_or_reserves}
 use Rattle.ist_core.proofs.StartLemmas.{sound_start}
 use Rattle.ist_core.specs.Pieces.{as_change}
-use Rattle.ist_rule.specs.declared.view.Who.TheVariants.{Caller}
-use Rattle.ist_core.specs.Authors.{no_more, one_more}
-use Rattle.ist_rule.specs.Authors.{whose, Later, IsIdleIn}
+use Rattle.ist_core.specs.declared.events.Who.TheVariants.{Caller}
+use Rattle.ist_core.specs.Authors.{no_more, one_more, whose, Later, IsIdleIn}
 use Rattle.ist_rule.specs.Standings.{IsBetween}
 use Rattle.ist_rule.proofs.ChangeLemmas.{NoChange}
 use Rattle.ist_rule.proofs.CallLemmas.{installs_not, between_on}

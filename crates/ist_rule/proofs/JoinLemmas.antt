@@ -10,9 +10,9 @@ use Rattle.ist_core.specs.Logs.{Log, GoesOn, same_log}
 use Rattle.ist_rule.specs.declared.view.View.{View}
 use Rattle.ist_rule.specs.declared.view.Taken.{Taken}
 use Rattle.ist_rule.specs.declared.view.About.{About}
-use Rattle.ist_rule.specs.declared.view.Who.{Who}
-use Rattle.ist_rule.specs.declared.view.Who.TheVariants.{Maker, Caller, Note, Spent}
-use Rattle.ist_rule.specs.Authors.{Later}
+use Rattle.ist_core.specs.declared.events.Who.{Who}
+use Rattle.ist_core.specs.declared.events.Who.TheVariants.{Maker, Caller, Note, Spent}
+use Rattle.ist_core.specs.Authors.{Later}
 use Rattle.ist_rule.specs.Standings.{StandsInPrefix, CallStands}
 use Rattle.ist_rule.specs.Rule.{KeepsCalls, its_own, IsNamed, IsMet, IsWellMade, IsTakenBack, IsRetired, HasView, Fits, Kept}
 use Rattle.ist_rule.specs.Learning.{Looked}

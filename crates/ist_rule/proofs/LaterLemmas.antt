@@ -3,9 +3,8 @@
 use Rattle.std.proofs.Common.{◌≢◌, ◌≤◌, length, arith}
 use Rattle.ist_core.specs.declared.events.Event.{Event}
 use Rattle.ist_core.specs.Logs.{Log, GoesOn, same_log, one_event}
-use Rattle.ist_rule.specs.declared.view.Who.{Who}
-use Rattle.ist_core.specs.Authors.{no_more, one_more}
-use Rattle.ist_rule.specs.Authors.{whose, Later, IsIdleIn}
+use Rattle.ist_core.specs.declared.events.Who.{Who}
+use Rattle.ist_core.specs.Authors.{no_more, one_more, whose, Later, IsIdleIn}
 
 -- a prefix of a prefix is a prefix
 pub goes_on_more : {a b c : Log} → GoesOn a b → GoesOn b c → GoesOn a c

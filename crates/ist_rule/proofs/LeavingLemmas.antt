@@ -15,7 +15,7 @@ use Rattle.ist_core.specs.Enabled.{Enabled}
 use Rattle.ist_core.specs.Lawful.{state_of}
 use Rattle.ist_rule.specs.declared.view.View.{View}
 use Rattle.ist_rule.specs.declared.view.About.{About}
-use Rattle.ist_rule.specs.declared.view.Who.TheVariants.{Spent}
+use Rattle.ist_core.specs.declared.events.Who.TheVariants.{Spent}
 use Rattle.ist_core.specs.Shown.{IsShown}
 use Rattle.ist_rule.specs.Rule.{HasView, Kept, IsSound}
 use Rattle.ist_rule.specs.Playing.{Seated, loads_as, exchanges_or_loses}

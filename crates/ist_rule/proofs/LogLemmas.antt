@@ -19,9 +19,8 @@ use Rattle.ist_core.specs.Lawful.{EachEnabled, Lawful, state_of}
 use Rattle.ist_rule.specs.declared.view.View.{View}
 use Rattle.ist_rule.specs.declared.view.Taken.{Taken}
 use Rattle.ist_rule.specs.declared.view.About.{About}
-use Rattle.ist_rule.specs.declared.view.Who.TheVariants.{Caller, Spent}
-use Rattle.ist_core.specs.Authors.{no_more, one_more}
-use Rattle.ist_rule.specs.Authors.{whose}
+use Rattle.ist_core.specs.declared.events.Who.TheVariants.{Caller, Spent}
+use Rattle.ist_core.specs.Authors.{no_more, one_more, whose}
 use Rattle.ist_core.specs.Shown.{IsShown}
 use Rattle.ist_rule.specs.Rule.{IsNamed, IsRetired, Owns, HasView, Fits, Kept, IsSound}
 use Rattle.ist_rule.specs.Playing.{Seated, adds, exchanges}

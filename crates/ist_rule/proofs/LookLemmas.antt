@@ -13,9 +13,8 @@ use Rattle.ist_core.specs.Lawful.{Lawful, state_of}
 use Rattle.ist_rule.specs.declared.view.View.{View}
 use Rattle.ist_core.specs.declared.loads.Load.{Load}
 use Rattle.ist_rule.specs.declared.view.About.{About}
-use Rattle.ist_rule.specs.declared.view.Who.TheVariants.{Caller, Spent}
-use Rattle.ist_core.specs.Authors.{no_more}
-use Rattle.ist_rule.specs.Authors.{Later}
+use Rattle.ist_core.specs.declared.events.Who.TheVariants.{Caller, Spent}
+use Rattle.ist_core.specs.Authors.{no_more, Later}
 use Rattle.ist_core.specs.Shown.{IsShown}
 use Rattle.ist_rule.specs.Rule.{own_at, Recalls, IsRetired, HasView, Fits, Kept, IsSound}
 use Rattle.ist_rule.specs.Playing.{Seated, looks}

@@ -10,8 +10,8 @@ use Rattle.ist_core.specs.Images.{IsImage}
 use Rattle.ist_core.specs.Lawful.{CanOpen, Lawful, state_of}
 use Rattle.ist_rule.specs.declared.view.View.{View}
 use Rattle.ist_rule.specs.declared.view.About.{About}
-use Rattle.ist_rule.specs.declared.view.Who.{Who}
-use Rattle.ist_rule.specs.declared.view.Who.TheVariants.{Maker, Caller, Spent}
+use Rattle.ist_core.specs.declared.events.Who.{Who}
+use Rattle.ist_core.specs.declared.events.Who.TheVariants.{Maker, Caller, Spent}
 use Rattle.ist_core.specs.Authors.{no_more}
 use Rattle.ist_rule.specs.Rule.{KeepsCalls, its_own, noted, IsWellMade, IsTrueIn, IsSound, IsRetired, Fits, Kept, opened_view, first_view}
 use Rattle.ist_rule.specs.Seating.{IsLast}

@@ -6,7 +6,7 @@ use Rattle.ist_core.specs.Logs.{Log}
 use Rattle.ist_core.specs.Lawful.{Lawful}
 use Rattle.ist_rule.specs.declared.view.View.{View}
 use Rattle.ist_rule.specs.declared.view.About.{About}
-use Rattle.ist_rule.specs.declared.view.Who.TheVariants.{Spent}
+use Rattle.ist_core.specs.declared.events.Who.TheVariants.{Spent}
 use Rattle.ist_rule.specs.Rule.{IsWellMade, IsTrueIn, IsSound, Fits}
 
 -- what is true of the table's start and number of words is true of those of a view that fits

@@ -10,8 +10,8 @@ use Rattle.ist_core.specs.Logs.{Log, GoesOn, same_log, one_event}
 use Rattle.ist_rule.specs.declared.view.View.{View}
 use Rattle.ist_rule.specs.declared.view.Taken.{Taken}
 use Rattle.ist_rule.specs.declared.view.About.{About}
-use Rattle.ist_rule.specs.declared.view.Who.{Who}
-use Rattle.ist_rule.specs.declared.view.Who.TheVariants.{Maker, Caller, Note, Spent}
+use Rattle.ist_core.specs.declared.events.Who.{Who}
+use Rattle.ist_core.specs.declared.events.Who.TheVariants.{Maker, Caller, Note, Spent}
 use Rattle.ist_rule.specs.Standings.{StandsInPrefix, CallStands}
 use Rattle.ist_rule.specs.Rule.{KeepsCalls, its_own, noted, IsNamed, IsWellMade, HasView, Fits, Kept}
 use Rattle.ist_rule.specs.Seating.{noted_by, plain}

@@ -4,8 +4,8 @@ use Rattle.std.proofs.lemmas.Bool.Decides.{nat_tests}
 use Rattle.atomic_table.specs.Table.{Splits}
 use Rattle.ist_rule.specs.declared.view.View.{View}
 use Rattle.ist_rule.specs.declared.view.About.{About}
-use Rattle.ist_rule.specs.declared.view.Who.{Who}
-use Rattle.ist_rule.specs.declared.view.Who.TheVariants.{Maker, Caller, Note, Spent}
+use Rattle.ist_core.specs.declared.events.Who.{Who}
+use Rattle.ist_core.specs.declared.events.Who.TheVariants.{Maker, Caller, Note, Spent}
 use Rattle.ist_rule.specs.Standings.{CallStands}
 use Rattle.ist_rule.specs.Rule.{IsSound, HasView, Kept}
 use Rattle.ist_rule.specs.Seating.{is_maker, awaits_seat, noted_by, plain, split_left, split_right}

@@ -17,8 +17,8 @@ use Rattle.ist_core.proofs.PlaceLemmas.{placed, claimed_apart}
 use Rattle.ist_rule.specs.declared.view.View.{View}
 use Rattle.ist_rule.specs.declared.view.OwnWord.{OwnWord}
 use Rattle.ist_rule.specs.declared.view.About.{About}
-use Rattle.ist_rule.specs.declared.view.Who.TheVariants.{Caller, Spent}
-use Rattle.ist_rule.specs.Authors.{Later}
+use Rattle.ist_core.specs.declared.events.Who.TheVariants.{Caller, Spent}
+use Rattle.ist_core.specs.Authors.{Later}
 use Rattle.ist_rule.specs.Rule.{own_at, IsNamed, Owns, HasView, Fits, Kept, IsSound}
 use Rattle.ist_rule.specs.Playing.{Seated, stores}
 use Rattle.ist_rule.specs.Learning.{now, storing}

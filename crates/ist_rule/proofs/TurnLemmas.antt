@@ -12,10 +12,9 @@ use Rattle.ist_core.proofs.ElementLemmas.{each_append}
 use Rattle.ist_rule.specs.declared.view.View.{View}
 use Rattle.ist_rule.specs.declared.view.Pending.{Pending}
 use Rattle.ist_rule.specs.declared.view.About.{About}
-use Rattle.ist_rule.specs.declared.view.Who.{Who}
-use Rattle.ist_rule.specs.declared.view.Who.TheVariants.{Maker, Caller, Note}
-use Rattle.ist_core.specs.Authors.{no_more}
-use Rattle.ist_rule.specs.Authors.{Later}
+use Rattle.ist_core.specs.declared.events.Who.{Who}
+use Rattle.ist_core.specs.declared.events.Who.TheVariants.{Maker, Caller, Note}
+use Rattle.ist_core.specs.Authors.{no_more, Later}
 use Rattle.ist_rule.specs.Standings.{StandsInPrefix, HasMade, IsBetween, CallStands}
 use Rattle.ist_rule.specs.Rule.{KeepsCalls, its_own, noted, Fits}
 use Rattle.ist_rule.specs.Learning.{beginning, searching, ending, giving_up}

@@ -5,7 +5,7 @@ use Rattle.atomic_table.specs.Table.{step, Allows}
 use Rattle.ist_core.specs.declared.calls.Call.{Call}
 use Rattle.ist_core.specs.declared.commands.Command.{Command}
 use Rattle.ist_rule.specs.declared.view.About.{About}
-use Rattle.ist_rule.specs.declared.view.Who.TheVariants.{Spent}
+use Rattle.ist_core.specs.declared.events.Who.TheVariants.{Spent}
 use Rattle.ist_rule.specs.Rule.{Kept}
 use Rattle.ist_rule.specs.Playing.{Seated, begins, searches, ends, gives_up}
 use Rattle.ist_rule.specs.Learning.{beginning, searching, ending, giving_up}

@@ -3,14 +3,13 @@ use Rattle.std.proofs.Common.{◌≡◌, ℕ, ◌+◌, ◌∷◌, refl, sym, ap,
 use Rattle.std.proofs.Math.Nat.{le_trans}
 use Rattle.std.proofs.lemmas.Bool.Decides.{eqb_tells}
 use Rattle.ist_core.specs.declared.events.Event.{Event}
-use Rattle.ist_core.specs.Authors.{no_more, one_more}
+use Rattle.ist_core.specs.Authors.{no_more, one_more, Later, LaterBy}
 use Rattle.ist_core.specs.Growing.{AllGrow}
 use Rattle.ist_core.specs.Logs.{Log, GoesOn, same_log, one_event}
 use Rattle.ist_core.specs.Lawful.{Lawful, state_of}
 use Rattle.ist_core.proofs.FateLemmas.{grow_between}
 use Rattle.ist_rule.specs.declared.view.View.{View}
-use Rattle.ist_rule.specs.declared.view.Who.{Who}
-use Rattle.ist_rule.specs.Authors.{Later, LaterBy}
+use Rattle.ist_core.specs.declared.events.Who.{Who}
 use Rattle.ist_rule.specs.Rule.{IsSound}
 use Rattle.ist_rule.specs.Learning.{now, made_behind, logging, logging_load, GoesOnTo, Looked, Logged, LoggedLoad, Naming, LoadedAs, as_event, as_load, Exchanged, Turned, searching, storing}
 use Rattle.ist_rule.specs.Going.{WentOn}

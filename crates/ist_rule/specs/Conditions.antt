@@ -19,8 +19,8 @@ use Rattle.ist_core.specs.Standing.{StandsIn, IsFresh}
 use Rattle.ist_core.specs.Writing.{touch_of, published_by, first_change}
 use Rattle.ist_rule.specs.declared.view.View.{View}
 use Rattle.ist_rule.specs.declared.view.Pending.{Pending}
-use Rattle.ist_rule.specs.declared.view.Who.TheVariants.{Caller}
-use Rattle.ist_rule.specs.Authors.{whose, Later}
+use Rattle.ist_core.specs.declared.events.Who.TheVariants.{Caller}
+use Rattle.ist_core.specs.Authors.{whose, Later}
 use Rattle.ist_core.specs.Shown.{IsShown}
 use Rattle.ist_rule.specs.Rule.{own_at}
 use Rattle.ist_rule.specs.Standings.{HasMade}

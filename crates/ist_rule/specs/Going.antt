@@ -6,8 +6,8 @@ use Rattle.ist_core.specs.declared.lists.HeldRow.{HeldRow}
 use Rattle.ist_core.specs.Elements.{Among}
 use Rattle.ist_rule.specs.declared.view.View.{View}
 use Rattle.ist_core.specs.declared.loads.Load.{Load}
-use Rattle.ist_rule.specs.declared.view.Who.TheVariants.{Caller}
-use Rattle.ist_rule.specs.Authors.{LaterBy}
+use Rattle.ist_core.specs.declared.events.Who.TheVariants.{Caller}
+use Rattle.ist_core.specs.Authors.{LaterBy}
 use Rattle.ist_rule.specs.Rule.{own_at, IsSound}
 use Rattle.ist_rule.specs.Learning.{now}
 

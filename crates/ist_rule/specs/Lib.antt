@@ -1,5 +1,4 @@
 -- what the public contracts rest on, in the order to read them
-pub mod Authors
 pub mod Standings
 pub mod Rule
 pub mod Faces

@@ -7,9 +7,9 @@ use Rattle.ist_core.specs.Lawful.{Lawful, state_of}
 use Rattle.ist_rule.specs.declared.view.View.{View}
 use Rattle.ist_rule.specs.declared.view.Met.{Met}
 use Rattle.ist_rule.specs.declared.view.Taken.{Taken}
-use Rattle.ist_rule.specs.declared.view.Who.{Who}
-use Rattle.ist_rule.specs.declared.view.Who.TheVariants.{Maker, Caller, Note, Spent}
-use Rattle.ist_rule.specs.Authors.{Later}
+use Rattle.ist_core.specs.declared.events.Who.{Who}
+use Rattle.ist_core.specs.declared.events.Who.TheVariants.{Maker, Caller, Note, Spent}
+use Rattle.ist_core.specs.Authors.{Later}
 use Rattle.ist_rule.specs.Rule.{IsWellMade, IsTrueIn}
 
 -- ---- splitting

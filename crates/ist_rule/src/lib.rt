@@ -20,5 +20,5 @@ pub use plays::{Answered, Asked, Named, NamedByLog, NamedByWord, NamedEitherWay}
 pub use seating::{join, split};
 pub use steps::{add, exchange, exchange_or_lose, load, store};
 pub use table::{TreeSeat, TreeTable, word_count};
-pub use view::{About, Loads, Met, OwnWord, Pending, Taken, TreeRule, View, Who};
+pub use view::{About, Loads, Met, OwnWord, Pending, Taken, TreeRule, View};
 pub use watching::{load_okay, load_pass, load_past};

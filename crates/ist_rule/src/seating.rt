@@ -1,6 +1,6 @@
 //! Splitting a seat in two, and joining one to another.
 ghost use Rattle.std.specs.Prelude.{◌≡◌, ℕ};
-ghost use Rattle.ist_rule.specs.Authors.{Later};
+ghost use Rattle.ist_core.specs.Authors.{Later};
 ghost use Rattle.ist_rule.specs.Learning.{Looked};
 ghost use Rattle.ist_rule.specs.Seating.{split_left, split_right, joined, CanJoin};
 

@@ -1,18 +1,8 @@
 //! What a seat knows, and the rule that ties all views to the words.
 use atomic_table::TableRule;
-use ist_core::{Call, Command, Event, Load, Pair};
+use ist_core::{Call, Command, Event, Load, Pair, Who};
 use std::collections::LinkedList;
 use std::snapshot::Snapshot;
-
-/// Whose seat it is. A maker's enters callers, a caller's makes all other events, a note's none.
-pub enum Who {
-    Maker,
-    Caller(u64),
-    /// The note of a caller, if it was split from one.
-    Note(Option<u64>),
-    /// A seat that was joined away.
-    Spent,
-}
 
 /// A word that the seat stored into a row of its own.
 pub struct OwnWord {

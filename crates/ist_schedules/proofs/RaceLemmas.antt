@@ -21,7 +21,7 @@ use Rattle.ist_core.proofs.ReferenceLemmas.{ref_of-word_of}
 use Rattle.ist_core.proofs.RowLemmas.{with_row-same, with_inners-other}
 use Rattle.ist_rebuilds.proofs.FewLeafLemmas.{leaves_stand}
 use Rattle.ist_rule.specs.declared.view.View.{View}
-use Rattle.ist_rule.specs.declared.view.Who.TheVariants.{Caller as CallerOf}
+use Rattle.ist_core.specs.declared.events.Who.TheVariants.{Caller as CallerOf}
 use Rattle.ist_core.specs.Shown.{IsShown, shown_row}
 use Rattle.ist_rule.specs.Rule.{IsSound, own_at}
 use Rattle.ist_rule.specs.Learning.{now, Looked, ExchangedOrLost}

@@ -11,7 +11,7 @@ use Rattle.ist_core.specs.Leaves.{HasLeaves}
 use Rattle.ist_core.specs.Marking.{HasTarget}
 use Rattle.ist_core.specs.Rebuilding.{IsStarted}
 use Rattle.ist_rule.specs.declared.view.View.{View}
-use Rattle.ist_rule.specs.declared.view.Who.TheVariants.{Caller}
+use Rattle.ist_core.specs.declared.events.Who.TheVariants.{Caller}
 use Rattle.ist_rule.specs.Learning.{now}
 use Rattle.ist_rule.specs.Conditions.{StoredAll}
 use Rattle.ist_rule.specs.Watching.{number_of}

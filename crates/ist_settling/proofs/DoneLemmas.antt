@@ -2,11 +2,12 @@
 use Rattle.std.proofs.Common.{List, Some, ap, arith, inl, inr, refl, subst, sym, ℕ, ⊎_elim, ◌+◌, ◌<◌, ◌∙◌, ◌∷◌, ◌≡◌, ◌≢◌, ◌≤◌, ◌⊎◌}
 use Rattle.ist_core.specs.declared.events.Event.TheVariants.{Count, Decide, Draw, Enter, Finish, Install, Lose, Mark, Okay, Pass, Place, Reserve, Resolve, Root}
 use Rattle.ist_core.specs.declared.events.Event.{Event}
+use Rattle.ist_core.specs.declared.events.Who.TheVariants.{Caller}
 use Rattle.ist_core.specs.declared.pairs.Pair.{Pair}
 use Rattle.ist_core.specs.declared.states.ChangeRow.{ChangeRow}
 use Rattle.ist_core.specs.declared.states.InnerRow.{InnerRow}
 use Rattle.ist_core.specs.Arithmetic.{limit}
-use Rattle.ist_core.specs.Authors.{GoesOnBy, author, no_more, one_more}
+use Rattle.ist_core.specs.Authors.{GoesOnBy, whose, no_more, one_more}
 use Rattle.ist_core.specs.Deciding.{AllResolvedOf}
 use Rattle.ist_core.specs.Elements.{Among}
 use Rattle.ist_core.specs.Lawful.{CanOpen, EachEnabled, state_of}
@@ -176,11 +177,11 @@ module _ (pairs : List Pair) (words : ℕ) (opens : CanOpen pairs words) where
 
 -- ---- events of others
 
--- an event of another author is no Install of the caller, of a start or of anything
-pub others_start_nothing : (caller : ℕ) (event : Event) → author event ≢ Some caller
+-- an event of another is no Install of the caller, of a start or of anything
+pub others_start_nothing : (caller : ℕ) (event : Event) → whose event ≢ Caller caller
     → InstallsNoStart caller event
 others_start_nothing caller (Install by base rows) other =
-    λ same change is kind. other (ap Some same)
+    λ same change is kind. other (ap Caller same)
 others_start_nothing caller (Enter by) other = tt
 others_start_nothing caller (Reserve by base size) other = tt
 others_start_nothing caller (Okay by base) other = tt
@@ -196,9 +197,9 @@ others_start_nothing caller (Place by rebuild i word rows) other = tt
 others_start_nothing caller (Lose by bases) other = tt
 
 -- nor a Count of it
-pub others_count_nothing : (caller : ℕ) (event : Event) → author event ≢ Some caller
+pub others_count_nothing : (caller : ℕ) (event : Event) → whose event ≢ Caller caller
     → CountsNothing caller event
-others_count_nothing caller (Count by at) other node counts = other (ap Some counts.0)
+others_count_nothing caller (Count by at) other node counts = other (ap Caller counts.0)
 others_count_nothing caller (Install by base rows) other node counts = counts
 others_count_nothing caller (Enter by) other node counts = counts
 others_count_nothing caller (Reserve by base size) other node counts = counts

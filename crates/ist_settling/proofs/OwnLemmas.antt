@@ -2,9 +2,10 @@
 use Rattle.std.proofs.Common.{List, Some, ap, inl, inr, refl, subst, sym, ℕ, ⊎_elim, ◌∙◌, ◌∷◌, ◌≡◌, ◌≢◌, ◌⊎◌}
 use Rattle.ist_core.specs.declared.events.Event.TheVariants.{Decide, Install}
 use Rattle.ist_core.specs.declared.events.Event.{Event}
+use Rattle.ist_core.specs.declared.events.Who.TheVariants.{Caller}
 use Rattle.ist_core.specs.declared.pairs.Pair.{Pair}
 use Rattle.ist_core.specs.declared.states.ChangeRow.{ChangeRow}
-use Rattle.ist_core.specs.Authors.{GoesOnByOthers, author, no_more, one_more}
+use Rattle.ist_core.specs.Authors.{Later, whose, no_more, one_more}
 use Rattle.ist_core.specs.Deciding.{AllResolvedOf}
 use Rattle.ist_core.specs.Lawful.{CanOpen, EachEnabled, state_of}
 use Rattle.ist_core.specs.Logs.{GoesOn, Log, one_event, same_log}
@@ -67,7 +68,7 @@ module _ (pairs : List Pair) (words : ℕ) where
           (rest can.change can.pending.published)
 
   -- where others alone went on, it stood there
-  pub others_none : (earlier log : Log) (caller : ℕ) → GoesOnByOthers (Some caller) earlier log
+  pub others_none : (earlier log : Log) (caller : ℕ) → Later (Caller caller) earlier log
       → EachEnabled (start pairs words) log → (base : ℕ) (x : ChangeRow)
       → (state_of pairs words log).pieces base ≡ Some (Change x) → x.owner ≡ caller
       → HasChange (state_of pairs words earlier) base
@@ -77,7 +78,7 @@ module _ (pairs : List Pair) (words : ℕ) where
 module _ (pairs : List Pair) (words : ℕ) (opens : CanOpen pairs words) where
   -- a change of a caller whose changes were all resolved is what it was
   pub own_change_stays : (earlier : Log) (caller : ℕ) (log : Log)
-      → GoesOnByOthers (Some caller) earlier log → EachEnabled (start pairs words) log
+      → Later (Caller caller) earlier log → EachEnabled (start pairs words) log
       → AllResolvedOf (state_of pairs words earlier) earlier caller
       → (base : ℕ) (x : ChangeRow) → (state_of pairs words log).pieces base ≡ Some (Change x)
       → x.owner ≡ caller
@@ -89,14 +90,14 @@ module _ (pairs : List Pair) (words : ℕ) (opens : CanOpen pairs words) where
       (λ y old mine. own_change_stays earlier caller log later h.0 resolved base y old mine)
     where
       at : (event : Event) → EachEnabled (start pairs words) (event ∷ log)
-          → author event ≢ Some caller
+          → whose event ≢ Caller caller
           → ChangeComes (start pairs words) log base x event
           → ((y : ChangeRow) → (state_of pairs words log).pieces base ≡ Some (Change y)
           → y.owner ≡ caller → (state_of pairs words earlier).pieces base ≡ Some (Change y))
           → (state_of pairs words earlier).pieces base ≡ Some (Change x)
       at event all else_by (change_was old) before = before x old own
       at _ all else_by (is_installed {caller = by} k is) before =
-          absurd (else_by (ap (λ c. Some c) (sym k.owned ∙ ap (λ y. y.owner) (sym is) ∙ own)))
+          absurd (else_by (ap Caller (sym k.owned ∙ ap (λ y. y.owner) (sym is) ∙ own)))
       at _ all else_by (is_decided k is) before =
           let old = before k.change k.pending.published (ap (λ y. y.owner) (sym is) ∙ own) in
           let happened = resolved base k.change old (ap (λ y. y.owner) (sym is) ∙ own) in

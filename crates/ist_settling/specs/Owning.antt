@@ -1,10 +1,11 @@
 -- The laws over lawful logs on changes and the callers that install them. `src/laws.rt` lists them.
 use Rattle.std.specs.Prelude.{List, Some, ℕ, ◌<◌, ◌∷◌, ◌≡◌, ◌⊎◌}
 use Rattle.ist_core.specs.declared.events.Event.TheVariants.{Install}
+use Rattle.ist_core.specs.declared.events.Who.TheVariants.{Caller}
 use Rattle.ist_core.specs.declared.lists.Row.{Row}
 use Rattle.ist_core.specs.declared.pairs.Pair.{Pair}
 use Rattle.ist_core.specs.declared.states.ChangeRow.{ChangeRow}
-use Rattle.ist_core.specs.Authors.{GoesOnByOthers}
+use Rattle.ist_core.specs.Authors.{Later}
 use Rattle.ist_core.specs.Deciding.{AllResolvedOf}
 use Rattle.ist_core.specs.Installing.{IsUnrefused}
 use Rattle.ist_core.specs.Lawful.{Lawful, state_of}
@@ -47,7 +48,7 @@ ChangesComeByInstalls =
 abbrev pub OthersInstallNoOwn : Type 0
 OthersInstallNoOwn =
     (pairs : List Pair) (words : ℕ) (earlier log : Log) → Lawful pairs words log → (caller : ℕ)
-    → GoesOnByOthers (Some caller) earlier log → (base : ℕ) (change : ChangeRow)
+    → Later (Caller caller) earlier log → (base : ℕ) (change : ChangeRow)
     → (state_of pairs words log).pieces base ≡ Some (Change change) → change.owner ≡ caller
     → HasChange (state_of pairs words earlier) base
 
@@ -55,7 +56,7 @@ OthersInstallNoOwn =
 abbrev pub ResolvedChangesStay : Type 0
 ResolvedChangesStay =
     (pairs : List Pair) (words : ℕ) (earlier log : Log) → Lawful pairs words log → (caller : ℕ)
-    → GoesOnByOthers (Some caller) earlier log
+    → Later (Caller caller) earlier log
     → AllResolvedOf (state_of pairs words earlier) earlier caller
     → (base : ℕ) (change : ChangeRow)
     → (state_of pairs words log).pieces base ≡ Some (Change change) → change.owner ≡ caller

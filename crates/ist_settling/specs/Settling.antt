@@ -2,11 +2,12 @@
 use Rattle.std.specs.Prelude.{List, Some, ℕ, ◌+◌, ◌<◌, ◌∷◌, ◌≡◌, ◌≢◌, ◌≤◌, ◌⊎◌}
 use Rattle.ist_core.specs.declared.events.Event.TheVariants.{Count, Install}
 use Rattle.ist_core.specs.declared.events.Event.{Event}
+use Rattle.ist_core.specs.declared.events.Who.TheVariants.{Caller}
 use Rattle.ist_core.specs.declared.pairs.Pair.{Pair}
 use Rattle.ist_core.specs.declared.states.ChangeRow.{ChangeRow}
 use Rattle.ist_core.specs.declared.states.InnerRow.{InnerRow}
 use Rattle.ist_core.specs.Arithmetic.{limit}
-use Rattle.ist_core.specs.Authors.{GoesOnBy, GoesOnByOthers}
+use Rattle.ist_core.specs.Authors.{GoesOnBy, Later}
 use Rattle.ist_core.specs.Deciding.{AllResolvedOf}
 use Rattle.ist_core.specs.Lawful.{Lawful, state_of}
 use Rattle.ist_core.specs.Links.{WasOnChain}
@@ -98,7 +99,7 @@ CountsNothing caller event = (node : ℕ) → ¬ (Counts caller node event)
 abbrev pub StartsStayDone : Type 0
 StartsStayDone =
     (pairs : List Pair) (words : ℕ) (earlier log : Log) → Lawful pairs words log → (caller : ℕ)
-    → GoesOnByOthers (Some caller) earlier log
+    → Later (Caller caller) earlier log
     → AllResolvedOf (state_of pairs words earlier) earlier caller
     → StartsAreDone (state_of pairs words earlier) caller
     → StartsAreDone (state_of pairs words log) caller
@@ -107,7 +108,7 @@ StartsStayDone =
 abbrev pub DueRowsStayClosed : Type 0
 DueRowsStayClosed =
     (pairs : List Pair) (words : ℕ) (earlier log : Log) → Lawful pairs words log → (caller : ℕ)
-    → GoesOnByOthers (Some caller) earlier log
+    → Later (Caller caller) earlier log
     → DueRowsAreClosed (start pairs words) earlier caller
     → DueRowsAreClosed (start pairs words) log caller
 

@@ -2,6 +2,7 @@
 use Rattle.std.proofs.Common.{List, None, Some, ap, length, refl, subst, sym, ℕ, ◌+◌, ◌∙◌, ◌≡◌, ◌≢◌}
 use Rattle.ist_core.specs.declared.events.Event.{Event}
 use Rattle.ist_core.specs.declared.events.Event.TheVariants.{Count, Decide, Draw, Enter, Finish, Install, Lose, Mark, Okay, Pass, Place, Reserve, Resolve, Root}
+use Rattle.ist_core.specs.declared.events.Who.TheVariants.{Caller}
 use Rattle.ist_core.specs.declared.lists.HeldRow.{HeldRow}
 use Rattle.ist_core.specs.declared.lists.Row.{Row}
 use Rattle.ist_core.specs.declared.pairs.Pair.{Pair}
@@ -31,7 +32,7 @@ use Rattle.ist_links.proofs.FormLemmas.{finished_with_grows, started_grows}
 use Rattle.ist_links.proofs.FormedLemmas.{rooted_is_finished}
 use Rattle.ist_links.proofs.InductionLemmas.{sound_behind}
 use Rattle.ist_links.specs.Linking.{IsFinished}
-use Rattle.ist_core.specs.Authors.{GoesOnByOthers, author}
+use Rattle.ist_core.specs.Authors.{Later, whose}
 use Rattle.ist_core.specs.Shown.{IsShown}
 use Rattle.ist_stability.specs.Words.{FindsItsWord}
 use Rattle.ist_stability.proofs.HoldingLemmas.{rows_later}
@@ -43,8 +44,8 @@ use Rattle.ist_core.proofs.ShownLemmas.{row_word}
 
 -- a Draw of a caller is its own event
 draws_own : (caller rebuild part : ℕ) (event : Event) → Draws caller rebuild part event
-    → author event ≡ Some caller
-draws_own caller rebuild part (Draw c o p) is = ap Some is.0
+    → whose event ≡ Caller caller
+draws_own caller rebuild part (Draw c o p) is = ap Caller is.0
 draws_own caller rebuild part (Enter c) is = absurd is
 draws_own caller rebuild part (Reserve c base size) is = absurd is
 draws_own caller rebuild part (Install c change rows) is = absurd is
@@ -72,7 +73,7 @@ held_free t caller rows s held base among =
 
 module _ (pairs : List Pair) (words : ℕ) (opens : CanOpen pairs words) {earlier log : Log}
     (caller : ℕ)
-    (later : GoesOnByOthers (Some caller) earlier log)
+    (later : Later (Caller caller) earlier log)
     (h : EachEnabled (start pairs words) log) where
   on : GoesOn earlier log
   on = goes_on later
@@ -161,7 +162,7 @@ module _ (pairs : List Pair) (words : ℕ) (opens : CanOpen pairs words) {earlie
     where
       back : (old : ℕ) → Happened (Draws caller rebuild old) log
           → Happened (Draws caller rebuild old) earlier
-      back old is = done_before (Draws caller rebuild old) (Some caller)
+      back old is = done_before (Draws caller rebuild old) (Caller caller)
           (draws_own caller rebuild old) later is
 
   -- so does a Draw whose part is named still

@@ -4,6 +4,7 @@ use Rattle.std.proofs.Common.{List, Option, Some, [], ap, false, inl, inr, optio
 use Rattle.std.proofs.lemmas.Bool.Decides.{eqb_tells}
 use Rattle.ist_core.specs.declared.events.Event.{Event}
 use Rattle.ist_core.specs.declared.events.Event.TheVariants.{Count, Decide, Draw, Enter, Finish, Install, Lose, Mark, Okay, Pass, Place, Reserve, Resolve, Root}
+use Rattle.ist_core.specs.declared.events.Who.TheVariants.{Caller}
 use Rattle.ist_core.specs.declared.pairs.Pair.{Pair}
 use Rattle.ist_core.specs.declared.states.ChangeRow.{ChangeRow}
 use Rattle.ist_core.specs.Deciding.{CanCount, IsUpdateOf, SaysYes}
@@ -20,14 +21,14 @@ use Rattle.ist_core.proofs.GrowingLemmas.{change_there}
 use Rattle.ist_core.proofs.RowLemmas.{changed_at-same}
 use Rattle.ist_links.proofs.InductionLemmas.{grow_behind}
 use Rattle.ist_stability.specs.Meanwhile.{NoneAccepted}
-use Rattle.ist_core.specs.Authors.{GoesOnByOthers, author, no_more, one_more}
+use Rattle.ist_core.specs.Authors.{Later, whose, no_more, one_more}
 use Rattle.ist_core.proofs.CallerLemmas.{known_step}
 use Rattle.ist_stability.proofs.OwnLemmas.{Was, own_was}
 
 -- a Count of a caller is its own event
 counts_own : (caller node : ℕ) (event : Event) → Counts caller node event
-    → author event ≡ Some caller
-counts_own caller node (Count c n) is = ap Some is.0
+    → whose event ≡ Caller caller
+counts_own caller node (Count c n) is = ap Caller is.0
 counts_own caller node (Enter c) is = absurd is
 counts_own caller node (Reserve c base size) is = absurd is
 counts_own caller node (Install c change rows) is = absurd is
@@ -182,7 +183,7 @@ module _ (pairs : List Pair) (words : ℕ) where
 
   module _ (caller : ℕ) where
     -- where another's event says yes to an update of the caller, it was pending when others began
-    yes_meanwhile : {earlier log : Log} (event : Event) → GoesOnByOthers (Some caller) earlier log
+    yes_meanwhile : {earlier log : Log} (event : Event) → Later (Caller caller) earlier log
         → EachEnabled (start pairs words) (event ∷ log)
         → NoneAccepted (state_of pairs words earlier) (state_of pairs words (event ∷ log)) caller
         → ¬ (SaysYes (state_of pairs words (event ∷ log)) caller event)
@@ -226,7 +227,7 @@ module _ (pairs : List Pair) (words : ℕ) where
 
     -- a Count stays over one event of another
     count_step : (log : Log) (event : Event) → EachEnabled (start pairs words) (event ∷ log)
-        → author event ≢ Some caller → ¬ (SaysYes (state_of pairs words (event ∷ log)) caller event)
+        → whose event ≢ Caller caller → ¬ (SaysYes (state_of pairs words (event ∷ log)) caller event)
         → (node : ℕ)
         → CanCount (start pairs words) log caller node
         → CanCount (start pairs words) (event ∷ log) caller node
@@ -261,7 +262,7 @@ module _ (pairs : List Pair) (words : ℕ) where
         }
 
     -- a Count stays where no put or remove of the caller is decided yes
-    pub count_stays : {earlier log : Log} → GoesOnByOthers (Some caller) earlier log
+    pub count_stays : {earlier log : Log} → Later (Caller caller) earlier log
         → EachEnabled (start pairs words) log → (node : ℕ)
         → CanCount (start pairs words) earlier caller node
         → NoneAccepted (state_of pairs words earlier) (state_of pairs words log) caller

@@ -5,6 +5,7 @@ use Rattle.std.specs.List.{list_any}
 use Rattle.std.proofs.lemmas.Bool.Decides.{eqb_tells}
 use Rattle.ist_core.specs.declared.events.Event.{Event}
 use Rattle.ist_core.specs.declared.events.Event.TheVariants.{Count, Decide, Draw, Enter, Finish, Install, Lose, Mark, Okay, Pass, Place, Reserve, Resolve, Root}
+use Rattle.ist_core.specs.declared.events.Who.TheVariants.{Caller}
 use Rattle.ist_core.specs.declared.lists.HeldRow.{HeldRow}
 use Rattle.ist_core.specs.declared.lists.Row.{Row}
 use Rattle.ist_core.specs.declared.pairs.Pair.{Pair}
@@ -22,7 +23,7 @@ use Rattle.ist_core.proofs.ElementLemmas.{among-filter, among_filter, each-among
 use Rattle.ist_core.proofs.MoveLemmas.{HeldLieApart}
 use Rattle.ist_core.proofs.PublishingLemmas.{among_bases, row_among}
 use Rattle.ist_links.proofs.InductionLemmas.{sound_behind}
-use Rattle.ist_core.specs.Authors.{GoesOnByOthers, author, no_more, one_more}
+use Rattle.ist_core.specs.Authors.{Later, whose, no_more, one_more}
 
 -- ---- whose a held row is
 
@@ -107,25 +108,25 @@ held-resolved t (Some change) = refl
 
 -- an event of another leaves what a caller holds, in its order
 own_step : (first : Snapshot) (log : Log) (event : Event) → Enabled first log event
-    → HeldLieApart (state first log) → (number : ℕ) → author event ≢ Some number
+    → HeldLieApart (state first log) → (number : ℕ) → whose event ≢ Caller number
     → filter (λ h. h.caller == number) (state first (event ∷ log)).held
     ≡ filter (λ h. h.caller == number) (state first log).held
 own_step first log (Install caller change rows) can s number other =
-    own_kept (state first log) number caller (bases_of rows) (λ e. other (ap Some e))
+    own_kept (state first log) number caller (bases_of rows) (λ e. other (ap Caller e))
     (rows_holder (state first log) caller rows s can.held)
 own_step first log (Root caller rebuild word rows) can s number other =
-    own_kept (state first log) number caller (bases_of rows) (λ e. other (ap Some e))
+    own_kept (state first log) number caller (bases_of rows) (λ e. other (ap Caller e))
     (rows_holder (state first log) caller rows s can.held)
 own_step first log (Place caller rebuild part word rows) can s number other =
-    own_kept (state first log) number caller (bases_of rows) (λ e. other (ap Some e))
+    own_kept (state first log) number caller (bases_of rows) (λ e. other (ap Caller e))
     (rows_holder (state first log) caller rows s can.held)
 own_step first log (Lose caller bases) can s number other =
-    own_kept (state first log) number caller bases (λ e. other (ap Some e))
+    own_kept (state first log) number caller bases (λ e. other (ap Caller e))
     (lost_holder (state first log) log caller bases s can)
 own_step first log (Reserve caller base size) can s number other =
     filter_last (λ h. h.caller == number) (state first log).held
     record { caller = caller; base = base; size = size }
-    (other_caller caller number (λ e. other (ap Some e)))
+    (other_caller caller number (λ e. other (ap Caller e)))
 own_step first log (Resolve caller change) can s number other =
     ap (filter (λ h. h.caller == number))
     (held-resolved (state first log) (as_change ((state first log).pieces change)))
@@ -140,7 +141,7 @@ own_step first log (Draw caller rebuild part) can s number other = refl
 
 module _ (pairs : List Pair) (words : ℕ) (number : ℕ) where
   -- so do all events of others
-  own_later : {earlier log : Log} → GoesOnByOthers (Some number) earlier log
+  own_later : {earlier log : Log} → Later (Caller number) earlier log
       → EachEnabled (start pairs words) log
       → filter (λ h. h.caller == number) (state_of pairs words log).held
       ≡ filter (λ h. h.caller == number) (state_of pairs words earlier).held
@@ -150,14 +151,14 @@ module _ (pairs : List Pair) (words : ℕ) (number : ℕ) where
       ∙ own_later later h.0
 
   -- the sizes that a caller holds stay
-  pub sizes_later : {earlier log : Log} → GoesOnByOthers (Some number) earlier log
+  pub sizes_later : {earlier log : Log} → Later (Caller number) earlier log
       → EachEnabled (start pairs words) log
       → sizes_held (state_of pairs words log) number ≡ sizes_held
       (state_of pairs words earlier) number
   sizes_later later h = ap (map (λ row. row.size)) (own_later later h)
 
   -- a row that a caller holds stays held
-  pub holds_later : {earlier log : Log} → GoesOnByOthers (Some number) earlier log
+  pub holds_later : {earlier log : Log} → Later (Caller number) earlier log
       → EachEnabled (start pairs words) log → (base size : ℕ)
       → HoldsRow (state_of pairs words earlier) number base size
       → HoldsRow (state_of pairs words log) number base size
@@ -170,7 +171,7 @@ module _ (pairs : List Pair) (words : ℕ) (number : ℕ) where
       (among_filter (λ x. x.caller == number) row (state_of pairs words earlier).held i own))).0
 
   -- so do rows
-  pub rows_later : {earlier log : Log} → GoesOnByOthers (Some number) earlier log
+  pub rows_later : {earlier log : Log} → Later (Caller number) earlier log
       → EachEnabled (start pairs words) log → (rows : List Row)
       → HoldsRows (state_of pairs words earlier) number rows
       → HoldsRows (state_of pairs words log) number rows
@@ -179,7 +180,7 @@ module _ (pairs : List Pair) (words : ℕ) (number : ℕ) where
       (holds_later later h row.base (length row.words) held.0, rows_later later h rows held.1)
 
   -- and rows given by their bases and sizes
-  pub bases_later : {earlier log : Log} → GoesOnByOthers (Some number) earlier log
+  pub bases_later : {earlier log : Log} → Later (Caller number) earlier log
       → EachEnabled (start pairs words) log → (bases sizes : List ℕ)
       → HoldsSizes (state_of pairs words earlier) number bases sizes
       → HoldsSizes (state_of pairs words log) number bases sizes

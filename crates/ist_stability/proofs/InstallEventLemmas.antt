@@ -1,6 +1,7 @@
 -- An Install stays enabled under events of others. Serves its clause.
 use Rattle.std.proofs.Common.{List, Some, ap, arith, inl, inr, length, slice_get, subst, sym, ℕ, ⊎_elim, ◌∙◌, ◌≡◌, ◌≢◌, ◌≤◌}
 use Rattle.ist_core.specs.declared.events.Event.TheVariants.{Install}
+use Rattle.ist_core.specs.declared.events.Who.TheVariants.{Caller}
 use Rattle.ist_core.specs.declared.lists.Row.{Row}
 use Rattle.ist_core.specs.declared.pairs.Pair.{Pair}
 use Rattle.ist_core.specs.declared.states.ChangeRow.{ChangeRow}
@@ -27,7 +28,7 @@ use Rattle.ist_core.proofs.PlaceLemmas.{anchor_free}
 use Rattle.ist_core.proofs.SlotLemmas.{slot_once}
 use Rattle.ist_links.proofs.FormLemmas.{leaf_of_grows, room_grows, started_grows}
 use Rattle.ist_stability.specs.Meanwhile.{NoneRefused}
-use Rattle.ist_core.specs.Authors.{GoesOnByOthers}
+use Rattle.ist_core.specs.Authors.{Later}
 use Rattle.ist_stability.specs.Words.{FindsItsWord}
 use Rattle.ist_stability.proofs.HoldingLemmas.{rows_later}
 use Rattle.ist_stability.proofs.LaterLemmas.{ever_later, goes_on, known_later}
@@ -210,7 +211,7 @@ module _ (pairs : List Pair) (words : ℕ) (opens : CanOpen pairs words) {earlie
 
 module _ (pairs : List Pair) (words : ℕ) (opens : CanOpen pairs words) {earlier log : Log}
     (caller : ℕ)
-    (later : GoesOnByOthers (Some caller) earlier log)
+    (later : Later (Caller caller) earlier log)
     (h : EachEnabled (start pairs words) log) where
   -- an Install stays where `from` is in its slot and no change of the caller on the node is decided
   -- no

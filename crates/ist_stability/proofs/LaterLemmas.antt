@@ -1,8 +1,10 @@
 -- Logs that have gone on: what happened or was true stays so, and callers only come. Serves each
 -- clause.
-use Rattle.std.proofs.Common.{None, Option, inr, refl, ℕ, ⊎_elim, ◌<◌, ◌∙◌, ◌≡◌}
+use Rattle.std.proofs.Common.{inr, refl, ℕ, ⊎_elim, ◌<◌, ◌∙◌, ◌≡◌}
 use Rattle.ist_core.specs.declared.events.Event.{Event}
-use Rattle.ist_core.specs.Authors.{GoesOnBy, GoesOnByOthers, author, no_more, one_more}
+use Rattle.ist_core.specs.declared.events.Who.{Who}
+use Rattle.ist_core.specs.declared.events.Who.TheVariants.{Maker}
+use Rattle.ist_core.specs.Authors.{GoesOnBy, Later, whose, no_more, one_more}
 use Rattle.ist_core.specs.Logs.{Ever, GoesOn, Happened, Log, one_event, same_log, state}
 use Rattle.ist_core.specs.Snapshots.{Snapshot}
 use Rattle.ist_core.proofs.CallerLemmas.{callers_step, known_step}
@@ -25,10 +27,10 @@ pub ever_later : (first : Snapshot) (P : Snapshot → Type 0) {earlier log : Log
 ever_later first P same_log h = h
 ever_later first P (one_event event g) h = inr (ever_later first P g h)
 
--- what only one author's events do was done before, where others made the events
-pub done_before : (P : Event → Type 0) (who : Option ℕ)
-    → ((event : Event) → P event → author event ≡ who)
-    → {earlier log : Log} → GoesOnByOthers who earlier log → Happened P log → Happened P earlier
+-- what only one's events do was done before, where others made the events
+pub done_before : (P : Event → Type 0) (who : Who)
+    → ((event : Event) → P event → whose event ≡ who)
+    → {earlier log : Log} → Later who earlier log → Happened P log → Happened P earlier
 done_before P who own no_more h = h
 done_before P who own (one_more event later other) h =
     ⊎_elim (λ now. absurd (other (own event now))) (λ old. done_before P who own later old) h
@@ -43,7 +45,7 @@ known_later first (one_event {log = log} event g) caller low =
     known_step first log event caller (known_later first g caller low)
 
 -- where the maker does nothing, no one comes
-pub callers_later : (first : Snapshot) {earlier log : Log} → GoesOnByOthers None earlier log
+pub callers_later : (first : Snapshot) {earlier log : Log} → Later Maker earlier log
     → (state first log).callers ≡ (state first earlier).callers
 callers_later first no_more = refl
 callers_later first (one_more {log = log} event later other) =

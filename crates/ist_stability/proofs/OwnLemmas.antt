@@ -3,9 +3,10 @@
 use Rattle.std.proofs.Common.{List, Option, Some, ap, subst, sym, ℕ, ⊎_elim, ◌∙◌, ◌≡◌, ◌≢◌}
 use Rattle.std.proofs.lemmas.Bool.Decides.{eqb_tells}
 use Rattle.ist_core.specs.declared.events.Event.{Event}
+use Rattle.ist_core.specs.declared.events.Who.TheVariants.{Caller}
 use Rattle.ist_core.specs.declared.pairs.Pair.{Pair}
 use Rattle.ist_core.specs.declared.states.ChangeRow.{ChangeRow}
-use Rattle.ist_core.specs.Authors.{GoesOnByOthers, author, no_more, one_more}
+use Rattle.ist_core.specs.Authors.{Later, whose, no_more, one_more}
 use Rattle.ist_core.specs.Growing.{ChangeGrows}
 use Rattle.ist_core.specs.Installing.{IsUnrefused}
 use Rattle.ist_core.specs.Lawful.{EachEnabled, state_of}
@@ -29,7 +30,7 @@ pub record Was (t u : Snapshot) (base : ℕ) (x : ChangeRow) : Type 0 where
 
 module _ (pairs : List Pair) (words : ℕ) (caller : ℕ) where
   -- where others made the events, a change of the caller stood there before
-  own_before : {earlier log : Log} → GoesOnByOthers (Some caller) earlier log
+  own_before : {earlier log : Log} → Later (Caller caller) earlier log
       → EachEnabled (start pairs words) log → (base : ℕ) (x : ChangeRow)
       → (state_of pairs words log).pieces base ≡ Some (Change x) → x.owner ≡ caller
       → (old : ChangeRow) × ((state_of pairs words earlier).pieces base ≡ Some (Change old))
@@ -37,7 +38,7 @@ module _ (pairs : List Pair) (words : ℕ) (caller : ℕ) where
   own_before {earlier = earlier} (one_more {log = log} event later other) h base x e own =
       at event other (change_comes pairs words log event h base x e) (own_before later h.0 base)
     where
-      at : (event : Event) → author event ≢ Some caller
+      at : (event : Event) → whose event ≢ Caller caller
           → ChangeComes (start pairs words) log base x event
           → ((y : ChangeRow) → (state_of pairs words log).pieces base ≡ Some (Change y)
           → y.owner ≡ caller
@@ -45,12 +46,12 @@ module _ (pairs : List Pair) (words : ℕ) (caller : ℕ) where
           → (old : ChangeRow) × ((state_of pairs words earlier).pieces base ≡ Some (Change old))
       at event out (change_was old) before = before x old own
       at _ out (is_installed {caller = c} can is) before =
-          absurd (out (ap Some (sym can.owned ∙ ap (λ y. y.owner) (sym is) ∙ own)))
+          absurd (out (ap Caller (sym can.owned ∙ ap (λ y. y.owner) (sym is) ∙ own)))
       at _ out (is_decided can is) before =
           before can.change can.pending.published (ap (λ y. y.owner) (sym is) ∙ own)
 
   -- and became what it is
-  pub own_was : {earlier log : Log} → GoesOnByOthers (Some caller) earlier log
+  pub own_was : {earlier log : Log} → Later (Caller caller) earlier log
       → EachEnabled (start pairs words) log → (base : ℕ) (x : ChangeRow)
       → (state_of pairs words log).pieces base ≡ Some (Change x) → x.owner ≡ caller
       → Was (state_of pairs words earlier) (state_of pairs words log) base x
@@ -71,7 +72,7 @@ module _ (pairs : List Pair) (words : ℕ) (caller : ℕ) where
 
   -- no change of the caller on the node was decided no, where none was so before and none is
   -- meanwhile
-  pub unrefused_later : {earlier log : Log} → GoesOnByOthers (Some caller) earlier log
+  pub unrefused_later : {earlier log : Log} → Later (Caller caller) earlier log
       → EachEnabled (start pairs words) log → (node : ℕ)
       → IsUnrefused (state_of pairs words earlier) caller node
       → NoneRefused (state_of pairs words earlier) (state_of pairs words log) caller node

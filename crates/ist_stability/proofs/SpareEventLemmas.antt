@@ -1,7 +1,8 @@
 -- Enters, Reserves and Loses stay enabled under events of others. Serves their clauses.
-use Rattle.std.proofs.Common.{List, None, Some, [], ap, inl, inr, refl, subst, sym, ℕ, ⊎_elim, ◌++◌, ◌+◌, ◌<◌, ◌≤◌, ◌∙◌, ◌∷◌, ◌≡◌, ◌≢◌}
+use Rattle.std.proofs.Common.{List, [], ap, inl, inr, refl, subst, sym, ℕ, ⊎_elim, ◌++◌, ◌+◌, ◌<◌, ◌≤◌, ◌∙◌, ◌∷◌, ◌≡◌, ◌≢◌}
 use Rattle.ist_core.specs.declared.events.Event.{Event}
 use Rattle.ist_core.specs.declared.events.Event.TheVariants.{Count, Decide, Draw, Enter, Finish, Install, Lose, Mark, Okay, Pass, Place, Reserve, Resolve, Root}
+use Rattle.ist_core.specs.declared.events.Who.TheVariants.{Caller, Maker}
 use Rattle.ist_core.specs.declared.pairs.Pair.{Pair}
 use Rattle.ist_core.specs.Building.{CanLose, IsBeaten, LosesBuild, LosesPair}
 use Rattle.ist_core.specs.Enabled.{CanEnter, CanReserve}
@@ -17,7 +18,7 @@ use Rattle.ist_core.proofs.FateLemmas.{grow_between}
 use Rattle.ist_core.proofs.GrowingLemmas.{inner_there, rebuild_there}
 use Rattle.ist_core.proofs.RoomLemmas.{words_same}
 use Rattle.ist_links.proofs.FormLemmas.{finished_with_grows, started_grows}
-use Rattle.ist_core.specs.Authors.{GoesOnByOthers, author, no_more, one_more}
+use Rattle.ist_core.specs.Authors.{Later, whose, no_more, one_more}
 use Rattle.ist_stability.specs.Words.{FindsItsWord}
 use Rattle.ist_stability.proofs.HoldingLemmas.{bases_later, holds_later, sizes_later}
 use Rattle.ist_stability.proofs.LaterLemmas.{callers_later, goes_on, known_later}
@@ -61,12 +62,12 @@ builds_later t u g same next _ (stuck_build {sizes = sizes} {more = more} stuck 
     (builds_later t u g same next more others)
 
 -- another's event leaves a build beaten
-beaten_step : (caller : ℕ) (sizes : List ℕ) (event : Event) (log : Log) → author event ≢ Some caller
+beaten_step : (caller : ℕ) (sizes : List ℕ) (event : Event) (log : Log) → whose event ≢ Caller caller
     → IsBeaten caller sizes log → IsBeaten caller sizes (event ∷ log)
-beaten_step caller sizes (Root c rebuild word rows) log other b = ((λ e. other (ap Some e)), inr b)
+beaten_step caller sizes (Root c rebuild word rows) log other b = ((λ e. other (ap Caller e)), inr b)
 beaten_step caller sizes (Place c rebuild i word rows) log other b =
-    ((λ e. other (ap Some e)), inr b)
-beaten_step caller sizes (Lose c bases) log other b = ((λ e. other (ap Some e)), b)
+    ((λ e. other (ap Caller e)), inr b)
+beaten_step caller sizes (Lose c bases) log other b = ((λ e. other (ap Caller e)), b)
 beaten_step caller sizes (Enter c) log other b = b
 beaten_step caller sizes (Reserve c base size) log other b = b
 beaten_step caller sizes (Install c change rows) log other b = b
@@ -80,14 +81,14 @@ beaten_step caller sizes (Finish c n keys) log other b = b
 beaten_step caller sizes (Draw c rebuild part) log other b = b
 
 beaten_later : (caller : ℕ) (sizes : List ℕ) {earlier log : Log}
-    → GoesOnByOthers (Some caller) earlier log
+    → Later (Caller caller) earlier log
     → IsBeaten caller sizes earlier → IsBeaten caller sizes log
 beaten_later caller sizes no_more b = b
 beaten_later caller sizes (one_more {log = log} event later other) b =
     beaten_step caller sizes event log other (beaten_later caller sizes later b)
 
 -- an Enter stays
-pub enter_stays : (first : Snapshot) {earlier log : Log} → GoesOnByOthers None earlier log
+pub enter_stays : (first : Snapshot) {earlier log : Log} → Later Maker earlier log
     → (caller : ℕ)
     → CanEnter (state first earlier) caller → CanEnter (state first log) caller
 enter_stays first later caller can =
@@ -95,7 +96,7 @@ enter_stays first later caller can =
 
 module _ (pairs : List Pair) (words : ℕ) (opens : CanOpen pairs words) {earlier log : Log}
     (caller : ℕ)
-    (later : GoesOnByOthers (Some caller) earlier log)
+    (later : Later (Caller caller) earlier log)
     (h : EachEnabled (start pairs words) log) where
   grows : AllGrow (state_of pairs words earlier).pieces (state_of pairs words log).pieces
   grows = grow_between pairs words earlier log h (goes_on later)

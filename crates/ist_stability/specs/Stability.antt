@@ -3,6 +3,7 @@
 use Rattle.std.specs.Prelude.{Bool, List, Some, ℕ, ◌+◌, ◌≡◌}
 use Rattle.ist_core.specs.declared.events.Event.{Event}
 use Rattle.ist_core.specs.declared.events.Event.TheVariants.{Count, Decide, Draw, Enter, Finish, Install, Lose, Mark, Okay, Pass, Place, Reserve, Resolve, Root}
+use Rattle.ist_core.specs.declared.events.Who.TheVariants.{Caller}
 use Rattle.ist_core.specs.declared.lists.Row.{Row}
 use Rattle.ist_core.specs.declared.pairs.Pair.{Pair}
 use Rattle.ist_core.specs.declared.states.ChangeRow.{ChangeRow}
@@ -16,7 +17,7 @@ use Rattle.ist_core.specs.Snapshots.{Snapshot}
 use Rattle.ist_core.specs.StartLayout.{start}
 use Rattle.ist_core.specs.Writing.{first_change, touch_of}
 use Rattle.ist_stability.specs.Meanwhile.{IsMarked, IsStillUndecided, NoneAccepted, NoneRefused}
-use Rattle.ist_core.specs.Authors.{GoesOnByOthers, author}
+use Rattle.ist_core.specs.Authors.{Later, whose}
 use Rattle.ist_core.specs.Shown.{IsShown}
 use Rattle.ist_stability.specs.Words.{FindsItsWord}
 
@@ -25,7 +26,7 @@ use Rattle.ist_stability.specs.Words.{FindsItsWord}
 abbrev pub StaysWhere : (Snapshot → Snapshot → Type 0) → Event → Type 0
 StaysWhere P event =
     (pairs : List Pair) (words : ℕ) (earlier log : Log) → Lawful pairs words log
-    → GoesOnByOthers (author event) earlier log → Enabled (start pairs words) earlier event
+    → Later (whose event) earlier log → Enabled (start pairs words) earlier event
     → P (state_of pairs words earlier) (state_of pairs words log)
     → Enabled (start pairs words) log event
 
@@ -83,7 +84,7 @@ DrawsStay = (caller rebuild part : ℕ) → StaysAtItsWord (Draw caller rebuild 
 abbrev pub DrawsGoOn : Type 0
 DrawsGoOn =
     (pairs : List Pair) (words : ℕ) (earlier log : Log) → Lawful pairs words log
-    → (caller rebuild part now : ℕ) → GoesOnByOthers (Some caller) earlier log
+    → (caller rebuild part now : ℕ) → Later (Caller caller) earlier log
     → Enabled (start pairs words) earlier (Draw caller rebuild part)
     → IsShown (state_of pairs words log) (rebuild + rebuild_draw_offset) now
     → Enabled (start pairs words) log (Draw caller rebuild now)

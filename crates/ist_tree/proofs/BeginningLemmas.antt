@@ -7,8 +7,8 @@ use Rattle.ist_core.specs.Logs.{same_log}
 use Rattle.ist_histories.specs.Calls.{HasCalls}
 use Rattle.ist_histories.proofs.CallLemmas.{keep_calls}
 use Rattle.ist_rule.specs.declared.view.View.{View}
-use Rattle.ist_rule.specs.declared.view.Who.TheVariants.{Caller as CallerOf}
-use Rattle.ist_rule.specs.Authors.{Later}
+use Rattle.ist_core.specs.declared.events.Who.TheVariants.{Caller as CallerOf}
+use Rattle.ist_core.specs.Authors.{Later}
 use Rattle.ist_rule.specs.Faces.{SeatFace}
 use Rattle.ist_rule.specs.Learning.{Turned, beginning}
 use Rattle.ist_rule.specs.Rule.{IsSound}

@@ -6,8 +6,8 @@ use Rattle.ist_core.specs.Lawful.{Lawful}
 use Rattle.ist_histories.specs.Calls.{MadeNoEntry, HasCalls}
 use Rattle.ist_histories.proofs.CallLemmas.{stand_on}
 use Rattle.ist_rule.specs.declared.view.View.{View}
-use Rattle.ist_rule.specs.declared.view.Who.TheVariants.{Caller as CallerOf}
-use Rattle.ist_rule.specs.Authors.{Later}
+use Rattle.ist_core.specs.declared.events.Who.TheVariants.{Caller as CallerOf}
+use Rattle.ist_core.specs.Authors.{Later}
 use Rattle.ist_rule.specs.Rule.{KeepsCalls, its_own, IsSound}
 use Rattle.ist_rule.specs.Standings.{IsBetween, CallStands}
 use Rattle.ist_rule.proofs.CallLemmas.{between_later}

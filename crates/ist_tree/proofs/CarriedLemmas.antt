@@ -5,7 +5,7 @@ use Rattle.ist_core.specs.declared.commands.Command.{Command}
 use Rattle.ist_core.specs.declared.pairs.Pair.{Pair}
 use Rattle.ist_core.specs.declared.ports.Full.{Full}
 use Rattle.ist_core.specs.declared.states.InnerRow.{InnerRow}
-use Rattle.ist_core.specs.Authors.{no_more}
+use Rattle.ist_core.specs.Authors.{no_more, whose, LaterBy}
 use Rattle.ist_core.specs.Pieces.{Inner}
 use Rattle.ist_core.specs.Lawful.{Lawful, state_of}
 use Rattle.ist_core.specs.Links.{Chain, IsChild}
@@ -20,8 +20,7 @@ use Rattle.ist_core.proofs.RoomLemmas.{published_good}
 use Rattle.ist_settling.specs.Settling.{DueRowsAreClosed}
 use Rattle.ist_stability.proofs.LaterLemmas.{ever_later}
 use Rattle.ist_rule.specs.declared.view.View.{View}
-use Rattle.ist_rule.specs.declared.view.Who.TheVariants.{Caller as CallerOf}
-use Rattle.ist_rule.specs.Authors.{whose, LaterBy}
+use Rattle.ist_core.specs.declared.events.Who.TheVariants.{Caller as CallerOf}
 use Rattle.ist_rule.specs.Conditions.{CanGiveUp, IsResolved}
 use Rattle.ist_rule.specs.Going.{WentOn}
 use Rattle.ist_rule.specs.Learning.{now}
@@ -42,7 +41,6 @@ use Rattle.ist_tree.proofs.CarryLemmas.{counted_on, may_end_on}
 use Rattle.ist_tree.proofs.DueLemmas.{done_more}
 use Rattle.ist_tree.proofs.EventLemmas.{rebuilds_count_none, rebuilds_work, updates_start_none, updates_work}
 use Rattle.ist_tree.proofs.RebuildLemmas.{starts_went}
-use Rattle.ist_tree.proofs.SettlingLemmas.{else_by}
 
 -- ---- what `apply` tells
 
@@ -164,8 +162,8 @@ module _ (old mid new : Caller) (words : ℕ) (command : Command) (reply : Optio
       came_inside v.start v.words old.number (λ event. ⊥)
       (λ event. (whose event ≢ CallerOf old.number) ⊎ Rebuilds event)
       (λ event never. absurd never)
-      (λ event. ⊎_elim (λ other. others_count_nothing old.number event (else_by old.number event
-      other)) (rebuilds_count_none old.number event))
+      (λ event. ⊎_elim (others_count_nothing old.number event)
+      (rebuilds_count_none old.number event))
       v.log v.log w.log x.log no_more (later_by-goes_on a.went.later)
       (subst (λ n. LaterBy (CallerOf n) Rebuilds w.log x.log) a.number
       (subst (λ who. LaterBy who Rebuilds w.log x.log) a.caller.mine on.went.later)) row

@@ -22,8 +22,8 @@ use Rattle.ist_histories.proofs.ChangeLemmas.{changes_on}
 use Rattle.ist_histories.proofs.LoadOnLemmas.{at_prefix}
 use Rattle.ist_rule.specs.declared.view.Pending.{Pending}
 use Rattle.ist_rule.specs.declared.view.View.{View}
-use Rattle.ist_rule.specs.declared.view.Who.{Who}
-use Rattle.ist_rule.specs.declared.view.Who.TheVariants.{Caller as CallerOf}
+use Rattle.ist_core.specs.declared.events.Who.{Who}
+use Rattle.ist_core.specs.declared.events.Who.TheVariants.{Caller as CallerOf}
 use Rattle.ist_rule.specs.Conditions.{CanEnd}
 use Rattle.ist_tree.proofs.PositionLemmas.{command_in, first_from, first_is, first_place, position_of}
 

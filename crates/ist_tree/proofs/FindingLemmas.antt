@@ -18,8 +18,8 @@ use Rattle.ist_histories.proofs.ChangeLemmas.{changes_on}
 use Rattle.ist_histories.proofs.LoadOnLemmas.{at_prefix}
 use Rattle.ist_rule.specs.declared.view.View.{View}
 use Rattle.ist_rule.specs.declared.view.Loads.{Loads}
-use Rattle.ist_rule.specs.declared.view.Who.TheVariants.{Caller as CallerOf}
-use Rattle.ist_rule.specs.Authors.{Later}
+use Rattle.ist_core.specs.declared.events.Who.TheVariants.{Caller as CallerOf}
+use Rattle.ist_core.specs.Authors.{Later}
 use Rattle.ist_rule.specs.Rule.{IsSound}
 use Rattle.ist_rule.specs.Conditions.{CanEnd}
 use Rattle.ist_rule.proofs.LaterLemmas.{later-goes_on, later_more}

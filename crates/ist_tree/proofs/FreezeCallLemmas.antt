@@ -8,7 +8,7 @@ use Rattle.ist_core.specs.Lawful.{Lawful, state_of}
 use Rattle.ist_core.specs.Logs.{GoesOn}
 use Rattle.ist_core.specs.StartLayout.{start}
 use Rattle.ist_rule.specs.declared.view.View.{View}
-use Rattle.ist_rule.specs.Authors.{Later}
+use Rattle.ist_core.specs.Authors.{Later}
 use Rattle.ist_rule.specs.Conditions.{CanGiveUp, IsResolved}
 use Rattle.ist_rule.specs.Faces.{SeatFace}
 use Rattle.ist_rule.specs.Learning.{Turned, beginning, giving_up}

@@ -5,8 +5,8 @@ use Rattle.ist_core.specs.declared.ports.Full.{Full}
 use Rattle.ist_core.specs.Snapshots.{Snapshot}
 use Rattle.ist_core.specs.Lawful.{Lawful, state_of}
 use Rattle.ist_rule.specs.declared.view.View.{View}
-use Rattle.ist_rule.specs.declared.view.Who.TheVariants.{Caller as CallerOf}
-use Rattle.ist_rule.specs.Authors.{Later}
+use Rattle.ist_core.specs.declared.events.Who.TheVariants.{Caller as CallerOf}
+use Rattle.ist_core.specs.Authors.{Later}
 use Rattle.ist_rule.specs.Faces.{SeatFace}
 use Rattle.ist_rule.specs.Rule.{IsSound}
 use Rattle.ist_rule.specs.Learning.{now}

@@ -10,7 +10,7 @@ use Rattle.ist_histories.proofs.ContentLemmas.{told_at}
 use Rattle.ist_histories.proofs.WovenLemmas.{woven_legal}
 use Rattle.ist_histories.proofs.PlacedLemmas.{has_places}
 use Rattle.ist_rule.specs.declared.view.View.{View}
-use Rattle.ist_rule.specs.Authors.{Later}
+use Rattle.ist_core.specs.Authors.{Later}
 use Rattle.ist_rule.specs.Faces.{SeatFace}
 use Rattle.ist_rule.specs.Learning.{Looked, seeing}
 use Rattle.ist_rule.specs.Seating.{joined}

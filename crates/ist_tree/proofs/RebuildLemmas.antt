@@ -29,8 +29,8 @@ use Rattle.ist_settling.proofs.DoneLemmas.{done_stays, due_stay, others_count_no
 use Rattle.ist_settling.proofs.ReadLemmas.{read_started}
 use Rattle.ist_stability.proofs.LaterLemmas.{ever_later}
 use Rattle.ist_rule.specs.declared.view.View.{View}
-use Rattle.ist_rule.specs.declared.view.Who.TheVariants.{Caller as CallerOf}
-use Rattle.ist_rule.specs.Authors.{whose, LaterBy}
+use Rattle.ist_core.specs.declared.events.Who.TheVariants.{Caller as CallerOf}
+use Rattle.ist_core.specs.Authors.{whose, LaterBy}
 use Rattle.ist_rule.specs.Conditions.{IsResolved}
 use Rattle.ist_rule.specs.Going.{WentOn}
 use Rattle.ist_rule.specs.Learning.{now}
@@ -47,7 +47,6 @@ use Rattle.ist_rebuild.specs.Helping.{IsLeftToParent, IsHelpRefused}
 use Rattle.ist_rebuild.specs.Starting.{MayStart, IsStartedAt, StoodInstead, StartsAreDoneBut, IsStartRefused}
 use Rattle.ist_tree.specs.Working.{IsReady, Rebuilds, RebuildsOn, KeepsDone, IsShut, IsShort, for_start, for_help, IsDueRefused}
 use Rattle.ist_tree.proofs.EventLemmas.{IsPlainHelp, none_starts_none, serves_start_none}
-use Rattle.ist_tree.proofs.SettlingLemmas.{else_by}
 use Rattle.ist_tree.proofs.StartLemmas.{own_start_was}
 use Rattle.ist_rebuild.specs.Helping as helping
 
@@ -93,8 +92,7 @@ module _ (P : Event → Type 0) (number : ℕ) (v w : View) (mine : v.who ≡ Ca
       subst (λ t. StartsAreDone t number) (sym (went_now P v w went))
       (starts_stay v.start v.words lawful.opens (λ event. (whose event ≢ CallerOf number) ⊎ P event)
       v.log w.log number
-      (λ event. ⊎_elim (λ other. others_start_nothing number event (else_by number event other))
-      (none event))
+      (λ event. ⊎_elim (others_start_nothing number event) (none event))
       by_caller lawful.enabled resolved done)
 
   -- rows that were made due keep a closed row above, where nothing was counted
@@ -105,8 +103,7 @@ module _ (P : Event → Type 0) (number : ℕ) (v w : View) (mine : v.who ≡ Ca
       let lawful = went_lawful P v w went in
       due_stay v.start v.words lawful.opens (λ event. (whose event ≢ CallerOf number) ⊎ P event)
       v.log w.log number
-      (λ event. ⊎_elim (λ other. others_count_nothing number event (else_by number event other))
-      (none event))
+      (λ event. ⊎_elim (others_count_nothing number event) (none event))
       by_caller lawful.enabled closed
 
 -- ---- what may be started, over steps

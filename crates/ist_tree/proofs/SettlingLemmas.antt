@@ -4,7 +4,7 @@ use Rattle.std.proofs.Common.{ℕ, List, [], ◌∷◌, ap, arith, refl, sym, �
 use Rattle.ist_core.specs.declared.events.Event.{Event}
 use Rattle.ist_core.specs.declared.pairs.Pair.{Pair}
 use Rattle.ist_core.specs.declared.states.ChangeRow.{ChangeRow}
-use Rattle.ist_core.specs.Authors.{GoesOnBy, author, no_more, one_more}
+use Rattle.ist_core.specs.Authors.{GoesOnBy, no_more, one_more, whose, Later, IsIdleIn}
 use Rattle.ist_core.specs.Lawful.{CanOpen, EachEnabled, Lawful, state_of}
 use Rattle.ist_core.specs.Logs.{Log, GoesOn, same_log, one_event}
 use Rattle.ist_core.specs.Pieces.{Change}
@@ -18,18 +18,12 @@ use Rattle.ist_links.proofs.ComesLemmas.{change_comes}
 use Rattle.ist_links.proofs.OriginLemmas.{ChangeComes, change_was, is_decided, is_installed}
 use Rattle.ist_stability.proofs.LaterLemmas.{goes_on}
 use Rattle.ist_links.proofs.OwnerLemmas.{owner_known}
-use Rattle.ist_rule.specs.Authors.{seat_of, whose, Later, IsIdleIn}
-use Rattle.ist_rule.specs.declared.view.Who.TheVariants.{Caller as CallerOf}
+use Rattle.ist_core.specs.declared.events.Who.TheVariants.{Caller as CallerOf}
 use Rattle.ist_rule.proofs.CallLemmas.{resolved_later}
 use Rattle.ist_rule.proofs.LaterLemmas.{later_idle}
 use Rattle.ist_settling.specs.Settling.{InstallsNoStart, MadeDue, due_now, due_before}
 use Rattle.ist_settling.proofs.DoneLemmas.{due_stay, others_count_nothing, others_start_nothing, starts_stay}
 use Rattle.ist_tree.specs.Insides.{HasSettled}
-
--- an event of another seat is of another author
-pub else_by : (number : ℕ) (event : Event) → whose event ≢ CallerOf number
-    → author event ≢ Some number
-else_by number event other e = other (ap seat_of e)
 
 -- each log goes on from none
 from_nothing : (log : Log) → GoesOn [] log
@@ -46,12 +40,10 @@ module _ (pairs : List Pair) (words : ℕ) where
         resolved = resolved_later pairs words number [] old log l.enabled later h.resolved;
         starts =
             starts_stay pairs words l.opens (λ event. whose event ≢ CallerOf number) old log number
-            (λ event other. others_start_nothing number event (else_by number event other)) later
-            l.enabled h.resolved h.starts;
+            (others_start_nothing number) later l.enabled h.resolved h.starts;
         due =
             due_stay pairs words l.opens (λ event. whose event ≢ CallerOf number) old log number
-            (λ event other. others_count_nothing number event (else_by number event other)) later
-            l.enabled h.due;
+            (others_count_nothing number) later l.enabled h.due;
       }
 
   -- at the beginning nothing is anyone's

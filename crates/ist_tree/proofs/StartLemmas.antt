@@ -9,15 +9,15 @@ use Rattle.ist_core.specs.Statuses.{start_kind}
 use Rattle.ist_settling.specs.Settling.{InstallsNoStart}
 use Rattle.ist_settling.proofs.DoneLemmas.{others_start_nothing}
 use Rattle.ist_rule.specs.declared.view.View.{View}
-use Rattle.ist_rule.specs.declared.view.Who.TheVariants.{Caller as CallerOf}
-use Rattle.ist_rule.specs.Authors.{whose, Later, LaterBy}
+use Rattle.ist_core.specs.declared.events.Who.TheVariants.{Caller as CallerOf}
+use Rattle.ist_core.specs.Authors.{whose, Later, LaterBy}
 use Rattle.ist_rule.specs.Conditions.{IsResolved}
 use Rattle.ist_rule.specs.Going.{WentOn}
 use Rattle.ist_rule.specs.Learning.{now}
 use Rattle.ist_rule.proofs.WentOnLemmas.{went_lawful, went_now}
 use Rattle.ist_rebuild.specs.Starting.{StartsNone}
 use Rattle.ist_tree.proofs.GoingLemmas.{IsLaterView, lawful_behind}
-use Rattle.ist_tree.proofs.SettlingLemmas.{else_by, own_start_stays}
+use Rattle.ist_tree.proofs.SettlingLemmas.{own_start_stays}
 
 -- one behind another
 pub starts_none_more : (t u w : Snapshot) (number : ℕ) → StartsNone t u number
@@ -36,8 +36,7 @@ module _ (P : Event → Type 0) (number : ℕ)
       let lawful = went_lawful P v w went in
       own_start_stays v.start v.words lawful.opens
       (λ event. (whose event ≢ CallerOf number) ⊎ P event) v.log number
-      (λ event. ⊎_elim (λ other. others_start_nothing number event (else_by number event other))
-      (none event))
+      (λ event. ⊎_elim (others_start_nothing number event) (none event))
       w.log (subst (λ x. LaterBy x P v.log w.log) mine went.later) lawful.enabled resolved base
       change (subst (λ t. t.pieces base ≡ Some (Change change)) (went_now P v w went) e) own kind
 
@@ -51,7 +50,7 @@ pub starts_none_later : (v w : View) → IsLaterView v w → (number : ℕ) → 
 starts_none_later v w l number mine resolved base x e own kind said =
     let lawful = lawful_behind v w l in
     own_start_stays v.start v.words lawful.opens (λ event. whose event ≢ CallerOf number) v.log
-    number (λ event other. others_start_nothing number event (else_by number event other)) w.log
+    number (others_start_nothing number) w.log
     (subst (λ who. Later who v.log w.log) mine l.later) lawful.enabled resolved base x
     (subst (λ pairs. (state_of pairs v.words w.log).pieces base ≡ Some (Change x)) l.start_is
     (subst (λ words. (state_of w.start words w.log).pieces base ≡ Some (Change x)) l.words_is e))

@@ -7,9 +7,9 @@ use Rattle.ist_core.specs.Logs.{GoesOn, one_event}
 use Rattle.ist_core.specs.declared.events.Event.TheVariants.{Enter}
 use Rattle.ist_rule.specs.declared.view.Taken.{Taken}
 use Rattle.ist_rule.specs.declared.view.View.{View}
-use Rattle.ist_rule.specs.declared.view.Who.{Who}
-use Rattle.ist_rule.specs.declared.view.Who.TheVariants.{Maker, Caller as CallerOf, Note}
-use Rattle.ist_rule.specs.Authors.{IsIdleIn}
+use Rattle.ist_core.specs.declared.events.Who.{Who}
+use Rattle.ist_core.specs.declared.events.Who.TheVariants.{Maker, Caller as CallerOf, Note}
+use Rattle.ist_core.specs.Authors.{IsIdleIn}
 use Rattle.ist_rule.specs.Rule.{IsSound}
 use Rattle.ist_rule.specs.Learning.{now, Looked}
 use Rattle.ist_rule.specs.Seating.{awaits_seat, is_maker, joined, noted_by, plain, split_right, with_taken}

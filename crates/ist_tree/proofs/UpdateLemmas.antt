@@ -3,7 +3,6 @@ use Rattle.std.proofs.Common.{◌≡◌, ◌≢◌, ℕ, ◌≤◌, List, [], �
 use Rattle.std.specs.Option.{option_or}
 use Rattle.ist_core.specs.declared.calls.Call.{Call}
 use Rattle.ist_core.specs.declared.commands.Command.{Command}
-use Rattle.ist_core.specs.declared.events.Event.{Event}
 use Rattle.ist_core.specs.declared.events.Event.TheVariants.{Count}
 use Rattle.ist_core.specs.declared.ports.Full.{Full}
 use Rattle.ist_core.specs.Elements.{Among}
@@ -20,13 +19,12 @@ use Rattle.ist_core.proofs.PrefixLemmas.{ever_from}
 use Rattle.ist_dcss.proofs.OpeningLemmas.{closed_node_stays}
 use Rattle.ist_histories.specs.Calls.{HasCalls}
 use Rattle.ist_histories.proofs.WovenLemmas.{learnt_first}
-use Rattle.ist_settling.specs.Settling.{CountsNothing}
 use Rattle.ist_settling.proofs.DoneLemmas.{others_count_nothing}
 use Rattle.ist_stability.proofs.LaterLemmas.{ever_later}
 use Rattle.ist_rule.specs.declared.view.Pending.{Pending}
 use Rattle.ist_rule.specs.declared.view.View.{View}
-use Rattle.ist_rule.specs.declared.view.Who.TheVariants.{Caller as CallerOf}
-use Rattle.ist_rule.specs.Authors.{whose}
+use Rattle.ist_core.specs.declared.events.Who.TheVariants.{Caller as CallerOf}
+use Rattle.ist_core.specs.Authors.{whose}
 use Rattle.ist_rule.specs.Conditions.{CanEnd}
 use Rattle.ist_rule.specs.Faces.{SeatFace}
 use Rattle.ist_rule.specs.Learning.{Turned, beginning, ending}
@@ -44,7 +42,6 @@ use Rattle.ist_tree.proofs.CameLemmas.{came_inside, came_within}
 use Rattle.ist_tree.proofs.CarryLemmas.{counted_on}
 use Rattle.ist_tree.proofs.FindingLemmas.{changes_rise}
 use Rattle.ist_tree.proofs.RefusalLemmas.{rebuild_was_refused}
-use Rattle.ist_tree.proofs.SettlingLemmas.{else_by}
 use Rattle.ist_tree.proofs.WayLemmas as way
 
 module _ (who began new : Caller) (seat : SeatFace) (command : Command)
@@ -87,13 +84,10 @@ module _ (who began new : Caller) (seat : SeatFace) (command : Command)
   came_at_work row c =
       subst (λ n. CameToLimit v.start v.words b.log w.log n row) (sym it.began_number)
       (came_inside v.start v.words who.number (λ event. whose event ≢ CallerOf who.number)
-      (λ event. whose event ≢ CallerOf who.number) counts_none counts_none v.log b.log w.log x.log
+      (λ event. whose event ≢ CallerOf who.number) (others_count_nothing who.number)
+      (others_count_nothing who.number) v.log b.log w.log x.log
       (way.later_b who began new seat command it) (way.b_to_w who began new seat command it)
       (way.later_x who began new seat command it) row c)
-    where
-      counts_none : (event : Event) → whose event ≢ CallerOf who.number
-          → CountsNothing who.number event
-      counts_none event other = others_count_nothing who.number event (else_by who.number event other)
 
   -- and the other way round
   came_in_call : (row : ℕ) → CameToLimit v.start v.words b.log w.log began.number row

@@ -10,8 +10,8 @@ use Rattle.ist_core.specs.Logs.{GoesOn}
 use Rattle.ist_core.specs.StartLayout.{start}
 use Rattle.ist_settling.specs.Settling.{DueRowsAreClosed, StartsAreDone}
 use Rattle.ist_rule.specs.declared.view.View.{View}
-use Rattle.ist_rule.specs.declared.view.Who.TheVariants.{Caller as CallerOf}
-use Rattle.ist_rule.specs.Authors.{Later}
+use Rattle.ist_core.specs.declared.events.Who.TheVariants.{Caller as CallerOf}
+use Rattle.ist_core.specs.Authors.{Later}
 use Rattle.ist_rule.specs.Conditions.{IsResolved}
 use Rattle.ist_rule.specs.Faces.{SeatFace}
 use Rattle.ist_rule.specs.Going.{WentOn}

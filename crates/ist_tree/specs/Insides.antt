@@ -14,8 +14,8 @@ use Rattle.ist_histories.specs.Calls.{HasCalls}
 use Rattle.ist_settling.specs.Settling.{StartsAreDone, DueRowsAreClosed}
 use Rattle.ist_rule.specs.declared.view.View.{View}
 use Rattle.ist_rule.specs.declared.view.Taken.{Taken}
-use Rattle.ist_rule.specs.declared.view.Who.{Who}
-use Rattle.ist_rule.specs.declared.view.Who.TheVariants.{Maker, Note}
+use Rattle.ist_core.specs.declared.events.Who.{Who}
+use Rattle.ist_core.specs.declared.events.Who.TheVariants.{Maker, Note}
 use Rattle.ist_rule.specs.Faces.{SeatFace}
 use Rattle.ist_rows.specs.declared.callers.Caller.{Caller}
 use Rattle.ist_rows.specs.Rows.{IsCaller}

@@ -3,13 +3,12 @@
 use Rattle.std.proofs.Common.{◌≡◌, sym, ap, ◌∙◌, subst, inl, inr}
 use Rattle.ist_core.specs.declared.commands.Command.{Command}
 use Rattle.ist_core.specs.declared.events.Event.{Event}
-use Rattle.ist_core.specs.Authors.{no_more, one_more}
+use Rattle.ist_core.specs.Authors.{no_more, one_more, Later, LaterBy}
 use Rattle.ist_core.specs.Logs.{Log}
 use Rattle.ist_histories.specs.Calls.{HasCalls}
 use Rattle.ist_rule.specs.declared.view.View.{View}
-use Rattle.ist_rule.specs.declared.view.Who.{Who}
-use Rattle.ist_rule.specs.declared.view.Who.TheVariants.{Caller as CallerOf}
-use Rattle.ist_rule.specs.Authors.{Later, LaterBy}
+use Rattle.ist_core.specs.declared.events.Who.{Who}
+use Rattle.ist_core.specs.declared.events.Who.TheVariants.{Caller as CallerOf}
 use Rattle.ist_rule.specs.Faces.{SeatFace}
 use Rattle.ist_rule.specs.Going.{WentOn}
 use Rattle.ist_rule.specs.Standings.{HasMade}

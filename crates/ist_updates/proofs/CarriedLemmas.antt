@@ -18,8 +18,8 @@ use Rattle.ist_core.specs.After.{decision_word}
 use Rattle.ist_core.proofs.FreezingLemmas.{same_change}
 use Rattle.ist_core.proofs.GrowingLemmas.{change_there}
 use Rattle.ist_rule.specs.declared.view.View.{View}
-use Rattle.ist_rule.specs.declared.view.Who.TheVariants.{Caller as CallerOf}
-use Rattle.ist_rule.specs.Authors.{LaterBy}
+use Rattle.ist_core.specs.declared.events.Who.TheVariants.{Caller as CallerOf}
+use Rattle.ist_core.specs.Authors.{LaterBy}
 use Rattle.ist_rule.specs.Conditions.{IsResolved}
 use Rattle.ist_rule.specs.Faces.{SeatFace}
 use Rattle.ist_rule.specs.Going.{WentOn}

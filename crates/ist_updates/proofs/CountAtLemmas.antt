@@ -15,8 +15,8 @@ use Rattle.ist_core.proofs.FateLemmas.{grow_between}
 use Rattle.ist_core.proofs.GrowingLemmas.{inner_there}
 use Rattle.ist_core.proofs.YesLemmas.{count_low}
 use Rattle.ist_rule.specs.declared.view.View.{View}
-use Rattle.ist_rule.specs.declared.view.Who.TheVariants.{Caller as CallerOf}
-use Rattle.ist_rule.specs.Authors.{Later}
+use Rattle.ist_core.specs.declared.events.Who.TheVariants.{Caller as CallerOf}
+use Rattle.ist_core.specs.Authors.{Later}
 use Rattle.ist_rule.specs.Conditions.{CanAdd}
 use Rattle.ist_rule.specs.Going.{WentOn}
 use Rattle.ist_rule.specs.Learning.{now, Looked, LoggedAdd}

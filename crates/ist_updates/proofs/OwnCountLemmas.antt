@@ -3,10 +3,9 @@ use Rattle.std.proofs.Common.{◌≡◌, ◌⊎◌, ℕ, List, ◌∷◌, refl, 
 use Rattle.ist_core.specs.declared.events.Event.{Event}
 use Rattle.ist_core.specs.declared.events.Event.TheVariants.{Enter, Reserve, Install, Okay, Decide, Resolve, Count, Mark, Pass, Finish, Root, Draw, Place, Lose}
 use Rattle.ist_core.specs.declared.pairs.Pair.{Pair}
-use Rattle.ist_core.specs.Authors.{GoesOnBy, no_more, one_more}
+use Rattle.ist_core.specs.Authors.{GoesOnBy, no_more, one_more, whose, Later, LaterBy}
 use Rattle.ist_core.specs.Logs.{Log, Counts, GoesOn, same_log, one_event}
-use Rattle.ist_rule.specs.declared.view.Who.TheVariants.{Caller as CallerOf}
-use Rattle.ist_rule.specs.Authors.{whose, Later, LaterBy}
+use Rattle.ist_core.specs.declared.events.Who.TheVariants.{Caller as CallerOf}
 use Rattle.ist_rule.proofs.LaterLemmas.{goes_on_more, goes_on_length}
 use Rattle.ist_outcomes.specs.Counting.{CountsFrom}
 use Rattle.ist_updates.specs.Counting.{CameToLimit, WasCounted}

@@ -8,7 +8,7 @@ use Rattle.ist_core.specs.declared.pairs.Pair.{Pair}
 use Rattle.ist_core.specs.declared.ports.Full.{Full}
 use Rattle.ist_core.specs.declared.states.InnerRow.{InnerRow}
 use Rattle.ist_core.specs.Arithmetic.{limit}
-use Rattle.ist_core.specs.Authors.{GoesOnBy}
+use Rattle.ist_core.specs.Authors.{GoesOnBy, Later}
 use Rattle.ist_core.specs.Changes.{command_of, reply_of}
 use Rattle.ist_core.specs.Deciding.{CanCount}
 use Rattle.ist_core.specs.Elements.{Among}
@@ -21,8 +21,7 @@ use Rattle.ist_core.specs.References.{InnerAt, word_of}
 use Rattle.ist_core.specs.Slots.{SlotHolds}
 use Rattle.ist_core.specs.StartLayout.{start}
 use Rattle.ist_rule.specs.declared.view.View.{View}
-use Rattle.ist_rule.specs.declared.view.Who.TheVariants.{Caller as CallerOf}
-use Rattle.ist_rule.specs.Authors.{Later}
+use Rattle.ist_core.specs.declared.events.Who.TheVariants.{Caller as CallerOf}
 use Rattle.ist_rule.specs.Conditions.{IsResolved}
 use Rattle.ist_rule.specs.Going.{WentOn}
 use Rattle.ist_rule.specs.Standings.{HasMade}

@@ -1,7 +1,7 @@
 use Rattle.std.proofs.Common.{sym, ap, subst, ◌∙◌, arith}
 use Rattle.ist_rule.specs.declared.view.View.{View}
 use Rattle.ist_rule.specs.Faces.{SeatFace, TableFace}
-use Rattle.ist_rule.specs.Authors.{Later}
+use Rattle.ist_core.specs.Authors.{Later}
 use Rattle.ist_rule.specs.Learning.{Looked}
 use Rattle.ist_rule.specs.Seating.{joined, CanJoin}
 use Rattle.ist_rule.specs.Playing.{Seated}

@@ -1,5 +1,6 @@
-use Rattle.std.proofs.Common.{Some, ◌≢◌}
-use Rattle.ist_core.specs.Authors.{author}
+use Rattle.std.proofs.Common.{◌≢◌}
+use Rattle.ist_core.specs.declared.events.Who.TheVariants.{Caller}
+use Rattle.ist_core.specs.Authors.{whose}
 use Rattle.ist_settling.specs.Settling.{CountsNothing, InstallsNoStart}
 use Rattle.ist_settling.proofs.DoneLemmas.{closed_above_stays, count_keeps, done_stays, due_stay, others_count_nothing, others_start_nothing, starts_stay}
 use Rattle.ist_settling.proofs.laws.done_stays_done.Goals as goal
@@ -12,10 +13,10 @@ returns c =
       closed = λ pairs words earlier log l on.
           closed_above_stays pairs words l.opens earlier log on l.enabled;
       starts = λ pairs words earlier log l caller later.
-          starts_stay pairs words l.opens (λ event. author event ≢ Some caller) earlier log caller
+          starts_stay pairs words l.opens (λ event. whose event ≢ Caller caller) earlier log caller
           (others_start_nothing caller) later l.enabled;
       due = λ pairs words earlier log l caller later.
-          due_stay pairs words l.opens (λ event. author event ≢ Some caller) earlier log caller
+          due_stay pairs words l.opens (λ event. whose event ≢ Caller caller) earlier log caller
           (others_count_nothing caller) later l.enabled;
       own_starts = λ pairs words earlier log l caller later.
           starts_stay pairs words l.opens (InstallsNoStart caller) earlier log caller
