@@ -1,5 +1,5 @@
 -- What the rows of a search cost, and that it makes few loads. Serves `find_from_anchor`.
-use Rattle.std.proofs.Common.{◌≡◌, ℕ, ◌+◌, ◌<◌, ◌≤◌, List, [], ◌∷◌, ◌++◌, refl, sym, ap, ap₂, ◌∙◌, arith}
+use Rattle.std.proofs.Common.{◌≡◌, ℕ, ◌+◌, ◌*◌, ◌^◌, ◌<◌, ◌≤◌, List, [], ◌∷◌, ◌++◌, refl, sym, ap, ap₂, ◌∙◌, arith}
 use Rattle.std.proofs.lemmas.List.Sums.{sum_by-append}
 use Rattle.ist_core.specs.Arithmetic.{child_count}
 use Rattle.ist_core.specs.Elements.{Each}
@@ -89,19 +89,35 @@ cost_more v key rows row =
 -- ---- a look
 
 -- a look at a row makes no more loads than the row costs: what its child took, and three
-pub look_cost : (v u : View) (n : ℕ) → IsSound v → GoesOnTo v u → (key node i : ℕ) → IsRow v node
+pub look_cost : (v u : View) (m n : ℕ) → IsSound v → GoesOnTo v u → (key node i : ℕ) → IsRow v node
     → IsChildFor (now u) node key i
-    → u.loaded ≤ v.loaded + distance (guess_in (keys_at v node) key) i + 7
-    → n ≤ u.loaded + 3 → n ≤ v.loaded + row_cost v key node
-look_cost v u n s g key node i r (of_anchor e f) first more =
+    → m ≤ distance (guess_in (keys_at v node) key) i + 7 → n ≤ m + 3 → n ≤ row_cost v key node
+look_cost v u m n s g key node i r (of_anchor e f) first more =
     let high = fixed_row v.start v.words v.log s.lawful.enabled node 0 (Inner r.row) r.published in
     absurd (omega arith)
-look_cost v u n s g key node i r (of_row row e is) first more =
+look_cost v u m n s g key node i r (of_row row e is) first more =
     let keys = keys_on v u g node r in
     let same : i ≡ child_count (keys_at v node) key =
     is ∙ ap (λ ks. child_count ks key) (sym (keys_are u node record { row = row; published = e }) ∙ keys) in
     let near = ap (λ j. distance (guess_in (keys_at v node) key) j) same in
     omega arith
+
+-- ---- how many they are
+
+-- so many loads were made on the way to the node, few enough to be counted
+pub record HasSpent (v w : View) (node loads : ℕ) : Type 0 where
+  pub count : w.loaded ≡ v.loaded + loads
+  pub few : loads ≤ node * 2 ^ 31
+  pub low : node < 2 ^ 28
+
+-- a look at a row above is counted too
+pub spent_on : (v w u : View) (node base loads more : ℕ) → HasSpent v w node loads → node < base
+    → base < 2 ^ 28 → u.loaded ≡ w.loaded + more → more < 2 ^ 31
+    → HasSpent v u base (loads + more)
+spent_on v w u node base loads more h up low count less =
+    let so_far = h.count in
+    let few = h.few in
+    record { count = omega arith; few = omega arith; low = low }
 
 -- ---- the search
 

@@ -57,8 +57,7 @@ pub record HasCounted (v w : View) (node at key found : ℕ) : Type 0 where
   pub found_is : child_count (take at (keys_at v node)) key ≡ found
 
 -- a gallop among the keys made so many looks, and no other load
-pub record HasRun (v w : View) (node from key : ℕ) (g : Gallop) : Type 0 where
-  pub looks : ℕ
+pub record HasRun (v w : View) (node from key : ℕ) (g : Gallop) (looks : ℕ) : Type 0 where
   pub loaded : HasLoaded v w node looks
   pub galloped : HasGalloped (keys_at v node) key from g looks
 
@@ -180,11 +179,10 @@ pub run_begins : (v w : View) → IsSound v → (node from key : ℕ) (g : Gallo
     → key < get_or (keys_at v node) (length (keys_at v node) - 1) 0
     → g.low ≡ cond (nat_lt key word) 0 from
     → g.high ≡ cond (nat_lt key word) from (length (keys_at v node) - 1) → Gallops g from 1
-    → HasRun v w node from key g
+    → HasRun v w node from key g 1
 run_begins v w s node from key g word r go count is less first last low high gallops =
     let keys = keys_at v node in
     record {
-      looks = 1;
       loaded = one_loaded v v w node 0 (none_loaded v s node r) go count;
       galloped = galloped_first keys key from g less first last
           (low ∙ ap (λ k. cond (nat_lt key k) 0 from) is)
@@ -192,39 +190,32 @@ run_begins v w s node from key g word r go count is less first last low high gal
     }
 
 -- a look of it is one more load
-pub run_on : (v w u : View) (node from key : ℕ) (g next : Gallop) (at word : ℕ)
-    → HasRun v w node from key g → GoesOnTo w u → u.loaded ≡ w.loaded + 1
+pub run_on : (v w u : View) (node from key : ℕ) (g next : Gallop) (looks at word : ℕ)
+    → HasRun v w node from key g looks → GoesOnTo w u → u.loaded ≡ w.loaded + 1
     → word ≡ get_or (keys_at w node) at 0 → g.low < at → at < g.high
     → next.low ≡ cond (nat_lt key word) g.low at → next.high ≡ cond (nat_lt key word) at g.high
     → ((guess looks : ℕ) → Gallops g guess looks → Gallops next guess (suc looks))
-    → HasRun v u node from key next
-run_on v w u node from key g next at word h go count is up down low high goes =
+    → HasRun v u node from key next (looks + 1)
+run_on v w u node from key g next looks at word h go count is up down low high goes =
     let keys = keys_at v node in
     let here : word ≡ get_or keys at 0 = is ∙ ap (λ ks. get_or ks at 0) h.loaded.keys in
     record {
-      looks = h.looks + 1;
-      loaded = one_loaded v w u node h.looks h.loaded go count;
-      galloped = galloped_on keys key from g next h.looks at h.galloped up down
+      loaded = one_loaded v w u node looks h.loaded go count;
+      galloped = galloped_on keys key from g next looks at h.galloped up down
           (low ∙ ap (λ k. cond (nat_lt key k) g.low at) here)
           (high ∙ ap (λ k. cond (nat_lt key k) at g.high) here)
-          (goes from h.looks h.galloped.gallops);
+          (goes from looks h.galloped.gallops);
     }
 
 -- at its end the child is found
-module _ (v w : View) (s : IsSound v) (node from key : ℕ) (g : Gallop)
-    (h : HasRun v w node from key g) (end : g.low + 1 ≡ g.high) where
+module _ (v w : View) (s : IsSound v) (node from key : ℕ) (g : Gallop) (looks : ℕ)
+    (h : HasRun v w node from key g looks) (end : g.low + 1 ≡ g.high) where
   pub run_to : IsRow v node → g.high ≡ child_count (keys_at v node) key
-  run_to r = sym (galloped_to (keys_at v node) key from g h.looks (keys_rise v s node r) h.galloped end)
+  run_to r = sym (galloped_to (keys_at v node) key from g looks (keys_rise v s node r) h.galloped end)
 
-  -- in few loads
-  pub run-near : w.loaded ≤ v.loaded + distance from g.high + 3
-  run-near =
-      let near = end-near g from h.looks h.galloped.gallops end in
-      let count = h.loaded.count in
-      omega arith
+  -- in few looks
+  pub run-near : looks ≤ distance from g.high + 3
+  run-near = end-near g from looks h.galloped.gallops end
 
-  pub run-far : (k : ℕ) → distance from g.high < 2 ^ k → w.loaded ≤ v.loaded + 2 * k + 2
-  run-far k less =
-      let far = end-far g from h.looks h.galloped.gallops end k less in
-      let count = h.loaded.count in
-      omega arith
+  pub run-far : (k : ℕ) → distance from g.high < 2 ^ k → looks ≤ 2 * k + 2
+  run-far k less = end-far g from looks h.galloped.gallops end k less

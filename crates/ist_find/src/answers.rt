@@ -1,4 +1,4 @@
-//! What a search answers.
+//! What a search answers, and its steps, with how many loads they made.
 use ist_layout::Ref;
 
 /// What a search for a key found.
@@ -19,6 +19,15 @@ pub struct Child {
     pub index: u64,
     /// What the slot held.
     pub word: u64,
+}
+
+/// What some steps of a search gave, and how many loads they made.
+#[derive(Clone, Copy, Debug, PartialEq, Eq, Drop)]
+pub struct Counted<T> {
+    /// What they gave.
+    pub value: T,
+    /// How many words they loaded.
+    pub loads: u64,
 }
 
 /// What a look at a slot of a node gave.

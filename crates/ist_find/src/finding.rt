@@ -1,5 +1,5 @@
 //! The search for a key from the anchor down.
-ghost use Rattle.std.specs.Prelude.{◌≡◌, ◌+◌, ◌≤◌, List, ℕ};
+ghost use Rattle.std.specs.Prelude.{◌≡◌, ◌+◌, ◌<◌, ◌≤◌, ◌^◌, List, ℕ};
 ghost use Rattle.ist_core.specs.RowLayout.{anchor};
 ghost use Rattle.ist_core.specs.StartLayout.{start};
 ghost use Rattle.ist_core.specs.Slots.{IsChildFor};
@@ -11,34 +11,42 @@ ghost use Rattle.ist_find.specs.Searches.{IsRow, HasCome, Came, row_cost};
 ghost use Rattle.ist_find.specs.Searches.{HasSearched, HasFound, HasFewLoads};
 ghost use Rattle.ist_find.specs.Reads.{HasLooked, IsReached};
 
-use crate::answers::{Found, Look};
+use crate::answers::{Counted, Found, Look};
 use crate::children::slot_for;
 use crate::reading::{past_change, past_rebuild, value_in};
 use ist_layout::{ANCHOR, Ref};
 use ist_rule::{TreeSeat, TreeTable, begin_search, know};
 
-// Looks at the slot for the key of a node to which the search has come.
-fn look_at(table: &TreeTable, seat: &mut TreeSeat, node: u32, key: u64) -> Look
+// Looks at the slot for the key of a node to which the search has come. It is put where it is called,
+// so that loads which no one asks for aren't counted.
+#[inline(always)]
+fn look_at(table: &TreeTable, seat: &mut TreeSeat, node: u32, key: u64) -> Counted<Look>
     requires same_table { seat.old.table ≡ table.now.table }
     requires come { Came seat.old.view key node }
     ensures same_table { seat.new.table ≡ seat.old.table }
     ensures seen { GoesOnTo seat.old.view seat.new.view }
     ensures looked { (rows : List ℕ) → HasCome seat.old.view key node rows
-        → HasLooked seat.new.view key node result.index rows (ref_meant result.reference) }
-    ensures anchor_loads { node ≡ anchor → seat.new.view.loaded ≤ seat.old.view.loaded + 4 }
+        → HasLooked seat.new.view key node result.value.index rows
+        (ref_meant result.value.reference) }
+    ensures counted { seat.new.view.loaded ≡ seat.old.view.loaded + result.loads }
+    ensures anchor_loads { node ≡ anchor → result.loads ≤ 4 }
     ensures row_loads { IsRow seat.old.view node
-        → seat.new.view.loaded ≤ seat.old.view.loaded + row_cost seat.old.view key node }
-    ensures reached { IsReached seat.new.view node (ref_meant result.reference) }
+        → result.loads ≤ row_cost seat.old.view key node }
+    ensures fits { result.loads < 2 ^ 31 }
+    ensures reached { IsReached seat.new.view node (ref_meant result.value.reference) }
 {
     know(seat);
     let child = slot_for(table, seat, node, key);
     know(seat);
-    let side = past_change(table, seat, child.word);
-    let reference = past_rebuild(table, seat, side);
+    let side = past_change(table, seat, child.value.word);
+    let reference = past_rebuild(table, seat, side.value);
     know(seat);
-    Look {
-        index: child.index,
-        reference,
+    Counted {
+        value: Look {
+            index: child.value.index,
+            reference: reference.value,
+        },
+        loads: child.loads + side.loads + reference.loads,
     }
 }
 
@@ -60,19 +68,44 @@ pub fn find_from_anchor(table: &TreeTable, seat: &mut TreeSeat, key: u64) -> Fou
     ensures index { IsChildFor (now seat.new.view) result.node key result.index }
     ensures loads { HasFewLoads seat.old.view seat.new.view key result.node }
 {
+    find_and_loads(table, seat, key).value
+}
+
+/// The same search, and how many words it loaded.
+pub fn find_and_loads(table: &TreeTable, seat: &mut TreeSeat, key: u64) -> Counted<Found>
+    requires same_table { seat.old.table ≡ table.now.table }
+    ensures same_table { seat.new.table ≡ seat.old.table }
+    ensures seen { HasSearched seat.old.view seat.new.view }
+    ensures value { let w = seat.new.view in
+        HasPosition w.start w.words seat.old.view.log w.log key result.value.value }
+    ensures found { let it = result.value in
+        HasFound seat.new.view key it.node it.index it.value }
+    ensures linked { let w = seat.new.view in
+        WasLinked (start w.start w.words) w.log result.value.node }
+    ensures index { let it = result.value in
+        IsChildFor (now seat.new.view) it.node key it.index }
+    ensures loads { HasFewLoads seat.old.view seat.new.view key result.value.node }
+    ensures counted { seat.new.view.loaded ≡ seat.old.view.loaded + result.loads }
+{
+    // It begins by one load.
     begin_search(table, seat);
     know(seat);
     let mut node = ANCHOR;
     let mut look = look_at(table, seat, node, key);
-    while let Ref::Inner { base } = look.reference {
+    let mut loads = look.loads + 1;
+    while let Ref::Inner { base } = look.value.reference {
         node = base;
         look = look_at(table, seat, node, key);
+        loads += look.loads;
     }
-    let value = value_in(table, seat, look.reference, key);
+    let value = value_in(table, seat, look.value.reference, key);
     know(seat);
-    Found {
-        value,
-        node,
-        index: look.index,
+    Counted {
+        value: Found {
+            value: value.value,
+            node,
+            index: look.value.index,
+        },
+        loads: loads + value.loads,
     }
 }

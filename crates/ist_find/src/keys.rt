@@ -6,6 +6,7 @@ ghost use Rattle.ist_rule.specs.Learning.{GoesOnTo};
 ghost use Rattle.ist_math.specs.Guess.{guess_in, distance};
 ghost use Rattle.ist_find.specs.Searches.{IsRow, keys_at};
 
+use crate::answers::Counted;
 use ist_layout::{INNER_DEGREE_OFFSET, key_place};
 use ist_math::{FEW_KEYS, Gallop, guess};
 use ist_rule::{TreeSeat, TreeTable, know, load};
@@ -84,7 +85,7 @@ fn count_through(table: &TreeTable, seat: &mut TreeSeat, node: u32, count: u64, 
     found
 }
 
-// The child for a key between the end keys, by a gallop from a guess.
+// The child for a key between the end keys, by a gallop from a guess, with its loads.
 fn gallop_from(
     table: &TreeTable,
     seat: &mut TreeSeat,
@@ -92,7 +93,7 @@ fn gallop_from(
     count: u64,
     from: u64,
     key: u64,
-) -> u64
+) -> Counted<u64>
     requires same_table { seat.old.table ≡ table.now.table }
     requires row { IsRow seat.old.view node }
     requires count { count ≡ length (keys_at seat.old.view node) }
@@ -104,54 +105,73 @@ fn gallop_from(
         key < slice_index keys (length keys - 1) }
     ensures same_table { seat.new.table ≡ seat.old.table }
     ensures seen { GoesOnTo seat.old.view seat.new.view }
-    ensures loads { seat.new.view.loaded ≤ seat.old.view.loaded + distance from result + 3 }
-    ensures loads_far { (k : ℕ) → distance from result < 2 ^ k
-        → seat.new.view.loaded ≤ seat.old.view.loaded + 2 * k + 2 }
-    ensures value { result ≡ child_count (keys_at seat.old.view node) key }
-    ensures within { result ≤ count }
+    ensures counted { seat.new.view.loaded ≡ seat.old.view.loaded + result.loads }
+    ensures loads { result.loads ≤ distance from result.value + 3 }
+    ensures loads_far { (k : ℕ) → distance from result.value < 2 ^ k → result.loads ≤ 2 * k + 2 }
+    ensures fits { result.loads ≤ 2 * count + 3 }
+    ensures value { result.value ≡ child_count (keys_at seat.old.view node) key }
+    ensures within { result.value ≤ count }
 {
     know(seat);
     let mut gallop = Gallop::begin(count, from, key_at(table, seat, node, from) > key);
+    let mut loads = 1;
     while gallop.is_open() {
         let at = gallop.probe();
         gallop = gallop.told(at, key_at(table, seat, node, at) > key);
+        loads += 1;
     }
-    gallop.high
+    Counted {
+        value: gallop.high,
+        loads,
+    }
 }
 
-/// The child of an inner row for the key: the number of its keys that are at most it.
+/// The child of an inner row for the key: the number of its keys that are at most it. With the
+/// loads of its keys.
 pub(crate) fn child_for(
     table: &TreeTable,
     seat: &mut TreeSeat,
     node: u32,
     count: u64,
     key: u64,
-) -> u64
+) -> Counted<u64>
     requires same_table { seat.old.table ≡ table.now.table }
     requires row { IsRow seat.old.view node }
     requires count { count ≡ length (keys_at seat.old.view node) }
     requires fits { count < place_limit }
     ensures same_table { seat.new.table ≡ seat.old.table }
     ensures seen { GoesOnTo seat.old.view seat.new.view }
+    ensures counted { seat.new.view.loaded ≡ seat.old.view.loaded + result.loads }
     ensures loads { let guess = guess_in (keys_at seat.old.view node) key in
-        seat.new.view.loaded ≤ seat.old.view.loaded + distance guess result + 5 }
+        result.loads ≤ distance guess result.value + 5 }
     ensures loads_far { let guess = guess_in (keys_at seat.old.view node) key in
-        (k : ℕ) → distance guess result < 2 ^ k
-        → seat.new.view.loaded ≤ seat.old.view.loaded + 2 * k + 4 }
-    ensures value { result ≡ child_count (keys_at seat.old.view node) key }
-    ensures within { result ≤ count }
+        (k : ℕ) → distance guess result.value < 2 ^ k → result.loads ≤ 2 * k + 4 }
+    ensures fits { result.loads ≤ 2 * count + 5 }
+    ensures value { result.value ≡ child_count (keys_at seat.old.view node) key }
+    ensures within { result.value ≤ count }
 {
     if count <= FEW_KEYS {
-        return count_through(table, seat, node, count, key);
+        let value = count_through(table, seat, node, count, key);
+        return Counted {
+            value,
+            loads: count,
+        };
     }
     know(seat);
     let ends = end_keys(table, seat, node, count);
     if key < ends.first {
-        return 0;
+        return Counted { value: 0, loads: 2 };
     }
     if ends.last <= key {
-        return count;
+        return Counted {
+            value: count,
+            loads: 2,
+        };
     }
     let from = guess(ends.first, ends.last, count, key);
-    gallop_from(table, seat, node, count, from, key)
+    let child = gallop_from(table, seat, node, count, from, key);
+    Counted {
+        value: child.value,
+        loads: child.loads + 2,
+    }
 }

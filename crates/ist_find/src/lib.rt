@@ -14,7 +14,7 @@ mod reading;
 mod tests;
 mod walking;
 
-pub use answers::{Child, Found};
+pub use answers::{Child, Counted, Found};
 pub use children::child_at;
-pub use finding::find_from_anchor;
+pub use finding::{find_and_loads, find_from_anchor};
 pub use walking::step_down;

@@ -9,6 +9,7 @@ ghost use Rattle.ist_core.specs.Statuses.{decided_yes};
 ghost use Rattle.ist_dcss.specs.Naming.{outcome_offset_of};
 ghost use Rattle.ist_find.specs.Reads.{TellsSide, TellsTarget, TellsValue};
 
+use crate::answers::Counted;
 use ist_layout::{
     CHANGE_DECISION_OFFSET, CHANGE_FROM_OFFSET, CHANGE_TO_OFFSET, DECIDED_YES, LEAF_KEY_OFFSET,
     LEAF_VALUE_OFFSET, REBUILD_TARGET_OFFSET, Ref,
@@ -55,17 +56,24 @@ fn side(table: &TreeTable, seat: &mut TreeSeat, word: u64, base: u32) -> u64
 }
 
 /// What the word of a slot reads as once changes are read away.
-pub(crate) fn past_change(table: &TreeTable, seat: &mut TreeSeat, word: u64) -> u64
+pub(crate) fn past_change(table: &TreeTable, seat: &mut TreeSeat, word: u64) -> Counted<u64>
     requires same_table { seat.old.table ≡ table.now.table }
     requires names { Names seat.old.view (ref_of word) }
     ensures same_table { seat.new.table ≡ seat.old.table }
-    ensures side { TellsSide seat.old.view seat.new.view word result }
-    ensures loads { seat.new.view.loaded ≤ seat.old.view.loaded + 2 }
+    ensures side { TellsSide seat.old.view seat.new.view word result.value }
+    ensures counted { seat.new.view.loaded ≡ seat.old.view.loaded + result.loads }
+    ensures loads { result.loads ≤ 2 }
 {
     know(seat);
     match change_in(word) {
-        Some(base) => side(table, seat, word, base),
-        None => word,
+        Some(base) => {
+            let value = side(table, seat, word, base);
+            Counted { value, loads: 2 }
+        }
+        None => Counted {
+            value: word,
+            loads: 0,
+        },
     }
 }
 
@@ -109,18 +117,25 @@ fn target(table: &TreeTable, seat: &mut TreeSeat, word: u64, base: u32) -> Ref
 }
 
 /// What such a word reads as once rebuilds are read away too.
-pub(crate) fn past_rebuild(table: &TreeTable, seat: &mut TreeSeat, word: u64) -> Ref
+pub(crate) fn past_rebuild(table: &TreeTable, seat: &mut TreeSeat, word: u64) -> Counted<Ref>
     requires same_table { seat.old.table ≡ table.now.table }
     requires names { Names seat.old.view (ref_of word) }
     requires plain { IsPlain (ref_of word) }
     ensures same_table { seat.new.table ≡ seat.old.table }
-    ensures target { TellsTarget seat.old.view seat.new.view word (ref_meant result) }
-    ensures loads { seat.new.view.loaded ≤ seat.old.view.loaded + 1 }
+    ensures target { TellsTarget seat.old.view seat.new.view word (ref_meant result.value) }
+    ensures counted { seat.new.view.loaded ≡ seat.old.view.loaded + result.loads }
+    ensures loads { result.loads ≤ 1 }
 {
     know(seat);
     match rebuild_in(word) {
-        Some(base) => target(table, seat, word, base),
-        None => named(word),
+        Some(base) => {
+            let value = target(table, seat, word, base);
+            Counted { value, loads: 1 }
+        }
+        None => Counted {
+            value: named(word),
+            loads: 0,
+        },
     }
 }
 
@@ -136,19 +151,27 @@ fn leaf_in(reference: Ref) -> Option<u32>
 }
 
 // The value that the leaf gives the key.
-fn leaf_value(table: &TreeTable, seat: &mut TreeSeat, base: u32, key: u64) -> Option<u64>
+fn leaf_value(table: &TreeTable, seat: &mut TreeSeat, base: u32, key: u64) -> Counted<Option<u64>>
     requires same_table { seat.old.table ≡ table.now.table }
     requires leaf { SeesLeaf seat.old.view base }
     ensures same_table { seat.new.table ≡ seat.old.table }
-    ensures value { TellsValue seat.old.view seat.new.view key (LeafAt base) result }
-    ensures loads { seat.new.view.loaded ≤ seat.old.view.loaded + 2 }
+    ensures value { TellsValue seat.old.view seat.new.view key (LeafAt base) result.value }
+    ensures counted { seat.new.view.loaded ≡ seat.old.view.loaded + result.loads }
+    ensures loads { result.loads ≤ 2 }
 {
     know(seat);
     if load(table, seat, u64::from(base) + LEAF_KEY_OFFSET) != key {
-        return None;
+        return Counted {
+            value: None,
+            loads: 1,
+        };
     }
     know(seat);
-    Some(load(table, seat, u64::from(base) + LEAF_VALUE_OFFSET))
+    let value = load(table, seat, u64::from(base) + LEAF_VALUE_OFFSET);
+    Counted {
+        value: Some(value),
+        loads: 2,
+    }
 }
 
 /// The value that nothing, or a leaf, gives the key.
@@ -157,16 +180,20 @@ pub(crate) fn value_in(
     seat: &mut TreeSeat,
     reference: Ref,
     key: u64,
-) -> Option<u64>
+) -> Counted<Option<u64>>
     requires same_table { seat.old.table ≡ table.now.table }
     requires end { IsEnd seat.old.view (ref_meant reference) }
     ensures same_table { seat.new.table ≡ seat.old.table }
-    ensures value { TellsValue seat.old.view seat.new.view key (ref_meant reference) result }
-    ensures loads { seat.new.view.loaded ≤ seat.old.view.loaded + 2 }
+    ensures value { TellsValue seat.old.view seat.new.view key (ref_meant reference) result.value }
+    ensures counted { seat.new.view.loaded ≡ seat.old.view.loaded + result.loads }
+    ensures loads { result.loads ≤ 2 }
 {
     know(seat);
     match leaf_in(reference) {
         Some(base) => leaf_value(table, seat, base, key),
-        None => None,
+        None => Counted {
+            value: None,
+            loads: 0,
+        },
     }
 }

@@ -35,5 +35,5 @@ pub fn step_down(table: &TreeTable, seat: &mut TreeSeat, node: u32, key: u64) ->
     know(seat);
     let child = slot_for(table, seat, node, key);
     know(seat);
-    child
+    child.value
 }

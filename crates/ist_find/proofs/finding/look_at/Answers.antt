@@ -13,8 +13,8 @@ slot_for-child-requires-clause-node c =
 -- the word in its slot names a row
 pub past_change-side-requires-clause-names : goal.past_change-side-requires-clause-names
 past_change-side-requires-clause-names c =
-    holds_named _ c.know-2.ensures.sound c.args.node c.slot_for-child.result.index
-    c.slot_for-child.result.word c.slot_for-child.ensures.word
+    holds_named _ c.know-2.ensures.sound c.args.node c.slot_for-child.result.value.index
+    c.slot_for-child.result.value.word c.slot_for-child.ensures.word
 
 -- loads were made
 pub returns-clause-seen : goal.returns-clause-seen
@@ -42,8 +42,8 @@ pub returns-clause-row_loads : goal.returns-clause-row_loads
 returns-clause-row_loads c =
     λ row. let second = c.past_change-side.ensures.loads in
     let third = c.past_rebuild-reference.ensures.loads in
-    look_cost _ _ _ c.know.ensures.sound c.slot_for-child.ensures.seen c.args.key c.args.node
-    c.slot_for-child.result.index row c.slot_for-child.ensures.index
+    look_cost _ _ _ _ c.know.ensures.sound c.slot_for-child.ensures.seen c.args.key c.args.node
+    c.slot_for-child.result.value.index row c.slot_for-child.ensures.index
     (c.slot_for-child.ensures.row_loads row) (omega arith)
 
 pub returns-clause-reached : goal.returns-clause-reached

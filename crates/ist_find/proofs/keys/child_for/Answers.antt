@@ -26,34 +26,34 @@ returns-then-ends-key-clause-value c =
     (keys_rise v c.know.ensures.sound c.args.node c.requires.row) (omega arith))
 
 -- the row is published still, with the same keys
-pub gallop_from-requires-clause-row : goal.gallop_from-requires-clause-row
-gallop_from-requires-clause-row c =
+pub gallop_from-child-requires-clause-row : goal.gallop_from-child-requires-clause-row
+gallop_from-child-requires-clause-row c =
     row_on _ _ c.end_keys-ends.ensures.seen c.args.node c.requires.row
 
-pub gallop_from-requires-clause-count : goal.gallop_from-requires-clause-count
-gallop_from-requires-clause-count c =
+pub gallop_from-child-requires-clause-count : goal.gallop_from-child-requires-clause-count
+gallop_from-child-requires-clause-count c =
     c.requires.count
     ∙ sym (ap length (keys_on _ _ c.end_keys-ends.ensures.seen c.args.node c.requires.row))
 
 -- the key lies between the end keys
-pub gallop_from-requires-clause-within : goal.gallop_from-requires-clause-within
-gallop_from-requires-clause-within c =
+pub gallop_from-child-requires-clause-within : goal.gallop_from-child-requires-clause-within
+gallop_from-child-requires-clause-within c =
     let is = c.guess-from.ensures.value in
     let many = c.if-count-le-FEW_KEYS.false in
     let between = guess_of-between c.end_keys-ends.result.first c.end_keys-ends.result.last
     c.args.count c.args.key (omega arith) c.if-key-ends.false c.if-ends-key.false in
     omega (arith, between.1)
 
-pub gallop_from-requires-clause-first : goal.gallop_from-requires-clause-first
-gallop_from-requires-clause-first c =
+pub gallop_from-child-requires-clause-first : goal.gallop_from-child-requires-clause-first
+gallop_from-child-requires-clause-first c =
     let same = keys_on _ _ c.end_keys-ends.ensures.seen c.args.node c.requires.row in
     let here = ap (λ ks. get_or ks 0 0) same in
     let first = c.end_keys-ends.ensures.first in
     let low = c.if-key-ends.false in
     omega arith
 
-pub gallop_from-requires-clause-last : goal.gallop_from-requires-clause-last
-gallop_from-requires-clause-last c =
+pub gallop_from-child-requires-clause-last : goal.gallop_from-child-requires-clause-last
+gallop_from-child-requires-clause-last c =
     let same = keys_on _ _ c.end_keys-ends.ensures.seen c.args.node c.requires.row in
     let here = ap (λ ks. get_or ks (length ks - 1) 0) same in
     let last = c.end_keys-ends.ensures.last in
@@ -62,10 +62,10 @@ gallop_from-requires-clause-last c =
 
 pub returns-clause-seen : goal.returns-clause-seen
 returns-clause-seen c =
-    goes_on_more _ _ _ c.end_keys-ends.ensures.seen c.gallop_from.ensures.seen
+    goes_on_more _ _ _ c.end_keys-ends.ensures.seen c.gallop_from-child.ensures.seen
 
 pub returns-clause-value : goal.returns-clause-value
 returns-clause-value c =
-    c.gallop_from.ensures.value
+    c.gallop_from-child.ensures.value
     ∙ ap (λ ks. child_count ks c.args.key)
     (keys_on _ _ c.end_keys-ends.ensures.seen c.args.node c.requires.row)

@@ -1,4 +1,5 @@
-use Rattle.std.proofs.Common.{◌∙◌, ◌-◌, nat_lt, cond, ap, arith}
+use Rattle.std.proofs.Common.{◌+◌, ◌∙◌, ◌-◌, ◌<◌, ◌^◌, nat_lt, cond, ap, subst, arith}
+use Rattle.ist_math.proofs.ChildLemmas.{looks_fit}
 use Rattle.ist_find.proofs.KeyLemmas.{run_begins, run_on, run_to, run-near, run-far}
 use Rattle.ist_find.proofs.keys.gallop_from.Goals as goal
 
@@ -17,6 +18,16 @@ loop-gallop-init c =
           c.begin-gallop.ensures.gallops,
     )
 
+-- they are few enough to be counted
+pub overflow_add-loads : goal.overflow_add-loads
+overflow_add-loads c =
+    let few = looks_fit _ c.args.key c.args.from c.loop-gallop.gallop c.loop-gallop.loads
+    c.loop-gallop.invariant.1.galloped (subst (λ n. c.args.from < n) c.requires.count c.requires.within) in
+    let count = c.requires.count in
+    let fits = c.requires.fits in
+    let h : c.loop-gallop.loads + 1 < 2 ^ 64 = omega arith in
+    record { fits = h }
+
 -- each look is one load
 pub loop-gallop-preserved : goal.loop-gallop-preserved
 loop-gallop-preserved c =
@@ -25,21 +36,31 @@ loop-gallop-preserved c =
     let t = c.told-gallop.ensures in (
       k.same_table ∙ c.loop-gallop.invariant.0,
       run_on _ _ _ c.args.node c.args.from c.args.key c.loop-gallop.gallop c.told-gallop.result
-          c.probe-at.result c.key_at-in-loop-gallop.result c.loop-gallop.invariant.1 k.seen k.loads
+          c.loop-gallop.loads c.probe-at.result c.key_at-in-loop-gallop.result c.loop-gallop.invariant.1 k.seen k.loads
           k.value p.behind_low p.before_high t.low t.high t.gallops,
     )
 
 pub returns-clause-loads : goal.returns-clause-loads
 returns-clause-loads c =
     run-near _ _ c.know.ensures.sound c.args.node c.args.from c.args.key c.loop-gallop.gallop
-    c.loop-gallop.invariant.1 c.loop-gallop-test.ensures.exact
+    c.loop-gallop.loads c.loop-gallop.invariant.1 c.loop-gallop-test.ensures.exact
 
 pub returns-clause-loads_far : goal.returns-clause-loads_far
 returns-clause-loads_far c =
     run-far _ _ c.know.ensures.sound c.args.node c.args.from c.args.key c.loop-gallop.gallop
-    c.loop-gallop.invariant.1 c.loop-gallop-test.ensures.exact
+    c.loop-gallop.loads c.loop-gallop.invariant.1 c.loop-gallop-test.ensures.exact
 
 pub returns-clause-value : goal.returns-clause-value
 returns-clause-value c =
     run_to _ _ c.know.ensures.sound c.args.node c.args.from c.args.key c.loop-gallop.gallop
-    c.loop-gallop.invariant.1 c.loop-gallop-test.ensures.exact c.requires.row
+    c.loop-gallop.loads c.loop-gallop.invariant.1 c.loop-gallop-test.ensures.exact c.requires.row
+
+pub returns-clause-counted : goal.returns-clause-counted
+returns-clause-counted c = c.loop-gallop.invariant.1.loaded.count
+
+pub returns-clause-fits : goal.returns-clause-fits
+returns-clause-fits c =
+    let few = looks_fit _ c.args.key c.args.from c.loop-gallop.gallop c.loop-gallop.loads
+    c.loop-gallop.invariant.1.galloped (subst (λ n. c.args.from < n) c.requires.count c.requires.within) in
+    let count = c.requires.count in
+    omega arith

@@ -16,8 +16,8 @@ load-requires-clause-within c =
     let same = ap (λ t. t.words) c.requires.same_table in
     omega arith
 
-pub load-requires-2-clause-within : goal.load-requires-2-clause-within
-load-requires-2-clause-within c =
+pub load-value-requires-clause-within : goal.load-value-requires-clause-within
+load-value-requires-clause-within c =
     let g = looked_goes_on _ _ _ _ c.load.ensures.looked in
     let r = leaf_on _ _ g c.args.base c.requires.leaf in
     let low = (row_low _ c.know-2.ensures.sound c.args.base (Leaf r.row) r.published 1
@@ -37,5 +37,5 @@ returns-then-load-key-clause-value c =
 pub returns-clause-value : goal.returns-clause-value
 returns-clause-value c =
     value_told _ _ _ c.args.key c.args.base _ _ _ _ c.load.ensures.looked
-    (ap (λ n. n + 0) c.from.ensures) c.if-load-key.false c.load-2.ensures.looked
+    (ap (λ n. n + 0) c.from.ensures) c.if-load-key.false c.load-value.ensures.looked
     (ap (λ n. n + 1) c.from-2.ensures)

@@ -3,7 +3,7 @@ use Rattle.ist_core.specs.Arithmetic.{child_count}
 use Rattle.ist_rule.proofs.GoingOnLemmas.{goes_on_more, looked_goes_on}
 use Rattle.ist_math.specs.Guess.{guess_in, distance}
 use Rattle.ist_find.proofs.RowLemmas.{row_on, keys_on, knows_row, slot_told, child_is}
-use Rattle.ist_find.proofs.children.child_at.Goals as goal
+use Rattle.ist_find.proofs.children.child_and_loads.Goals as goal
 
 -- the row is published still, with the same keys
 pub child_for-index-requires-clause-row : goal.child_for-index-requires-clause-row
@@ -61,18 +61,22 @@ returns-clause-seen c =
 
 pub returns-clause-loads : goal.returns-clause-loads
 returns-clause-loads c =
-    let first = c.key_count-count.ensures.loads in
     let more = c.child_for-index.ensures.loads in
-    let last = ap (λ x. x.loaded) c.load-word.ensures.looked.view in
-    let same = ap (λ ks. distance (guess_in ks c.args.key) c.child_for-index.result)
+    let same = ap (λ ks. distance (guess_in ks c.args.key) c.child_for-index.result.value)
     (keys_on _ _ c.key_count-count.ensures.seen c.args.node c.requires.row) in
     omega arith
 
 pub returns-clause-loads_far : goal.returns-clause-loads_far
 returns-clause-loads_far c k less =
-    let first = c.key_count-count.ensures.loads in
-    let last = ap (λ x. x.loaded) c.load-word.ensures.looked.view in
-    let same = ap (λ ks. distance (guess_in ks c.args.key) c.child_for-index.result)
+    let same = ap (λ ks. distance (guess_in ks c.args.key) c.child_for-index.result.value)
     (keys_on _ _ c.key_count-count.ensures.seen c.args.node c.requires.row) in
     let more = c.child_for-index.ensures.loads_far k (omega arith) in
+    omega arith
+
+-- each load is counted
+pub returns-clause-counted : goal.returns-clause-counted
+returns-clause-counted c =
+    let first = c.key_count-count.ensures.loads in
+    let more = c.child_for-index.ensures.counted in
+    let last = ap (λ x. x.loaded) c.load-word.ensures.looked.view in
     omega arith

@@ -2,15 +2,17 @@ use Rattle.std.proofs.Common.{◌≡◌, ◌-◌}
 use Rattle.ist_layout.specs.Meanings.{ref_meant}
 use Rattle.ist_rule.specs.Learning.{GoesOnTo}
 use Rattle.ist_find.specs.Reads.{LooksFew, IsReached}
-use Rattle.ist_find.proofs.finding.find_from_anchor.Given as goal
+use Rattle.ist_find.proofs.CostLemmas.{HasSpent}
+use Rattle.ist_find.proofs.finding.find_and_loads.Given as goal
 
--- each turn made loads alone, and few, and looked at a slot of a node to which the search has come
+-- each turn made loads alone, few and counted, and looked at a slot of a node to which the search has come
 abbrev pub invariant-loop-look : goal.invariant-loop-look
 invariant-loop-look l = (l.seat.table ≡ l.initial.seat.table)
     × GoesOnTo l.initial.seat.view l.seat.view
-    × LooksFew l.initial.seat.view l.seat.view l.key l.node l.look.index
-    (ref_meant l.look.reference)
-    × IsReached l.seat.view l.node (ref_meant l.look.reference)
+    × LooksFew l.initial.seat.view l.seat.view l.key l.node l.look.value.index
+    (ref_meant l.look.value.reference)
+    × IsReached l.seat.view l.node (ref_meant l.look.value.reference)
+    × HasSpent l.fn.seat.view l.seat.view l.node l.loads
 
 -- each row lies above the one before it
 abbrev pub decreases-loop-look : goal.decreases-loop-look
