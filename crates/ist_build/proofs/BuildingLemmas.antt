@@ -18,6 +18,8 @@ use Rattle.ist_core.proofs.ReferenceLemmas.{ref_of-word_of}
 use Rattle.ist_core.proofs.RootLemmas.{least_degree-le}
 use Rattle.ist_core.proofs.RoomLemmas.{next_within, words_same}
 use Rattle.ist_core.proofs.ShapeLemmas.{shape_none, shape_one, shape_many}
+use Rattle.ist_forms.specs.Dividing.{lens_to, parts_to, share_of}
+use Rattle.ist_forms.proofs.PartLemmas.{parts_all, lens_all}
 use Rattle.ist_rule.specs.declared.view.View.{View}
 use Rattle.ist_rule.specs.Rule.{IsSound}
 use Rattle.ist_rule.specs.Learning.{now}
@@ -27,11 +29,11 @@ use Rattle.ist_rows.specs.declared.callers.Caller.{Caller}
 use Rattle.ist_rows.specs.Rows.{IsFull}
 use Rattle.ist_rows.specs.Building.{IsInBuild, IsNext, HasTaken}
 use Rattle.ist_build.specs.Laying.{BuiltOn, ArePlaced, HaveLeaves, IsLeaf, IsLaid, IsDue, IsShort}
-use Rattle.ist_build.specs.Midway.{words_at, AreLaid, lens_to, lens_from, parts_to, IsOpened, IsMidway}
+use Rattle.ist_build.specs.Midway.{words_at, AreLaid, lens_from, IsOpened, IsMidway}
 use Rattle.ist_build.proofs.BuiltLemmas.{built_more, loads_built}
 use Rattle.ist_build.proofs.LayingLemmas.{laid_none, laid_leaf, laid_top}
-use Rattle.ist_build.proofs.MidwayLemmas.{part_placed, length-part_of}
-use Rattle.ist_build.proofs.PartsLemmas.{part_of, parts_all, lens_all, lens_first, lens_last, sizes_left}
+use Rattle.ist_build.proofs.MidwayLemmas.{part_placed, length-share_of}
+use Rattle.ist_build.proofs.PartsLemmas.{lens_first, lens_last, sizes_left}
 
 -- ---- few leaves
 
@@ -150,27 +152,27 @@ held_good v s number base size i =
 
 -- the part as a slice
 pub slice_part : (leaves : List ℕ) (n j start len : ℕ) → start ≡ part_start n j → len ≡ part_len n j
-    → take (start + len - start) (drop start leaves) ≡ part_of n j leaves
+    → take (start + len - start) (drop start leaves) ≡ share_of n j leaves
 slice_part leaves n j start len start_is len_is =
     ap (λ k. take k (drop start leaves)) (let q : start + len - start ≡ len = omega arith in q)
     ∙ ap₂ (λ l s. take l (drop s leaves)) len_is start_is
 
 module _ (old who : Caller) (leaves : List ℕ) (base d j : ℕ) (m : IsMidway old leaves base d j who)
     (less : j < degree (length leaves)) (some : 1 ≤ part_len (length leaves) j) (own : List ℕ)
-    (own_is : own ≡ part_of (length leaves) j leaves) where
+    (own_is : own ≡ share_of (length leaves) j leaves) where
   abbrev n : ℕ
   n = length leaves
 
   -- its leaves are published
   pub part_leaves : HaveLeaves (now old.seat.view) leaves → HaveLeaves (now who.seat.view) own
   part_leaves have = (
-    part_of n j have.0,
-    subst (λ bases. ArePlaced (now who.seat.view) bases (part_of n j have.0)) (sym own_is)
+    share_of n j have.0,
+    subst (λ bases. ArePlaced (now who.seat.view) bases (share_of n j have.0)) (sym own_is)
         (part_placed old.seat.view who.seat.view m.built n j leaves have.0 have.1),
   )
 
   pub length_own : length own ≡ part_len n j
-  length_own = ap length own_is ∙ length-part_of n j leaves refl less
+  length_own = ap length own_is ∙ length-share_of n j leaves refl less
 
   -- and so is the first
   pub first_leaf : HaveLeaves (now old.seat.view) leaves
@@ -190,10 +192,10 @@ module _ (old who : Caller) (leaves : List ℕ) (base d j : ℕ) (m : IsMidway o
   pub key_told : (key : ℕ) → ((row : LeafRow)
       → (now who.seat.view).pieces (slice_index_or own 0 0) ≡ Some (Leaf row) → key ≡ row.key)
       → (placed : List PlacedLeaf) → ArePlaced (now old.seat.view) leaves placed
-      → (leaf : PlacedLeaf) (others : List PlacedLeaf) → part_of n j placed ≡ leaf ∷ others
+      → (leaf : PlacedLeaf) (others : List PlacedLeaf) → share_of n j placed ≡ leaf ∷ others
       → key ≡ leaf.row.key
   key_told key told placed a leaf others is =
-      let it = subst (ArePlaced (now who.seat.view) (part_of n j leaves)) is
+      let it = subst (ArePlaced (now who.seat.view) (share_of n j leaves)) is
       (part_placed old.seat.view who.seat.view m.built n j leaves placed a) in
       let first : slice_index_or own 0 0 ≡ leaf.base =
       ap (λ xs. slice_index_or xs 0 0) (own_is ∙ sym it.bases_are) in

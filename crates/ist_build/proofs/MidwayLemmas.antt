@@ -19,6 +19,8 @@ use Rattle.ist_core.proofs.ShapeLemmas.{shape_many}
 use Rattle.ist_rule.specs.declared.view.View.{View}
 use Rattle.ist_rule.specs.declared.view.OwnWord.{OwnWord}
 use Rattle.ist_core.specs.declared.events.Who.TheVariants.{Caller as CallerOf}
+use Rattle.ist_forms.specs.Dividing.{lens_to, parts_to, share_of}
+use Rattle.ist_forms.proofs.PartLemmas.{parts_next, keys_next}
 use Rattle.ist_rule.specs.Faces.{SeatFace}
 use Rattle.ist_rule.specs.Rule.{IsSound, own_at}
 use Rattle.ist_rule.specs.Learning.{now, GoesOnTo, storing}
@@ -29,12 +31,12 @@ use Rattle.ist_rows.specs.Building.{IsInBuild, HasTaken}
 use Rattle.ist_rows.proofs.BuildingCallLemmas.{took, at_goes_on, at_storing}
 use Rattle.ist_rows.proofs.CallerGoingLemmas.{caller_goes_on}
 use Rattle.ist_build.specs.Laying.{Reserves, BuiltOn, ArePlaced, IsLaid}
-use Rattle.ist_build.specs.Midway.{words_at, AreLaid, lens_to, lens_from, parts_to, IsOpened, IsMidway, opening, setting}
+use Rattle.ist_build.specs.Midway.{words_at, AreLaid, lens_from, IsOpened, IsMidway, opening, setting}
 use Rattle.ist_build.proofs.BuiltLemmas.{built_more, built_next, built_held, built_grow, loads_built, reserved_built, rewritten_built, leaf_grows}
 use Rattle.ist_build.proofs.LaidOnLemmas.{next_between}
 use Rattle.ist_build.proofs.LayingLemmas.{row_within, rows_below, are_laid_none, are_laid_on, same_rows, are_laid_more}
 use Rattle.ist_build.proofs.OwnWordLemmas.{own_here, own_else, words_at_same, words_at_more}
-use Rattle.ist_build.proofs.PartsLemmas.{lens_first, part_of, parts_next, keys_next, sizes_next, sizes_left}
+use Rattle.ist_build.proofs.PartsLemmas.{lens_first, sizes_next, sizes_left}
 
 -- a place of a row that the caller holds
 pub holds_place : (who : Caller) (base d at : ℕ)
@@ -282,21 +284,21 @@ published_on v w b (leaf ∷ leaves) h = (
 
 pub part_placed : (v w : View) → BuiltOn v w → (n j : ℕ) (bases : List ℕ)
     (leaves : List PlacedLeaf) → ArePlaced (now v) bases leaves
-    → ArePlaced (now w) (part_of n j bases) (part_of n j leaves)
+    → ArePlaced (now w) (share_of n j bases) (share_of n j leaves)
 part_placed v w b n j bases leaves a =
     record {
       bases_are = sym (take-map (λ (leaf : PlacedLeaf). leaf.base) (part_len n j)
           (drop (part_start n j) leaves))
           ∙ ap (take (part_len n j)) (sym (drop-map (λ (leaf : PlacedLeaf). leaf.base)
           (part_start n j) leaves) ∙ ap (drop (part_start n j)) a.bases_are);
-      published = published_on v w b (part_of n j leaves)
+      published = published_on v w b (share_of n j leaves)
           (each_take _ (part_len n j) (drop (part_start n j) leaves)
           (each_drop _ (part_start n j) leaves a.published));
     }
 
-pub length-part_of : {A : Type 0} (n j : ℕ) (xs : List A) → length xs ≡ n → j < degree n
-    → length (part_of n j xs) ≡ part_len n j
-length-part_of n j xs many less =
+pub length-share_of : {A : Type 0} (n j : ℕ) (xs : List A) → length xs ≡ n → j < degree n
+    → length (share_of n j xs) ≡ part_len n j
+length-share_of n j xs many less =
     let all = part_end-le n j less in
     let rest = length-drop (part_start n j) xs in
     length-take-le (part_len n j) (drop (part_start n j) xs) (omega arith)
@@ -311,12 +313,12 @@ module _ (old who new : Caller) (leaves : List ℕ) (base d j key word : ℕ)
     (caller : IsCaller new) (number : new.number ≡ who.number)
     (rows : spares_of new ≡ spares_of who) (b : BuiltOn who.seat.view new.seat.view)
     (laid : (part : List PlacedLeaf)
-    → ArePlaced (now who.seat.view) (part_of (length leaves) j leaves) part
+    → ArePlaced (now who.seat.view) (share_of (length leaves) j leaves) part
     → IsLaid new.seat.view new.number (now who.seat.view).next word part)
     (taken : HasTaken who (shape (part_len (length leaves) j)) new)
     (key_is : (placed : List PlacedLeaf) → ArePlaced (now old.seat.view) leaves placed
     → (leaf : PlacedLeaf) (others : List PlacedLeaf)
-    → part_of (length leaves) j placed ≡ leaf ∷ others → key ≡ leaf.row.key)
+    → share_of (length leaves) j placed ≡ leaf ∷ others → key ≡ leaf.row.key)
     (some : 1 ≤ part_len (length leaves) j)
   where
     abbrev n : ℕ
@@ -357,7 +359,7 @@ module _ (old who new : Caller) (leaves : List ℕ) (base d j key word : ℕ)
 
     module _ (placed : List PlacedLeaf) (a : ArePlaced (now old.seat.view) leaves placed) where
       part : List PlacedLeaf
-      part = part_of n j placed
+      part = share_of n j placed
 
       before : AreLaid v new.number (base + inner_words d) base (words_at v.own (base + 3 + d) j)
           (parts_to n j placed)
@@ -365,8 +367,8 @@ module _ (old who new : Caller) (leaves : List ℕ) (base d j key word : ℕ)
           subst (λ k. AreLaid v k (base + inner_words d) base (words_at v.own (base + 3 + d) j)
           (parts_to n j placed)) (sym number) (m.laid placed a)
 
-      there : IsLaid c new.number (now v).next word (part_of n j placed)
-      there = laid (part_of n j placed) (part_placed old.seat.view v m.built n j leaves placed a)
+      there : IsLaid c new.number (now v).next word (share_of n j placed)
+      there = laid (share_of n j placed) (part_placed old.seat.view v m.built n j leaves placed a)
 
       on : AreLaid c new.number (base + inner_words d) base (words_at v.own (base + 3 + d) j)
           (parts_to n j placed)
@@ -385,11 +387,11 @@ module _ (old who new : Caller) (leaves : List ℕ) (base d j key word : ℕ)
           (parts_to n j placed) before
 
       joined : AreLaid c new.number (base + inner_words d) base
-          (words_at v.own (base + 3 + d) j ++ word ∷ []) (parts_to n j placed ++ part_of n j placed ∷ [])
+          (words_at v.own (base + 3 + d) j ++ word ∷ []) (parts_to n j placed ++ share_of n j placed ∷ [])
       joined =
           let high = inside in
           are_laid_more c b.sound new.number (base + inner_words d) (now v).next base inside (omega arith)
-          (words_at v.own (base + 3 + d) j) (parts_to n j placed) word (part_of n j placed) on there
+          (words_at v.own (base + 3 + d) j) (parts_to n j placed) word (share_of n j placed) on there
           (subst (Each (λ row. row.base < (now v).next)) (sym same)
           (rows_below v s new.number before.rows before.owns.held))
 
@@ -407,21 +409,21 @@ module _ (old who new : Caller) (leaves : List ℕ) (base d j key word : ℕ)
           subst (AreLaid w new.number (base + inner_words d) base (words_at words (base + 3 + d) (j + 1)))
           (sym (parts_next n j placed))
           (subst (λ xs. AreLaid w new.number (base + inner_words d) base xs
-          (parts_to n j placed ++ part_of n j placed ∷ [])) (sym words_now)
+          (parts_to n j placed ++ share_of n j placed ∷ [])) (sym words_now)
           (are_laid_on c w b.sound sound new.number (base + inner_words d) (all_grow_same (now c).pieces)
           (λ b2 size h. h)
           (λ place low high. elsewhere c base d j key word less place (λ e. omega arith)
           (λ one e. omega arith))
           base (words_at v.own (base + 3 + d) j ++ word ∷ [])
-          (parts_to n j placed ++ part_of n j placed ∷ []) joined))
+          (parts_to n j placed ++ share_of n j placed ∷ []) joined))
 
       first_part : (leaf : PlacedLeaf) × (others : List PlacedLeaf)
-          × (part_of n j placed ≡ leaf ∷ others)
+          × (share_of n j placed ≡ leaf ∷ others)
       first_part =
           let many = sym (length-map placed (λ (leaf : PlacedLeaf). leaf.base)) ∙ ap length a.bases_are in
-          let len = length-part_of n j placed many (let q : j < degree n = omega (arith, degree_is) in q) in
+          let len = length-share_of n j placed many (let q : j < degree n = omega (arith, degree_is) in q) in
           let one = some in
-          some_first (part_of n j placed) (omega arith)
+          some_first (share_of n j placed) (omega arith)
 
       keys_more : words_at words (base + 4) (j + 1 - 1)
           ≡ first_keys (λ (leaf : PlacedLeaf). leaf.row.key) (drop 1 (parts_to n (j + 1) placed))
@@ -510,12 +512,12 @@ pub midway_part : (old who new last : Caller) (leaves : List ℕ) (base d j key 
     → IsCaller new → new.number ≡ who.number → spares_of new ≡ spares_of who
     → BuiltOn who.seat.view new.seat.view
     → ((part : List PlacedLeaf)
-    → ArePlaced (now who.seat.view) (part_of (length leaves) j leaves) part
+    → ArePlaced (now who.seat.view) (share_of (length leaves) j leaves) part
     → IsLaid new.seat.view new.number (now who.seat.view).next word part)
     → HasTaken who (shape (part_len (length leaves) j)) new
     → ((placed : List PlacedLeaf) → ArePlaced (now old.seat.view) leaves placed
     → (leaf : PlacedLeaf) (others : List PlacedLeaf)
-    → part_of (length leaves) j placed ≡ leaf ∷ others → key ≡ leaf.row.key)
+    → share_of (length leaves) j placed ≡ leaf ∷ others → key ≡ leaf.row.key)
     → 1 ≤ part_len (length leaves) j
     → last ≡ record new { seat = record new.seat { view = setting new.seat.view base d j key word } }
     → IsCaller last → IsSound last.seat.view → IsMidway old leaves base d (j + 1) last

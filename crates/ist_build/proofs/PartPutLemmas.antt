@@ -65,13 +65,13 @@ use Rattle.ist_build.specs.Naming.{placing, losing, rows_from}
 use Rattle.ist_build.specs.Putting.{HasDegree, IsSlotSet, IsShared}
 use Rattle.ist_build.proofs.BackLemmas.{IsBack, back_logged, back_lost}
 use Rattle.ist_build.proofs.BuiltLemmas.{built_grow, built_more, loads_built}
-use Rattle.ist_build.proofs.RootLemmas.{part_is}
-use Rattle.ist_build.proofs.PartsLemmas.{part_of}
-use Rattle.ist_build.proofs.MidwayLemmas.{length-part_of}
+use Rattle.ist_build.proofs.MidwayLemmas.{length-share_of}
 use Rattle.ist_build.proofs.LayingLemmas.{rows_free}
 use Rattle.ist_core.specs.Parts.{parts}
 use Rattle.std.proofs.lemmas.Bool.Decides.{eqb_tells}
 use Rattle.ist_core.proofs.DrawLemmas.{same_rebuild}
+use Rattle.ist_forms.specs.Dividing.{share_of}
+use Rattle.ist_forms.proofs.PartLemmas.{part_is}
 use Rattle.ist_build.proofs.RootPutLemmas.{IsTopped, root_topped, topped_set, rows_of_topped}
 use Rattle.ist_build.proofs.TopLemmas.{leaves_on, degree_small}
 use Rattle.ist_build.proofs.UnsetLemmas.{unset_built}
@@ -305,7 +305,7 @@ module _ (old mid : Caller) (c : IsCaller old) (refused : HasRefused old) (s : I
   part = take (part_len k i) (drop (part_start k i) some.0)
 
   long : length part ≡ part_len k i
-  long = length-part_of k i some.0 some.2 less
+  long = length-share_of k i some.0 some.2 less
 
   h : IsLaid w mid.number (now v).next word part
   h = laid some.0 some.1
@@ -340,7 +340,7 @@ module _ (old mid : Caller) (c : IsCaller old) (refused : HasRefused old) (s : I
         reached = subst (λ n. HasLeaves (now w).pieces (Some (InnerAt n)) some.0) (sym on.target_is)
             (leaves_on v w b target k sh.finished some.0 some.1);
         part = part;
-        part_is = subst (λ n. slice_get (parts some.0) i ≡ Some (part_of n i some.0)) some.2
+        part_is = subst (λ n. slice_get (parts some.0) i ≡ Some (share_of n i some.0)) some.2
             (part_is some.0 i (subst (λ n. i < degree n) (sym some.2) less));
         ref = h.ref;
         ref_is = h.ref_is;

@@ -35,7 +35,7 @@ use Rattle.ist_build.specs.Laying.{BuiltOn, IsRootLaid, IsTarget, IsLeaf, IsShor
 use Rattle.ist_build.specs.Naming.{rooting_few}
 use Rattle.ist_build.specs.Calls.{IsTold}
 use Rattle.ist_build.specs.Putting.{PutOn, IsStopped}
-use Rattle.ist_build.specs.Reading.{IsRebuild}
+use Rattle.ist_mark.specs.Passing.{IsRebuildRow}
 use Rattle.ist_build.proofs.PutOnLemmas.{short_stopped}
 use Rattle.ist_build.proofs.BuiltLemmas.{built_grow, loads_built, leaf_goes_on}
 use Rattle.ist_build.proofs.ReadingLemmas.{leaves_number}
@@ -255,7 +255,7 @@ found_so old seat last c refused first second rebuild target k n told h f =
 
 -- the rebuild is published
 pub told_rebuild : (v w : View) → GoesOnTo v w → (rebuild k : ℕ) → IsTold (now v) rebuild k
-    → IsRebuild (now w) rebuild
+    → IsRebuildRow (now w) rebuild
 told_rebuild v w g rebuild k told =
     let on = told_on (now v) (now w) (built_grow v w (loads_built v w g)) rebuild k told in
     record { row = on.row; published = on.published }

@@ -1,8 +1,7 @@
 -- What was laid may be put in place: as the root of a rebuild, or as a part of a shared root.
 -- Serves
 -- the calls that put it there.
-use Rattle.std.proofs.Common.{◌≡◌, ℕ, zero, suc, ◌+◌, ◌<◌, ◌≤◌, List, [], ◌∷◌, ◌++◌, length, length-append, take, drop, slice_get, Some, refl, sym, ap, ◌∙◌, subst, ⊎_elim, arith}
-use Rattle.std.proofs.lemmas.Bool.{cases_lt}
+use Rattle.std.proofs.Common.{◌≡◌, ℕ, ◌<◌, ◌≤◌, List, length, take, drop, slice_get, Some, sym, subst, arith}
 use Rattle.std.proofs.lemmas.List.{take_all}
 use Rattle.ist_core.specs.declared.states.InnerRow.{InnerRow}
 use Rattle.ist_core.specs.declared.states.RebuildRow.{RebuildRow}
@@ -16,57 +15,12 @@ use Rattle.ist_core.specs.Rebuilding.{IsStarted, IsFinishedWith}
 use Rattle.ist_core.specs.References.{InnerAt, ref_of}
 use Rattle.ist_core.specs.Shapes.{share_from}
 use Rattle.ist_core.specs.Snapshots.{bases_of}
+use Rattle.ist_forms.specs.Dividing.{share_of}
+use Rattle.ist_forms.proofs.PartLemmas.{part_is}
 use Rattle.ist_rule.specs.declared.view.View.{View}
 use Rattle.ist_rule.specs.Learning.{now}
 use Rattle.ist_coming.specs.Builds.{IsRootBuilt, IsPartBuilt}
 use Rattle.ist_build.specs.Laying.{IsLaid}
-use Rattle.ist_build.specs.Midway.{parts_to}
-use Rattle.ist_build.proofs.PartsLemmas.{part_of, parts_next, parts_all}
-
--- ---- the parts of a list
-
-get_left : {A : Type 0} (xs : List A) (y : A) (i : ℕ) → i < length xs
-    → slice_get (xs ++ y ∷ []) i ≡ slice_get xs i
-get_left [] y i less = absurd (omega arith)
-get_left (x ∷ xs) y zero less = refl
-get_left (x ∷ xs) y (suc i) less = get_left xs y i (omega arith)
-
-get_end : {A : Type 0} (xs : List A) (y : A) (i : ℕ) → i ≡ length xs
-    → slice_get (xs ++ y ∷ []) i ≡ Some y
-get_end [] y zero is = refl
-get_end [] y (suc i) is = absurd (omega arith)
-get_end (x ∷ xs) y zero is = absurd (omega arith)
-get_end (x ∷ xs) y (suc i) is = get_end xs y i (omega arith)
-
-length-parts_to : (n j : ℕ) (leaves : List PlacedLeaf) → length (parts_to n j leaves) ≡ j
-length-parts_to n zero leaves = refl
-length-parts_to n (suc j) leaves =
-    let rest = length-parts_to n j leaves in
-    let more = length-append (parts_to n j leaves) (part_of n j leaves ∷ []) in
-    ap (λ k. length (parts_to n k leaves)) (let q : suc j ≡ j + 1 = omega arith in q)
-    ∙ ap length (parts_next n j leaves) ∙ omega arith
-
-get_part : (n j i : ℕ) (leaves : List PlacedLeaf) → i < j
-    → slice_get (parts_to n j leaves) i ≡ Some (part_of n i leaves)
-get_part n zero i leaves less = absurd (omega arith)
-get_part n (suc j) i leaves less =
-    ap (λ k. slice_get (parts_to n k leaves) i) (let q : suc j ≡ j + 1 = omega arith in q)
-    ∙ ap (λ xs. slice_get xs i) (parts_next n j leaves)
-    ∙ (let long = length-parts_to n j leaves in
-    ⊎_elim
-    (λ (low : i < j). get_left (parts_to n j leaves) (part_of n j leaves) i (omega arith)
-    ∙ get_part n j i leaves low)
-    (λ (high : j ≤ i).
-    let same : i ≡ j = omega arith in
-    get_end (parts_to n j leaves) (part_of n j leaves) i (omega arith)
-    ∙ ap (λ k. Some (part_of n k leaves)) (sym same))
-    (cases_lt i j))
-
-pub part_is : (leaves : List PlacedLeaf) (i : ℕ) → i < degree (length leaves)
-    → slice_get (parts leaves) i ≡ Some (part_of (length leaves) i leaves)
-part_is leaves i less =
-    ap (λ xs. slice_get xs i) (sym (parts_all leaves))
-    ∙ get_part (length leaves) (degree (length leaves)) i leaves less
 
 -- ---- a root
 
@@ -120,8 +74,8 @@ part_built w number low rebuild i word root row published started k finished sha
       within = within;
       leaves = leaves;
       reached = reached;
-      part = part_of k i leaves;
-      part_is = subst (λ n. slice_get (parts leaves) i ≡ Some (part_of n i leaves)) many
+      part = share_of k i leaves;
+      part_is = subst (λ n. slice_get (parts leaves) i ≡ Some (share_of n i leaves)) many
           (part_is leaves i (let q : i < degree (length leaves) = subst (λ n. i < degree n)
           (sym many) less in q));
       ref = h.ref;

@@ -32,6 +32,8 @@ use Rattle.ist_rule.specs.Learning.{now, GoesOnTo}
 use Rattle.std.proofs.lemmas.Bool.{cases_lt}
 use Rattle.std.proofs.Math.Nat.{mul-le-mul_right}
 use Rattle.std.proofs.lemmas.List.{length-drop}
+use Rattle.ist_forms.specs.Dividing.{parts_to, share_of}
+use Rattle.ist_forms.proofs.PartLemmas.{parts_all, keys_next}
 use Rattle.ist_rows.specs.declared.callers.Caller.{Caller}
 use Rattle.ist_rows.specs.Rows.{spares_of, is_spare, build_sizes, IsCaller, Reserved}
 use Rattle.ist_rows.specs.Building.{IsInBuild, IsNext, HasTaken, HasRefused, sizes_built}
@@ -40,12 +42,11 @@ use Rattle.ist_rows.proofs.HeldListLemmas.{held_by_later}
 use Rattle.ist_rule.proofs.WentOnLemmas.{later_by-goes_on}
 use Rattle.ist_build.specs.Calls.{HasKeys}
 use Rattle.ist_build.specs.Laying.{BuiltOn, IsTopLaid, IsTarget, IsLeaf}
-use Rattle.ist_build.specs.Midway.{words_at, parts_to, IsOpened, IsTopMidway, opening, setting}
+use Rattle.ist_build.specs.Midway.{words_at, IsOpened, IsTopMidway, opening, setting}
 use Rattle.ist_build.proofs.BuiltLemmas.{built_more, built_held, built_grow, built_now, built_lawful, loads_built, reserved_built, rewritten_built, leaf_goes_on}
 use Rattle.ist_build.proofs.BuildingLemmas.{held_good}
-use Rattle.ist_build.proofs.MidwayLemmas.{IsFreshRow, fresh_row, opened_on, at_slot, at_key, elsewhere, setting_is, some_first, length-part_of, each_drop}
+use Rattle.ist_build.proofs.MidwayLemmas.{IsFreshRow, fresh_row, opened_on, at_slot, at_key, elsewhere, setting_is, some_first, length-share_of, each_drop}
 use Rattle.ist_build.proofs.OwnWordLemmas.{own_here, own_else, length-words_at, get-words_at, words_at_same, words_at_more, row_of_words, words_of_row, inner_of_row}
-use Rattle.ist_build.proofs.PartsLemmas.{part_of, parts_all, keys_next}
 use Rattle.ist_build.proofs.ReadingLemmas.{leaves_number}
 use Rattle.ist_build.proofs.ShareLemmas.{some_leaves}
 
@@ -217,7 +218,7 @@ module _ (old who : Caller) (target k base d j key : ℕ) (s : IsSound old.seat.
     (some : 1 ≤ part_len k j)
     (key_is : (leaves : List PlacedLeaf)
     → HasLeaves (now old.seat.view).pieces (Some (InnerAt target)) leaves
-    → (leaf : PlacedLeaf) (others : List PlacedLeaf) → part_of k j leaves ≡ leaf ∷ others
+    → (leaf : PlacedLeaf) (others : List PlacedLeaf) → share_of k j leaves ≡ leaf ∷ others
     → key ≡ leaf.row.key) where
   abbrev v : View
   v = who.seat.view
@@ -243,12 +244,12 @@ module _ (old who : Caller) (target k base d j key : ℕ) (s : IsSound old.seat.
 
   first_part : (leaves : List PlacedLeaf)
       → HasLeaves (now old.seat.view).pieces (Some (InnerAt target)) leaves
-      → (leaf : PlacedLeaf) × (others : List PlacedLeaf) × (part_of k j leaves ≡ leaf ∷ others)
+      → (leaf : PlacedLeaf) × (others : List PlacedLeaf) × (share_of k j leaves ≡ leaf ∷ others)
   first_part leaves has =
       let many = leaves_number old.seat.view s target k finished leaves has in
-      let len = length-part_of k j leaves many (let q : j < degree k = omega (arith, d_is) in q) in
+      let len = length-share_of k j leaves many (let q : j < degree k = omega (arith, d_is) in q) in
       let one = some in
-      some_first (part_of k j leaves) (omega arith)
+      some_first (share_of k j leaves) (omega arith)
 
   keys_more : (leaves : List PlacedLeaf)
       → HasLeaves (now old.seat.view).pieces (Some (InnerAt target)) leaves
@@ -316,7 +317,7 @@ pub key_first : (old who : Caller) (target k j start key : ℕ) → BuiltOn old.
     → key ≡ leaf.row.key)
     → (leaves : List PlacedLeaf)
     → HasLeaves (now old.seat.view).pieces (Some (InnerAt target)) leaves
-    → (leaf : PlacedLeaf) (others : List PlacedLeaf) → part_of k j leaves ≡ leaf ∷ others
+    → (leaf : PlacedLeaf) (others : List PlacedLeaf) → share_of k j leaves ≡ leaf ∷ others
     → key ≡ leaf.row.key
 key_first old who target k j start key b f is told leaves has leaf others e =
     let it = take_first (part_len k j) (drop (part_start k j) leaves) leaf others e in

@@ -5,12 +5,13 @@ use Rattle.ist_core.specs.declared.lists.Row.{Row}
 use Rattle.ist_core.specs.Arithmetic.{degree, part_len}
 use Rattle.ist_core.specs.Ideals.{AreIdeal}
 use Rattle.ist_core.specs.Leaves.{PlacedLeaf, HasLeaves}
-use Rattle.ist_core.specs.Parts.{cut, first_keys}
+use Rattle.ist_core.specs.Parts.{first_keys}
 use Rattle.ist_core.specs.Pieces.{with_inners}
 use Rattle.ist_core.specs.References.{InnerAt, unset_word}
 use Rattle.ist_core.specs.RowLayout.{inner_words}
 use Rattle.ist_core.specs.Shapes.{shape}
 use Rattle.ist_core.specs.Snapshots.{bases_of, HoldsRow}
+use Rattle.ist_forms.specs.Dividing.{lens_to, parts_to}
 use Rattle.ist_rule.specs.declared.view.View.{View}
 use Rattle.ist_rule.specs.declared.view.OwnWord.{OwnWord}
 use Rattle.ist_rule.specs.Rule.{own_at}
@@ -32,17 +33,9 @@ pub record AreLaid (w : View) (number low above : ℕ) (words : List ℕ)
   pub owns : OwnsRows w number low rows
   pub ideal : AreIdeal (with_inners (now w).pieces rows) words behind above (bases_of rows)
 
--- how many keys the first parts have
-abbrev pub lens_to : ℕ → ℕ → List ℕ
-lens_to n j = map (part_len n) (range_with_len 0 j)
-
--- and the others
+-- how many keys the parts from one on have
 abbrev pub lens_from : ℕ → ℕ → List ℕ
 lens_from n j = map (part_len n) (range_with_len j (degree n - j))
-
--- the first parts
-abbrev pub parts_to : ℕ → ℕ → List PlacedLeaf → List (List PlacedLeaf)
-parts_to n j leaves = cut (lens_to n j) leaves
 
 -- the row's first words were stored
 pub record IsOpened (own : List OwnWord) (base degree size : ℕ) : Type 0 where

@@ -2,7 +2,7 @@
 //!
 //! Read `specs/Calls.antt`, then `calls.rt`, `reading.rt` and `building.rt`. Stands on `ist_core`,
 //! `ist_layout`, `ist_math`, `ist_rule`, `ist_rows`, `ist_dcss`, `ist_mark`, and on the laws of
-//! `ist_links`, `ist_rebuilds`, `ist_stability` and `ist_coming`.
+//! `ist_links`, `ist_rebuilds`, `ist_stability`, `ist_forms` and `ist_coming`.
 #![tactic(auto)]
 
 mod below;

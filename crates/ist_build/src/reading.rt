@@ -7,7 +7,8 @@ ghost use Rattle.ist_core.specs.References.{ref_of, ChangeAt, InnerAt};
 ghost use Rattle.ist_core.specs.Slots.{SlotHolds, logical};
 ghost use Rattle.ist_links.specs.Linking.{IsFinished};
 ghost use Rattle.ist_rule.specs.Learning.{now, GoesOnTo};
-ghost use Rattle.ist_build.specs.Reading.{HasSlots, IsNoChange, IsRebuild, IsUnder, HasRead};
+ghost use Rattle.ist_mark.specs.Passing.{IsNoChange, IsRebuildRow};
+ghost use Rattle.ist_build.specs.Reading.{HasSlots, IsUnder, HasRead};
 
 use crate::below::Below;
 use ist_layout::{
@@ -68,7 +69,7 @@ pub(crate) fn keys_of(table: &TreeTable, seat: &mut TreeSeat, node: u32) -> u64
 // The node that is rebuilt.
 pub(crate) fn target_of(table: &TreeTable, seat: &mut TreeSeat, rebuild: u32) -> u32
     requires same_table { seat.old.table ≡ table.now.table }
-    requires published { IsRebuild (now seat.old.view) rebuild }
+    requires published { IsRebuildRow (now seat.old.view) rebuild }
     ensures same_table { seat.new.table ≡ seat.old.table }
     ensures seen { GoesOnTo seat.old.view seat.new.view }
     ensures target { HasTarget (now seat.new.view) rebuild result }

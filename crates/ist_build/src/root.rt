@@ -14,7 +14,7 @@ ghost use Rattle.ist_coming.specs.Builds.{WasUnset};
 ghost use Rattle.ist_build.specs.Laying.{BuiltOn, IsRootLaid, IsTarget, IsShort};
 ghost use Rattle.ist_build.specs.Calls.{IsTold, IsBuildable};
 ghost use Rattle.ist_build.specs.Putting.{PutOn, HasRoot, IsStopped};
-ghost use Rattle.ist_build.specs.Reading.{IsRebuild};
+ghost use Rattle.ist_mark.specs.Passing.{IsRebuildRow};
 
 use crate::parts::{build_share, leaf_base};
 use crate::reading::{keys_of, target_of};
@@ -29,7 +29,7 @@ use std::sync::Wait;
 // The word that stands for the root of a rebuild.
 fn root_of(table: &TreeTable, seat: &mut TreeSeat, rebuild: u32) -> u64
     requires same_table { seat.old.table ≡ table.now.table }
-    requires published { IsRebuild (now seat.old.view) rebuild }
+    requires published { IsRebuildRow (now seat.old.view) rebuild }
     ensures same_table { seat.new.table ≡ seat.old.table }
     ensures seen { GoesOnTo seat.old.view seat.new.view }
     ensures set { result ≢ unset_word → HasRoot (now seat.new.view) rebuild result }

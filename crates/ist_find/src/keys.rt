@@ -128,6 +128,7 @@ fn gallop_from(
 
 /// The child of an inner row for the key: the number of its keys that are at most it. With the
 /// loads of its keys.
+#[inline(always)]
 pub(crate) fn child_for(
     table: &TreeTable,
     seat: &mut TreeSeat,
