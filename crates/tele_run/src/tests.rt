@@ -1,54 +1,13 @@
 //! Worked inputs, with the output that they are to have.
-ghost use Rattle.std.specs.Prelude.{None};
 
 use crate::run;
-use ist_rest::Closed;
-use plain_map::Plain;
 use std::alloc::{AllocError, Global};
 use std::sync::Wait;
 use std::test::Fail;
 use std::thread::Threads;
-use tele_generations::{NoShelf, Shelf};
+use tele_generations::NoShelf;
 use tele_io::{MemorySink, MemorySource, QuietSink, QuietSource, Sink, Source};
 use tele_lanes::NoGate;
-use tele_made::Maker;
-
-/// A shelf that keeps the first eight trees that it is given, and lets the others go.
-#[derive(Drop)]
-struct Kept {
-    trees: [Option<Closed>; 8],
-    given: usize,
-}
-
-impl Kept {
-    /// An empty shelf.
-    fn new() -> Kept {
-        Kept {
-            trees: [None, None, None, None, None, None, None, None],
-            given: 0,
-        }
-    }
-
-    /// The tree that was given with this number, counted from 0, if it was kept.
-    fn get(&self, number: usize) -> Option<&Closed> {
-        if number < 8 {
-            self.trees[number].as_ref()
-        } else {
-            None
-        }
-    }
-}
-
-impl Shelf<Closed> for Kept {
-    ghost kept = { λ _. None };
-
-    fn keep(&mut self, closed: Closed) {
-        if self.given < 8 {
-            self.trees[self.given] = Some(closed);
-            self.given += 1;
-        }
-    }
-}
 
 /// Runs over a source and a sink, with no words of a command line, and gives the status.
 fn status_over<R: Threads + Wait + Sync, S: Source, O: Sink>(
@@ -189,20 +148,19 @@ fn a_line_has_at_most_80_bytes(rt: HostRuntime) -> Result<(), Fail> {
     Ok(())
 }
 
-/// Runs over some bytes in one piece with these words behind the program's name.
-fn answer_with<R: Threads + Wait + Sync>(
+/// Runs with these words behind the program's name, over a source that fails if it is read.
+fn run_unread<R: Threads + Wait + Sync>(
     rt: &R,
     alloc: Global,
     more: &[&str],
-    input: &[u8],
-    reads: &[u64],
 ) -> Result<(Vec<u8>, u8), AllocError> {
     let mut words = Vec::new(alloc);
     words.push("tele".to_string(alloc)?)?;
     for word in more {
         words.push(word.to_string(alloc)?)?;
     }
-    let mut source = MemorySource::new(input.to_vec(alloc)?, 4_096, reads.to_vec(alloc)?);
+    let bytes = b"P 5 7\n".to_vec(alloc)?;
+    let mut source = MemorySource::new(bytes, 4_096, [0].to_vec(alloc)?);
     let mut out = QuietSink::new(alloc);
     let mut shelf = NoShelf;
     let status = run(
@@ -216,105 +174,6 @@ fn answer_with<R: Threads + Wait + Sync>(
     )
     .status;
     Ok((out.bytes().to_vec(alloc)?, status))
-}
-
-/// Runs with these words behind the program's name, over a source that fails if it is read.
-fn run_unread<R: Threads + Wait + Sync>(
-    rt: &R,
-    alloc: Global,
-    more: &[&str],
-) -> Result<(Vec<u8>, u8), AllocError> {
-    answer_with(rt, alloc, more, b"P 5 7\n", &[0])
-}
-
-/// Runs over some bytes by so many workers, with so many words at most in a first tree.
-fn answer_by<R: Threads + Wait + Sync>(
-    rt: &R,
-    alloc: Global,
-    workers: &str,
-    words: u64,
-    input: &[u8],
-) -> Result<(Vec<u8>, u8), AllocError> {
-    let size = format!(in alloc; "{words}")?;
-    let more = ["--workers", workers, "--words", size.as_str()];
-    answer_with(rt, alloc, &more, input, &[])
-}
-
-#[test]
-fn tables_that_run_full_leave_the_output_as_it_is(rt: HostRuntime) -> Result<(), Fail> {
-    // the words behind the program's name, the input, the output
-    let rows: [(&[&str], &[u8], &[u8]); 2] = [
-        (
-            &["--workers", "1", "--words", "64"],
-            b"P 1 1\nP 2 1\nP 3 1\nP 4 1\n",
-            b"1 -\n2 -\n3 -\n4 -\n",
-        ),
-        (
-            &["--workers", "1", "--words", "64"],
-            b"P 1 1\nP 2 1\nP 3 1\nP 4 1\nP 5 1\nP 6 1\nP 7 1\nI 0 0\nP 8 1\n",
-            b"1 -\n2 -\n3 -\n4 -\n5 -\n6 -\n7 -\n8 0\n9 -\n",
-        ),
-    ];
-    for (more, input, output) in rows {
-        let (written, status) = answer_with(&rt, rt.alloc(), more, input, &[])?;
-        assert_eq!(rt; written.as_slice(), output, "the text for {input:?}");
-        assert_eq!(rt; status, 0, "the status for {input:?}");
-    }
-    Ok(())
-}
-
-#[test]
-fn neither_workers_nor_words_show_in_the_output(rt: HostRuntime) -> Result<(), Fail> {
-    let input = b"P 40 1\nP 7 2\nP 93 3\nG 7\nP 12 4\nP 55 5\nP 3 6\nR 40\nP 71 7\nP 28 8\n\
-        I 0 60\nP 64 9\nP 7 10\nG 40\nP 86 11\nP 19 12\nR 3\nP 1 13\nP 33 14\nG 19\n\
-        P 47 15\nI 20 90\nP 99 16\nR 93\nP 60 17\nP 5 18\nG 93\nP 80 19\nP 64 20\nI 0 99\n";
-    let (expected, _) = answer(&rt, rt.alloc(), input)?;
-    for workers in ["1", "2", "3", "64"] {
-        for turn in 0..20u64 {
-            let words = 64 + 17 * turn;
-            let (written, status) = answer_by(&rt, rt.alloc(), workers, words, input)?;
-            assert_eq!(rt;
-                written.as_slice(),
-                expected.as_slice(),
-                "the text by {workers} workers with {words} words"
-            );
-            assert_eq!(rt;
-                status,
-                0,
-                "the status by {workers} workers with {words} words"
-            );
-        }
-    }
-    Ok(())
-}
-
-#[test]
-fn each_tree_but_the_last_goes_to_the_shelf(rt: HostRuntime) -> Result<(), Fail> {
-    let input = b"P 1 1\nP 2 1\nP 3 1\nP 4 1\nP 5 1\nP 6 1\nP 7 1\nI 0 0\nP 8 1\n";
-    let mut words = Vec::new(rt.alloc());
-    for word in ["tele", "--workers", "1", "--words", "64"] {
-        words.push(word.to_string(rt.alloc())?)?;
-    }
-    let mut source = QuietSource::new(input.to_vec(rt.alloc())?);
-    let mut out = QuietSink::new(rt.alloc());
-    let mut shelf = Kept::new();
-    let outcome = run(
-        &rt,
-        rt.alloc(),
-        words.as_slice(),
-        &mut source,
-        &mut out,
-        &NoGate,
-        &mut shelf,
-    );
-    assert_eq!(rt; outcome.status, 0);
-    assert_eq!(rt; shelf.get(0).map(|tree| tree.word_count()), Some(64));
-    assert!(rt; shelf.get(8).is_none());
-    assert!(rt; outcome.last.is_some());
-    if let Some(last) = &outcome.last {
-        assert_eq!(rt; last.pairs(rt.alloc())?.len(), 8);
-    }
-    Ok(())
 }
 
 #[test]
@@ -356,29 +215,6 @@ fn the_source_is_read_only_where_the_words_say_so(rt: HostRuntime) -> Result<(),
 fn no_word_is_read_like_the_name_alone(rt: HostRuntime) -> Result<(), Fail> {
     let (written, status) = answer(&rt, rt.alloc(), b"P 5 7\n")?;
     assert_eq!(rt; written.as_slice(), b"1 -\n".as_slice());
-    assert_eq!(rt; status, 0);
-    Ok(())
-}
-
-#[test]
-fn many_made_lines_are_summed_up_as_one_map_has_them(rt: HostRuntime) -> Result<(), Fail> {
-    let mut plain = Plain::new(rt.alloc());
-    let mut maker = Maker::new(1);
-    let mut found: u64 = 0;
-    for _ in 0..20_000 {
-        let reply = plain.apply(maker.make())?;
-        if reply.is_some() {
-            found = found.wrapping_add(1);
-        }
-    }
-    let keys = plain.pairs().len();
-    let sum = plain
-        .pairs()
-        .iter()
-        .fold(0u64, |sum, pair| sum.wrapping_add(pair.value));
-    let text = format!(in rt.alloc(); "made 20000 keys {keys} found {found} sum {sum}\n")?;
-    let (written, status) = run_unread(&rt, rt.alloc(), &["--generate", "20000", "--seed", "1"])?;
-    assert_eq!(rt; written.as_slice(), text.as_bytes());
     assert_eq!(rt; status, 0);
     Ok(())
 }
