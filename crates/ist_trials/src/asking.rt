@@ -13,6 +13,24 @@ pub(crate) enum Asked {
     Find(u64),
 }
 
+impl Asked {
+    /// The key that is asked with.
+    pub(crate) fn key(self) -> u64 {
+        match self {
+            Asked::Put(key, _) => key,
+            Asked::Remove(key) => key,
+            Asked::Find(key) => key,
+        }
+    }
+}
+
+/// A call that was answered.
+#[derive(Clone, Copy, Debug, PartialEq, Eq, Drop)]
+pub(crate) struct Told {
+    pub asked: Asked,
+    pub reply: Reply,
+}
+
 /// Asks the tree by the pass.
 pub(crate) fn ask<R: Wait>(
     rt: &R,

@@ -1,23 +1,12 @@
 //! Rebuilds behind puts, with roots that are built whole and roots that are shared.
 ghost use Rattle.std.specs.Prelude.{◌≡◌, ◌≤◌};
 
-use ist_core::{Command, Pair};
+use crate::openings::{numbered, open_with};
+use ist_core::Pair;
 use ist_tree::{OpenFault, Pass, Tree};
-use plain_map::Plain;
-use std::alloc::{AllocError, Global};
+use std::alloc::Global;
 use std::sync::Wait;
 use std::test::Fail;
-
-// The map with the keys from 1 to `last`, each with its own number as the value.
-fn numbered(alloc: Global, last: u64) -> Result<Plain, AllocError>
-    requires few { last ≤ 100000 }
-{
-    let mut plain = Plain::new(alloc);
-    for key in 1..last + 1 {
-        plain.apply(Command::Put { key, value: key })?;
-    }
-    Ok(plain)
-}
 
 // Puts the numbers from 1 to `last` at a key, one behind another. Gives whether each found the one before.
 fn put_again<R: Wait>(rt: &R, tree: &Tree, pass: &mut Pass, key: u64, first: u64, last: u64) -> bool
@@ -45,12 +34,8 @@ fn used_by<R: Wait>(
 ) -> Result<(u64, bool, Vec<Pair>, bool), OpenFault>
     requires few { (keys ≤ 100000) × (puts ≤ 100000) }
 {
-    let plain = numbered(alloc, keys)?;
-    let pairs = plain.pairs();
-    if pairs.len() > 100_000 {
-        return Err(OpenFault::Memory);
-    }
-    let (tree, mut maker) = Tree::open(alloc, 100_000, pairs)?;
+    let plain = numbered(alloc, 1, keys + 1, 0)?;
+    let (tree, mut maker) = open_with(alloc, 100_000, &plain)?;
     let mut pass = tree.pass(&mut maker);
     let agrees = put_again(rt, &tree, &mut pass, key, key, puts);
     let ample = pass.rebuild_refused().is_none();

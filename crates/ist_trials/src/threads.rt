@@ -1,7 +1,12 @@
 //! Threads that put, remove and find in one tree, over keys that they share and over keys of their own.
 ghost use Rattle.std.specs.Prelude.{◌≡◌, ◌≤◌, ◌+◌, [], length, All, IfOk};
 
-use crate::workers::Worker;
+use crate::asking::Told;
+use crate::cuts::judge_moments;
+use crate::misfits::Misfit;
+use crate::openings::{numbered, open_with};
+use crate::orders::Order;
+use crate::workers::{Plan, Worker};
 use ist_core::Pair;
 use ist_rest::Closed;
 use ist_tree::{Maker, OpenFault, Tree};
@@ -11,22 +16,14 @@ use std::test::Fail;
 use std::thread;
 use std::thread::Threads;
 
-// How a run is to go: so many threads, whose keys lie `step` apart, or are the same where it is 0.
-#[derive(Clone, Copy, Debug, Drop)]
-struct Plan {
-    threads: usize,
-    step: u64,
-    span: u64,
-    calls: u64,
-    words: u32,
-    seed: u64,
-}
+// What the opening values are above their keys: no put writes one of them.
+const OPENING: u64 = 1 << 40;
 
-// What all threads together wrote and found, and how many replies weren't those of a thread alone.
+// What all threads together were told and froze, and how many replies weren't those of a thread alone.
 #[derive(Drop)]
 struct Ledger {
-    written: Vec<Pair>,
-    found: Vec<Pair>,
+    threads: Vec<Vec<Told>>,
+    moments: Vec<Vec<Pair>>,
     alone: u64,
     others: u64,
     refused: u64,
@@ -37,6 +34,7 @@ struct Ledger {
 // What a run came to.
 #[derive(Drop)]
 struct Ended {
+    opening: Vec<Pair>,
     ledger: Ledger,
     closed: Closed,
 }
@@ -53,35 +51,40 @@ fn make_workers(
     requires some { 1 ≤ plan.span }
     requires few { plan.threads ≤ 64 }
     ensures trees { IfOk result (λ v. All (λ w. w.pass.tree ≡ tree.now) v.items) }
-    ensures spans { IfOk result (λ v. All (λ w. 1 ≤ w.span) v.items) }
+    ensures spans { IfOk result (λ v. All (λ w. 1 ≤ w.plan.span) v.items) }
     ensures made { IfOk result (λ v. maker.new.made ≡ length v.items) }
     ensures same_tree { maker.new.tree ≡ tree.now }
     ensures taken { maker.new.taken ≡ [] }
 {
     let mut workers = Vec::new(alloc);
-    for index in 0..plan.threads {
+    for _number in 0..plan.threads {
         let pass = tree.pass(maker);
-        let seed = plan.seed.wrapping_add(index as u64);
-        workers.push(Worker::new(alloc, pass, seed, plan.step, plan.span, plan.calls))?;
+        workers.push(Worker::new(alloc, pass, plan))?;
     }
     Ok(workers)
 }
 
 // Lets each worker work, on a thread of its own where one can be started.
-fn run_workers<R: Threads + Wait + Sync>(rt: &R, tree: &Tree, workers: &mut [Worker])
+fn run_workers<R: Threads + Wait + Sync>(rt: &R, alloc: Global, tree: &Tree, workers: &mut [Worker])
     requires trees { All (λ w. w.pass.tree ≡ tree.now) workers.old }
-    requires spans { All (λ w. 1 ≤ w.span) workers.old }
+    requires spans { All (λ w. 1 ≤ w.plan.span) workers.old }
     ensures trees { All (λ w. w.pass.tree ≡ tree.now) workers.new }
     ensures same { length workers.new ≡ length workers.old }
 {
     if !workers.is_empty() {
         let count = workers.len();
-        thread::for_each_mut(rt, workers, count, &|_, worker| worker.work(rt, tree));
+        thread::for_each_mut(
+            rt,
+            workers,
+            count,
+            &|_, worker| worker.work(rt, alloc, tree),
+        );
     }
 }
 
 // Gives each pass back to its maker, and enters what its worker has kept.
 fn take_all_back(
+    alloc: Global,
     tree: &Tree,
     maker: &mut Maker,
     workers: Vec<Worker>,
@@ -98,17 +101,19 @@ fn take_all_back(
     let Some(worker) = workers.pop() else {
         return Ok(ledger);
     };
-    let entered = enter(ledger, &worker)?;
+    let entered = enter(alloc, ledger, &worker)?;
     let Worker { pass, .. } = worker;
     tree.take_back(maker, pass);
-    take_all_back(tree, maker, workers, entered)
+    take_all_back(alloc, tree, maker, workers, entered)
 }
 
 // The ledger with what the worker has kept.
-fn enter(ledger: Ledger, worker: &Worker) -> Result<Ledger, AllocError> {
+fn enter(alloc: Global, ledger: Ledger, worker: &Worker) -> Result<Ledger, AllocError> {
     let mut ledger = ledger;
-    ledger.written.extend_from_slice(&worker.written)?;
-    ledger.found.extend_from_slice(&worker.found)?;
+    ledger.threads.push(worker.told.to_vec(alloc)?)?;
+    for pairs in worker.moments.iter() {
+        ledger.moments.push(pairs.to_vec(alloc)?)?;
+    }
     ledger.alone = ledger.alone.wrapping_add(worker.alone.pairs().len() as u64);
     ledger.others = ledger.others.wrapping_add(worker.others);
     ledger.refused = ledger.refused.wrapping_add(worker.refused);
@@ -117,67 +122,105 @@ fn enter(ledger: Ledger, worker: &Worker) -> Result<Ledger, AllocError> {
     Ok(ledger)
 }
 
-// Runs the plan on a tree without pairs, and closes it.
-fn run<R: Threads + Wait + Sync>(rt: &R, alloc: Global, plan: Plan) -> Result<Ended, OpenFault>
-    requires some { 1 ≤ plan.span }
-    requires few { plan.threads ≤ 64 }
-    requires words { plan.words ≤ 100000000 }
-{
-    let (tree, mut maker) = Tree::open(alloc, plan.words, &[])?;
+// Runs the plan on a tree, and closes it. A plan without keys, or larger than any here, is refused.
+fn run<R: Threads + Wait + Sync>(rt: &R, alloc: Global, plan: Plan) -> Result<Ended, OpenFault> {
+    if plan.span == 0 || plan.threads > 64 || plan.words > 100_000_000 {
+        return Err(OpenFault::Memory);
+    }
+    let plain = numbered(alloc, 0, plan.opened, OPENING)?;
+    let (tree, mut maker) = open_with(alloc, plan.words, &plain)?;
     let mut workers = make_workers(alloc, &tree, &mut maker, plan)?;
-    run_workers(rt, &tree, &mut workers);
+    run_workers(rt, alloc, &tree, &mut workers);
     let ledger = Ledger {
-        written: Vec::new(alloc),
-        found: Vec::new(alloc),
+        threads: Vec::new(alloc),
+        moments: Vec::new(alloc),
         alone: 0,
         others: 0,
         refused: 0,
         rebuild_refused: false,
         lacked_memory: false,
     };
-    let ledger = take_all_back(&tree, &mut maker, workers, ledger)?;
+    let ledger = take_all_back(alloc, &tree, &mut maker, workers, ledger)?;
     Ok(Ended {
+        opening: plain.into_pairs(),
         ledger,
         closed: tree.close(maker),
     })
 }
 
-// Whether each value that was written was found once: by the call that changed it next, or at the close.
-fn is_chained(alloc: Global, ended: &Ended) -> Result<bool, AllocError> {
-    let mut written = ended.ledger.written.to_vec(alloc)?;
-    let mut found = ended.ledger.found.to_vec(alloc)?;
-    found.extend_from_slice(&ended.closed.pairs(alloc)?)?;
-    written.sort_by_key(|pair| (pair.key, pair.value))?;
-    found.sort_by_key(|pair| (pair.key, pair.value))?;
-    Ok(written == found)
+// Judges what the threads of a run were told: the replies have an order, and frozen trees stand in it.
+fn judge(alloc: Global, ended: &Ended) -> Result<(), Misfit> {
+    let closing = ended.closed.pairs(alloc)?;
+    let threads = &ended.ledger.threads;
+    let order = Order::of(alloc, &ended.opening, threads, &closing)?;
+    judge_moments(alloc, &order, threads, &ended.ledger.moments)
+}
+
+// A plan for threads that share their keys, of which half have a value at the opening.
+fn shared(threads: u64, span: u64, calls: u64, words: u32, seed: u64) -> Plan {
+    Plan {
+        threads,
+        step: 0,
+        span,
+        opened: span / 2,
+        calls,
+        words,
+        seed,
+        parted: false,
+        freezers: 0,
+        freezes: 0,
+    }
 }
 
 #[test]
-fn each_value_is_found_once_by_what_comes_next(rt: HostRuntime) -> Result<(), Fail> {
-    // threads, step, keys of each, calls of each, words
+fn replies_chain_each_keys_values_in_each_threads_order(rt: HostRuntime) -> Result<(), Fail> {
+    // threads, keys, calls of each, words
     let cases = [
-        (2, 0, 8, 50_000, 8_000_000),
-        (4, 0, 200, 25_000, 8_000_000),
-        (8, 0, 2, 12_500, 8_000_000),
-        (4, 0, 1_000, 25_000, 60_000),
-        (2, 1, 500, 50_000, 60_000),
+        (2, 8, 50_000, 8_000_000),
+        (4, 200, 25_000, 8_000_000),
+        (8, 2, 12_500, 8_000_000),
+        (4, 1_000, 25_000, 60_000),
+        (8, 30, 12_500, 60_000),
     ];
-    for (threads, step, span, calls, words) in cases {
+    for (threads, span, calls, words) in cases {
         for seed in 1..4 {
-            let plan = Plan {
-                threads,
-                step,
-                span,
-                calls,
-                words,
-                seed,
-            };
+            let plan = shared(threads, span, calls, words, seed);
             let ended = run(&rt, rt.alloc(), plan)?;
             assert!(rt; !ended.ledger.lacked_memory, "{plan:?}");
-            assert!(rt; is_chained(rt.alloc(), &ended)?, "{plan:?}");
+            assert_eq!(rt; judge(rt.alloc(), &ended), Ok(()), "{plan:?}");
             let ample = ended.ledger.refused == 0 && !ended.ledger.rebuild_refused;
             assert!(rt; ended.closed.settled() || !ample, "{plan:?}");
             assert!(rt; (words == 60_000) == (ended.ledger.refused > 0), "{plan:?}");
+        }
+    }
+    Ok(())
+}
+
+#[test]
+fn a_tree_that_is_frozen_beside_writers_is_one_moment_of_theirs(
+    rt: HostRuntime,
+) -> Result<(), Fail> {
+    // threads, those of them that freeze, keys, calls of each, freezes of each, words
+    let cases = [
+        (4, 1, 60, 20_000, 20, 8_000_000),
+        (4, 2, 60, 20_000, 20, 8_000_000),
+        (2, 2, 60, 0, 20, 8_000_000),
+        (2, 1, 2, 20_000, 100, 8_000_000),
+        (4, 1, 60, 20_000, 20, 60_000),
+    ];
+    for (threads, freezers, span, calls, freezes, words) in cases {
+        for seed in 1..4 {
+            let plan = Plan {
+                parted: true,
+                freezers,
+                freezes,
+                ..shared(threads, span, calls, words, seed)
+            };
+            let ended = run(&rt, rt.alloc(), plan)?;
+            assert!(rt; !ended.ledger.lacked_memory, "{plan:?}");
+            assert_eq!(rt; judge(rt.alloc(), &ended), Ok(()), "{plan:?}");
+            let frozen = ended.ledger.moments.len() as u64;
+            assert!(rt; frozen == freezers * freezes || words == 60_000, "{plan:?}");
         }
     }
     Ok(())
@@ -195,12 +238,9 @@ fn a_thread_with_keys_of_its_own_is_answered_as_if_alone(rt: HostRuntime) -> Res
     for (threads, span, calls, words) in cases {
         for seed in 1..4 {
             let plan = Plan {
-                threads,
-                step: threads as u64,
-                span,
-                calls,
-                words,
-                seed,
+                step: threads,
+                opened: 0,
+                ..shared(threads, span, calls, words, seed)
             };
             let ended = run(&rt, rt.alloc(), plan)?;
             assert_eq!(rt; ended.ledger.others, 0, "{plan:?}");

@@ -2,12 +2,12 @@ use Rattle.std.proofs.Common.{◌≡◌, ◌≤◌, [], length, All}
 use Rattle.ist_trials.proofs.threads.make_workers.Given as goal
 
 -- each worker has a pass on the tree
-abbrev pub invariant-loop-index : goal.invariant-loop-index
-invariant-loop-index l = record {
+abbrev pub invariant-loop-number : goal.invariant-loop-number
+invariant-loop-number l = record {
   trees : All (λ w. w.pass.tree ≡ l.tree) l.workers.items;
-  spans : All (λ w. 1 ≤ w.span) l.workers.items;
+  spans : All (λ w. 1 ≤ w.plan.span) l.workers.items;
   made : l.maker.made ≡ length l.workers.items;
   same_tree : l.maker.tree ≡ l.tree;
   taken : l.maker.taken ≡ [];
-  count : length l.workers.items ≡ l.index;
+  count : length l.workers.items ≡ l._number;
 }

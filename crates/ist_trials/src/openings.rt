@@ -1,0 +1,41 @@
+//! Trees that are opened with a run of keys.
+ghost use Rattle.std.specs.Prelude.{◌≡◌, ◌≤◌, [], IfOk};
+
+use ist_core::Command;
+use ist_tree::{Maker, OpenFault, Tree};
+use plain_map::Plain;
+use std::alloc::{AllocError, Global};
+
+/// The map with the keys from `first` to the one before `end`, each with its own number and `more` as the
+/// value.
+pub(crate) fn numbered(
+    alloc: Global,
+    first: u64,
+    end: u64,
+    more: u64,
+) -> Result<Plain, AllocError> {
+    let mut plain = Plain::new(alloc);
+    for key in first..end {
+        let value = key.wrapping_add(more);
+        plain.apply(Command::Put { key, value })?;
+    }
+    Ok(plain)
+}
+
+/// A tree with the pairs of the map, and its maker.
+pub(crate) fn open_with(
+    alloc: Global,
+    words: u32,
+    plain: &Plain,
+) -> Result<(Tree, Maker), OpenFault>
+    requires words { words ≤ 100000000 }
+    ensures same_tree { IfOk result (λ t. t.1.tree ≡ t.0) }
+    ensures made { IfOk result (λ t. t.1.made ≡ 0) }
+    ensures taken { IfOk result (λ t. t.1.taken ≡ []) }
+{
+    let pairs = plain.pairs();
+    if pairs.len() > 100_000 {
+        return Err(OpenFault::Memory);
+    }
+    Tree::open(alloc, words, pairs)
+}
