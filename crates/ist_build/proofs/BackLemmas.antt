@@ -23,7 +23,7 @@ use Rattle.ist_build.specs.Calls.{Builds}
 use Rattle.ist_build.specs.Putting.{PutOn}
 use Rattle.ist_build.proofs.AwayLemmas.{refused_back, caller_back}
 use Rattle.ist_build.proofs.PutOnLemmas.{built_put, put_more, loads_put}
-use Rattle.ist_build.proofs.TopLemmas.{sizes_on}
+use Rattle.ist_build.proofs.TopBegunLemmas.{sizes_on}
 
 -- behind the step the caller is one whose builds were refused
 pub record IsBack (old new : Caller) : Type 0 where

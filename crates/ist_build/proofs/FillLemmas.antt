@@ -42,12 +42,13 @@ use Rattle.ist_build.specs.Laying.{IsShort}
 use Rattle.ist_build.specs.Naming.{drawing}
 use Rattle.ist_build.specs.Calls.{IsTold}
 use Rattle.ist_build.specs.Putting.{PutOn, IsShared, IsSlotSet, IsFilling, IsStopped}
-use Rattle.ist_build.proofs.AwayLemmas.{keeps_all}
+use Rattle.ist_build.proofs.RisingListLemmas.{keeps_all}
 use Rattle.ist_build.proofs.BackLemmas.{IsBack, back_logged, back_loads}
 use Rattle.ist_build.proofs.BuiltLemmas.{loads_built, built_same}
-use Rattle.ist_build.proofs.PartPutLemmas.{shared_on, shared_now}
+use Rattle.ist_build.proofs.PartSlotLemmas.{shared_on}
+use Rattle.ist_build.proofs.PartPutLemmas.{shared_now}
 use Rattle.ist_build.proofs.PutOnLemmas.{built_put, put_now, put_lawful, put_grow, put_more, short_stopped}
-use Rattle.ist_build.proofs.TopLemmas.{sizes_on}
+use Rattle.ist_build.proofs.TopBegunLemmas.{sizes_on}
 
 -- ---- draws
 

@@ -30,10 +30,10 @@ use Rattle.ist_coming.proofs.BeatenLemmas.{finished_once}
 use Rattle.ist_build.specs.Calls.{IsTold, IsRooted, IsBuiltOut}
 use Rattle.ist_build.specs.Putting.{PutOn, IsShared, IsSlotSet, IsStopped}
 use Rattle.ist_build.proofs.BuiltLemmas.{built_grow, loads_built}
-use Rattle.ist_build.proofs.PartPutLemmas.{shared_on}
+use Rattle.ist_build.proofs.PartSlotLemmas.{shared_on}
 use Rattle.ist_build.proofs.PutOnLemmas.{put_grow, put_more}
 use Rattle.ist_build.proofs.RootFormLemmas.{HasForm, IsRowSet, root_form}
-use Rattle.ist_build.proofs.RootPutLemmas.{told_on, told_target}
+use Rattle.ist_build.proofs.RootReadyLemmas.{told_on, told_target}
 
 -- a root stays
 pub rooted_on : (t u : Snapshot) → AllGrow t.pieces u.pieces → (rebuild : ℕ) → IsRooted t rebuild

@@ -43,10 +43,12 @@ use Rattle.ist_rebuilds.proofs.FinishedLeafLemmas.{finished_leaves}
 use Rattle.ist_rebuilds.proofs.FewLeafLemmas.{leaves_stand}
 use Rattle.ist_links.specs.Linking.{IsFinished}
 use Rattle.ist_coming.proofs.BeatenLemmas.{finished_once}
-use Rattle.ist_build.proofs.TopLemmas.{sizes_on, leaf_there}
+use Rattle.ist_build.proofs.TopBegunLemmas.{sizes_on}
+use Rattle.ist_build.proofs.TopLeafLemmas.{leaf_there}
 use Rattle.ist_build.proofs.UnsetLemmas.{unset_built}
 use Rattle.ist_build.proofs.BackLemmas.{IsBack, back_logged, back_loads}
-use Rattle.ist_build.proofs.RootPutLemmas.{IsRooted, told_on, told_target, root_looked, root_put, root_ready}
+use Rattle.ist_build.proofs.RootPutLemmas.{IsRooted}
+use Rattle.ist_build.proofs.RootReadyLemmas.{told_on, told_target, root_looked, root_put, root_ready}
 
 -- ---- a root over no key or one
 

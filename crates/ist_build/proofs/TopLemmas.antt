@@ -1,201 +1,36 @@
--- The top row alone, with every slot Unset. Serves `top`.
-use Rattle.std.proofs.Common.{◌≡◌, ℕ, zero, suc, ◌+◌, ◌-◌, ◌*◌, ◌<◌, ◌≤◌, List, [], ◌∷◌, ◌++◌, length, map, filter, not, take, drop, replicate, Some, refl, sym, ap, ap₂, ◌∙◌, subst, append-nil, ⊎_elim, arith}
-use Rattle.ist_core.specs.declared.lists.HeldRow.{HeldRow}
+-- The top row of a shared root as it gets its parts, each Unset, and whole. Serves `build_top`.
+use Rattle.std.proofs.Common.{◌≡◌, ℕ, zero, suc, ◌+◌, ◌-◌, ◌<◌, ◌≤◌, List, [], ◌∷◌, ◌++◌, length, take, drop, replicate, Some, refl, sym, ap, ap₂, ◌∙◌, subst, arith}
 use Rattle.ist_core.specs.declared.lists.Row.{Row}
 use Rattle.ist_core.specs.declared.states.InnerRow.{InnerRow}
-use Rattle.ist_core.specs.declared.states.LeafRow.{LeafRow}
-use Rattle.ist_core.specs.Arithmetic.{degree, square_root, part_len, part_start}
-use Rattle.ist_core.specs.Elements.{Each}
-use Rattle.ist_core.specs.Fairness.{build_top}
-use Rattle.ist_core.specs.Lawful.{Lawful}
+use Rattle.ist_core.specs.Arithmetic.{degree, part_len, part_start}
 use Rattle.ist_core.specs.Leaves.{PlacedLeaf, HasLeaves}
 use Rattle.ist_core.specs.Parts.{parts, first_keys}
-use Rattle.ist_core.specs.Pieces.{Inner, Leaf, inner_of, with_row}
+use Rattle.ist_core.specs.Pieces.{Inner, inner_of, with_row}
 use Rattle.ist_core.specs.Rebuilding.{IsFinishedWith}
 use Rattle.ist_core.specs.References.{InnerAt, ref_of, word_of, unset_word}
-use Rattle.ist_core.specs.RowLayout.{inner_words, place_limit}
-use Rattle.ist_core.specs.Shapes.{share_from, share_from_is}
+use Rattle.ist_core.specs.RowLayout.{inner_words}
 use Rattle.ist_core.specs.Snapshots.{HoldsRow}
-use Rattle.ist_core.proofs.DrawLemmas.{finished_grows}
-use Rattle.ist_core.proofs.KeepingLemmas.{finished_leaves_stay}
 use Rattle.ist_core.proofs.ReferenceLemmas.{ref_of-word_of}
-use Rattle.ist_core.proofs.RootLemmas.{least_degree-le, square_root-le}
+use Rattle.ist_core.proofs.RootLemmas.{least_degree-le}
 use Rattle.ist_core.proofs.RowLemmas.{with_row-same}
-use Rattle.ist_rebuilds.proofs.FewLeafLemmas.{leaves_stand}
-use Rattle.ist_rebuilds.proofs.FinishedLeafLemmas.{finished_few}
 use Rattle.ist_rule.specs.declared.view.View.{View}
 use Rattle.ist_rule.specs.declared.view.OwnWord.{OwnWord}
-use Rattle.ist_core.specs.Authors.{Later}
-use Rattle.ist_rule.specs.Faces.{SeatFace}
 use Rattle.ist_rule.specs.Rule.{IsSound, own_at}
-use Rattle.ist_rule.specs.Learning.{now, GoesOnTo}
-use Rattle.std.proofs.lemmas.Bool.{cases_lt}
-use Rattle.std.proofs.Math.Nat.{mul-le-mul_right}
-use Rattle.std.proofs.lemmas.List.{length-drop}
+use Rattle.ist_rule.specs.Learning.{now}
+use Rattle.ist_rows.specs.declared.callers.Caller.{Caller}
+use Rattle.ist_rows.specs.Rows.{IsCaller}
+use Rattle.ist_rows.specs.Building.{sizes_built}
+use Rattle.ist_build.specs.Laying.{BuiltOn, IsTopLaid}
 use Rattle.ist_forms.specs.Dividing.{parts_to, share_of}
 use Rattle.ist_forms.proofs.PartLemmas.{parts_all, keys_next}
-use Rattle.ist_rows.specs.declared.callers.Caller.{Caller}
-use Rattle.ist_rows.specs.Rows.{spares_of, is_spare, build_sizes, IsCaller, Reserved}
-use Rattle.ist_rows.specs.Building.{IsInBuild, IsNext, HasTaken, HasRefused, sizes_built}
-use Rattle.ist_rows.proofs.CallerGoingLemmas.{now_is, caller_goes_on}
-use Rattle.ist_rows.proofs.HeldListLemmas.{held_by_later}
-use Rattle.ist_rule.proofs.WentOnLemmas.{later_by-goes_on}
-use Rattle.ist_build.specs.Calls.{HasKeys}
-use Rattle.ist_build.specs.Laying.{BuiltOn, IsTopLaid, IsTarget, IsLeaf}
-use Rattle.ist_build.specs.Midway.{words_at, IsOpened, IsTopMidway, opening, setting}
-use Rattle.ist_build.proofs.BuiltLemmas.{built_more, built_held, built_grow, built_now, built_lawful, loads_built, reserved_built, rewritten_built, leaf_goes_on}
+use Rattle.ist_build.specs.Midway.{words_at, IsOpened, IsTopMidway, setting}
+use Rattle.ist_build.proofs.BuiltLemmas.{rewritten_built}
 use Rattle.ist_build.proofs.BuildingLemmas.{held_good}
-use Rattle.ist_build.proofs.MidwayLemmas.{IsFreshRow, fresh_row, opened_on, at_slot, at_key, elsewhere, setting_is, some_first, length-share_of, each_drop}
-use Rattle.ist_build.proofs.OwnWordLemmas.{own_here, own_else, length-words_at, get-words_at, words_at_same, words_at_more, row_of_words, words_of_row, inner_of_row}
+use Rattle.ist_build.proofs.RowOpenedLemmas.{opened_on, at_slot, at_key, elsewhere, setting_is}
+use Rattle.ist_build.proofs.MidwayLemmas.{some_first, length-share_of}
+use Rattle.ist_build.proofs.OwnWordLemmas.{length-words_at, get-words_at, words_at_same, words_at_more, row_of_words, words_of_row, inner_of_row}
 use Rattle.ist_build.proofs.ReadingLemmas.{leaves_number}
-use Rattle.ist_build.proofs.ShareLemmas.{some_leaves}
-
--- ---- targets, behind a build
-
--- the leaves of a finished target stay
-pub leaves_on : (v w : View) → BuiltOn v w → (target k : ℕ) → IsFinishedWith (now v) target k
-    → (leaves : List PlacedLeaf) → HasLeaves (now v).pieces (Some (InnerAt target)) leaves
-    → HasLeaves (now w).pieces (Some (InnerAt target)) leaves
-leaves_on v w b target k f leaves has =
-    subst (λ t. HasLeaves t.pieces (Some (InnerAt target)) leaves) (sym (built_now v w b))
-    (finished_leaves_stay v.start v.words (built_lawful v w b).opens v.log w.log (later_by-goes_on b.later)
-    (built_lawful v w b).enabled target leaves (k, f) has)
-
--- and it has its keys
-pub keys_on : (v w : View) → BuiltOn v w → (target k least : ℕ) → IsFinishedWith (now v) target k
-    → least ≤ k → HasKeys (now w) target least
-keys_on v w b target k least f le =
-    record {
-      k = k;
-      finished = finished_grows (now v) (now w) target k (built_grow v w b) f;
-      enough = le;
-    }
-
--- ---- where the caller is
-
--- the top row comes next
-pub top_at : (who : Caller) (target k : ℕ) → HasRefused who → IsTarget (now who.seat.view) target k
-    → share_from ≤ k → IsInBuild who (sizes_built who) [] (inner_words (degree k) ∷ [])
-top_at who target k refused t many =
-    record {
-      sizes = sym (append-nil (sizes_built who));
-      all_stuck = refused;
-      building = record {
-        rebuild = t.rebuild;
-        row = t.row;
-        published = t.published;
-        started = t.started;
-        k = k;
-        finished = subst (λ n. IsFinishedWith (now who.seat.view) n k) (sym t.target_is) t.finished;
-        build = build_top many;
-      };
-    }
-
-pub top_next : (who : Caller) (target k d : ℕ) → HasRefused who → IsTarget (now who.seat.view) target k
-    → share_from ≤ k → d ≡ degree k → IsNext who (inner_words d)
-top_next who target k d refused t many is =
-    subst (λ n. IsNext who (inner_words n)) (sym is)
-    record { stuck = sizes_built who; done = []; rest = []; at = top_at who target k refused t many }
-
--- loads leave the sizes of its builds
-pub sizes_on : (who : Caller) (seat : SeatFace) → IsCaller who → GoesOnTo who.seat.view seat.view
-    → sizes_built (record who { seat = seat }) ≡ sizes_built who
-sizes_on who seat c g =
-    let v = who.seat.view in
-    let lawful : Lawful v.start v.words seat.view.log =
-    subst (λ p. Lawful p v.words seat.view.log) (ap (λ x. x.start) g.same)
-    (subst (λ n. Lawful seat.view.start n seat.view.log) (ap (λ x. x.words) g.same)
-    g.sound.lawful) in
-    ap (λ t. build_sizes t who.number (spares_of who)) (now_is v seat.view g)
-    ∙ ap (λ hs. map (λ (h : HeldRow). h.size) (filter (λ h. not (is_spare (spares_of who) h.base)) hs))
-    (held_by_later v.start v.words who.number v.log seat.view.log lawful.enabled
-    (subst (λ x. Later x v.log seat.view.log) c.mine g.later))
-
--- ---- the row was opened
-
-module _ (old new : Caller) (target k d base : ℕ) (s : IsSound old.seat.view)
-    (refused : HasRefused old) (t : IsTarget (now old.seat.view) target k) (many : share_from ≤ k)
-    (d_is : d ≡ degree k) (number : new.number ≡ old.number) (rows : spares_of new ≡ spares_of old)
-    (r : Reserved old.seat.view old.number base (inner_words d) new.seat.view)
-    (taken : HasTaken old (inner_words d ∷ []) new) where
-  abbrev view : View
-  view = opening new.seat.view base d k
-
-  abbrev who : Caller
-  who = record new { seat = record new.seat { view = view } }
-
-  fresh : IsFreshRow old.seat.view old.number base (inner_words d) new.seat.view
-  fresh = fresh_row old.seat.view s old.number base (inner_words d) new.seat.view r
-
-  opened : IsOpened view.own base d k
-  opened =
-      let o = new.seat.view.own in
-      let first = record { place = base + 2; word = d } ∷ o in
-      record {
-        status = own_else first (base + 3) k base (λ e. omega arith)
-            ∙ own_else o (base + 2) d base (λ e. omega arith) ∙ fresh.zero_words base (omega arith);
-        count = own_else first (base + 3) k (base + 1) (λ e. omega arith)
-            ∙ own_else o (base + 2) d (base + 1) (λ e. omega arith)
-            ∙ fresh.zero_words (base + 1) (omega arith);
-        degree_is = own_else first (base + 3) k (base + 2) (λ e. omega arith)
-            ∙ own_here o (base + 2) d;
-        size_is = own_here first (base + 3) k;
-      }
-
-  sizes_taken : sizes_built new ≡ sizes_built old ++ inner_words d ∷ []
-  sizes_taken =
-      (taken (sizes_built old) [] []
-      (subst (λ n. IsInBuild old (sizes_built old) [] (inner_words n ∷ [])) (sym d_is)
-      (top_at old target k refused t many))).sizes
-
-  top_begun : IsCaller who → IsSound view → IsTopMidway old target k base d 0 who
-  top_begun caller sound =
-      let high = fresh.high in
-      record {
-        caller = caller;
-        number = number;
-        rows = rows;
-        built = rewritten_built old.seat.view new.seat.view view.own
-            (reserved_built old.seat.view old.number base (inner_words d) new.seat.view r) sound
-            (λ p low. own_else (record { place = base + 2; word = d } ∷ new.seat.view.own)
-            (base + 3) k p (λ e. omega arith)
-            ∙ own_else new.seat.view.own (base + 2) d p (λ e. omega arith));
-        high = fresh.high;
-        held = subst (λ n. HoldsRow (now new.seat.view) n base (inner_words d)) (sym number) fresh.held;
-        opened = opened;
-        slots = refl;
-        keys = λ leaves has. refl;
-        sizes = sizes_taken;
-      }
-
-  pub top_opened : (last : Caller) → last ≡ who → IsCaller last → IsSound last.seat.view
-      → IsTopMidway old target k base d 0 last
-  top_opened last is caller sound =
-      subst (IsTopMidway old target k base d 0) (sym is)
-      (top_begun (subst IsCaller is caller) (subst (λ (w : Caller). IsSound w.seat.view) is sound))
-
--- ---- behind loads
-
-pub top_loaded : (old who : Caller) (seat : SeatFace) (target k base d j : ℕ)
-    → IsTopMidway old target k base d j who → GoesOnTo who.seat.view seat.view
-    → IsTopMidway old target k base d j (record who { seat = seat })
-top_loaded old who seat target k base d j m g =
-    let v = who.seat.view in
-    let w = seat.view in
-    let b = loads_built v w g in
-    let own_is : w.own ≡ v.own = ap (λ x. x.own) g.same in
-    record {
-      caller = caller_goes_on who seat m.caller g;
-      number = m.number;
-      rows = m.rows;
-      built = built_more old.seat.view v w m.built b;
-      high = m.high;
-      held = built_held v w b who.number base (inner_words d) m.caller.mine m.held;
-      opened = subst (λ o. IsOpened o base d k) (sym own_is) m.opened;
-      slots = ap (λ o. words_at o (base + 3 + d) j) own_is ∙ m.slots;
-      keys = λ leaves has. ap (λ o. words_at o (base + 4) (j - 1)) own_is ∙ m.keys leaves has;
-      sizes = sizes_on who seat m.caller g ∙ m.sizes;
-    }
+use Rattle.ist_build.proofs.TopBegunLemmas.{leaves_on}
 
 -- ---- behind a part
 
@@ -391,7 +226,7 @@ record Facts (who : Caller) (base : ℕ) (leaves : List PlacedLeaf) (n : ℕ) : 
   keys : words_at who.seat.view.own (base + 4) (degree n - 1)
       ≡ first_keys (λ leaf. leaf.row.key) (drop 1 (parts_to n (degree n) leaves))
   slots : words_at who.seat.view.own (base + 3 + degree n) (degree n) ≡ replicate (degree n) unset_word
-  two : 2 ≤ n
+  pub two : 2 ≤ n
 
 pub all_top : (old who : Caller) (target k base d j word : ℕ) → IsSound old.seat.view
     → IsFinishedWith (now old.seat.view) target k → 2 ≤ k
@@ -430,79 +265,3 @@ pub top_sizes : (old who : Caller) (target k base d j : ℕ) → IsTopMidway old
     → d ≡ degree k → sizes_built who ≡ sizes_built old ++ inner_words (degree k) ∷ []
 top_sizes old who target k base d j m is =
     m.sizes ∙ ap (λ n. sizes_built old ++ inner_words n ∷ []) is
-
--- ---- one leaf
-
--- the leaf number i of a finished target
-pub leaf_is : (i base : ℕ) (leaves : List PlacedLeaf) (leaf : PlacedLeaf) (others : List PlacedLeaf)
-    → map (λ l. l.base) (take 1 (drop i leaves)) ≡ base ∷ [] → drop i leaves ≡ leaf ∷ others
-    → base ≡ leaf.base
-leaf_is i base leaves leaf others is e =
-    let both : leaf.base ∷ [] ≡ base ∷ [] =
-    sym (ap (λ xs. map (λ (l : PlacedLeaf). l.base) (take 1 xs)) e) ∙ is in
-    cc
-
--- it is published
-pub leaf_there : (v w : View) → IsSound v → GoesOnTo v w → (target i base : ℕ)
-    → HasKeys (now v) target (i + 1)
-    → ((leaves : List PlacedLeaf) → HasLeaves (now v).pieces (Some (InnerAt target)) leaves
-    → map (λ l. l.base) (take 1 (drop i leaves)) ≡ base ∷ [])
-    → IsLeaf (now w) base
-leaf_there v w s g target i base h told =
-    let it = some_leaves v s target (i + 1) h in
-    let long = it.2 in
-    let rest = length-drop i it.0 in
-    let first = some_first (drop i it.0) (omega arith) in
-    let all = each_drop (λ leaf. (now v).pieces leaf.base ≡ Some (Leaf leaf.row)) i it.0
-    (leaves_stand (now v).pieces (Some (InnerAt target)) it.0 it.1) in
-    let here : (now v).pieces first.0.base ≡ Some (Leaf first.0.row) =
-    (subst (Each (λ leaf. (now v).pieces leaf.base ≡ Some (Leaf leaf.row))) first.2 all).0 in
-    subst (IsLeaf (now w)) (sym (leaf_is i base it.0 first.0 first.1 (told it.0 it.1) first.2))
-    record { row = first.0.row; published = leaf_goes_on v w g first.0.base first.0.row here }
-
--- and so is its key
-pub key_told_at : (v w : View) → GoesOnTo v w → (target i base key : ℕ)
-    → ((leaves : List PlacedLeaf) → HasLeaves (now v).pieces (Some (InnerAt target)) leaves
-    → map (λ l. l.base) (take 1 (drop i leaves)) ≡ base ∷ [])
-    → ((row : LeafRow) → (now w).pieces base ≡ Some (Leaf row) → key ≡ row.key)
-    → (leaves : List PlacedLeaf) → HasLeaves (now v).pieces (Some (InnerAt target)) leaves
-    → (leaf : PlacedLeaf) (others : List PlacedLeaf) → drop i leaves ≡ leaf ∷ others
-    → key ≡ leaf.row.key
-key_told_at v w g target i base key told key_is leaves has leaf others e =
-    let all = each_drop (λ l. (now v).pieces l.base ≡ Some (Leaf l.row)) i leaves
-    (leaves_stand (now v).pieces (Some (InnerAt target)) leaves has) in
-    let here : (now v).pieces leaf.base ≡ Some (Leaf leaf.row) =
-    (subst (Each (λ l. (now v).pieces l.base ≡ Some (Leaf l.row))) e all).0 in
-    key_is leaf.row (ap (now w).pieces (leaf_is i base leaves leaf others (told leaves has) e)
-    ∙ leaf_goes_on v w g leaf.base leaf.row here)
-
--- ---- numbers
-
--- a target isn't large
-pub target_few : (v : View) → IsSound v → (target k : ℕ) → IsFinishedWith (now v) target k
-    → k ≤ place_limit
-target_few v s target k f =
-    finished_few v.start v.words s.lawful.opens v.log s.lawful.enabled target k f
-
-twice : (x : ℕ) → 2 ≤ x → 2 * x ≤ x * x
-twice x two = mul-le-mul_right x two
-
--- its degree is less than half of them
-pub degree_small : (k : ℕ) → 4 ≤ k → 2 * degree k ≤ k
-unfolding degree
-degree_small k four =
-    let le = square_root-le k in
-    ⊎_elim (λ small. omega arith)
-    (λ large. let more = twice (square_root k) large in omega arith)
-    (cases_lt (square_root k) 2)
-
-pub target_degree : (v : View) → IsSound v → (target k d : ℕ) → IsFinishedWith (now v) target k
-    → share_from ≤ k → d ≡ degree k → d < place_limit
-target_degree v s target k d f many is =
-    let few = target_few v s target k f in
-    let number = share_from_is in
-    let half = degree_small k (omega arith) in
-    omega arith
-
-pub many_two : (k : ℕ) → share_from ≤ k → 2 ≤ k
-many_two k many = let number = share_from_is in omega arith

@@ -1,7 +1,7 @@
 use Rattle.std.proofs.Common.{sym, subst, arith}
 use Rattle.ist_rows.specs.declared.callers.Caller.{Caller}
 use Rattle.ist_rows.specs.Rows.{HoldsPlace}
-use Rattle.ist_build.proofs.MidwayLemmas.{holds_place}
+use Rattle.ist_build.proofs.RowOpenedLemmas.{holds_place}
 use Rattle.ist_build.proofs.building.open_row.Goals as goal
 
 pub fill-requires-clause-held : goal.fill-requires-clause-held

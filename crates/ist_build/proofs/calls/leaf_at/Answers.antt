@@ -1,6 +1,6 @@
 use Rattle.ist_build.proofs.AnswerLemmas.{leaf_number}
 use Rattle.ist_build.proofs.RootFewLemmas.{leaf_good}
-use Rattle.ist_build.proofs.TopLemmas.{leaf_there}
+use Rattle.ist_build.proofs.TopLeafLemmas.{leaf_there}
 use Rattle.ist_build.proofs.calls.leaf_at.Goals as goal
 
 -- the leaf that was read is the one with this number

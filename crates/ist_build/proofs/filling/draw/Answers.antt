@@ -1,6 +1,6 @@
 use Rattle.std.proofs.Common.{◌≡◌, ◌+◌, ap, ◌∙◌, arith}
 use Rattle.ist_core.specs.RowLayout.{rebuild_draw_offset}
-use Rattle.ist_build.proofs.TopLemmas.{target_few, many_two}
+use Rattle.ist_build.proofs.TopLeafLemmas.{target_few, many_two}
 use Rattle.ist_core.specs.Pieces.{Rebuild}
 use Rattle.ist_dcss.proofs.FieldLemmas.{row_low}
 use Rattle.ist_build.proofs.FillLemmas.{draw_low, draw_allowed, draw_back, draw_looked}

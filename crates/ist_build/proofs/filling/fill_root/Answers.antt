@@ -6,7 +6,7 @@ use Rattle.ist_build.specs.Putting.{IsStopped}
 use Rattle.ist_build.proofs.BackLemmas.{back_loads}
 use Rattle.ist_build.proofs.BuiltLemmas.{built_grow, loads_built}
 use Rattle.ist_build.proofs.FilledLemmas.{rooted_on, few_filled, ok_filled, err_stopped_on}
-use Rattle.ist_build.proofs.PartPutLemmas.{shared_on}
+use Rattle.ist_build.proofs.PartSlotLemmas.{shared_on}
 use Rattle.ist_build.proofs.PutOnLemmas.{put_grow, put_more}
 use Rattle.ist_build.proofs.RootFewLemmas.{target_done, found_so}
 use Rattle.ist_build.proofs.ShareLemmas.{err_map}

@@ -2,8 +2,9 @@ use Rattle.std.proofs.Common.{rules, ap, ◌∙◌, arith}
 use Rattle.ist_core.specs.Arithmetic.{degree}
 use Rattle.ist_build.proofs.BackLemmas.{back_loads}
 use Rattle.ist_build.proofs.PutOnLemmas.{built_put, loads_put, put_more}
-use Rattle.ist_build.proofs.PartPutLemmas.{degree_low, shared_share, may_put, shared_now, err_shorter}
-use Rattle.ist_build.proofs.TopLemmas.{target_few, many_two}
+use Rattle.ist_build.proofs.PartSlotLemmas.{degree_low, shared_share}
+use Rattle.ist_build.proofs.PartPutLemmas.{may_put, shared_now, err_shorter}
+use Rattle.ist_build.proofs.TopLeafLemmas.{target_few, many_two}
 use Rattle.ist_build.proofs.filling.fill_slot.Goals as goal
 
 pub degree-degree-requires-clause-several : goal.degree-degree-requires-clause-several

@@ -1,6 +1,6 @@
 use Rattle.std.proofs.Common.{ap, arith}
 use Rattle.ist_rule.proofs.GoingOnLemmas.{looked_goes_on}
-use Rattle.ist_build.proofs.PartPutLemmas.{degree_low, slot_looked, slot_unset}
+use Rattle.ist_build.proofs.PartSlotLemmas.{degree_low, slot_looked, slot_unset}
 use Rattle.ist_build.proofs.filling.slot_of.Goals as goal
 
 pub slot_place-requires-clause-fits : goal.slot_place-requires-clause-fits

@@ -1,5 +1,5 @@
 use Rattle.ist_rule.proofs.GoingOnLemmas.{goes_on_more}
-use Rattle.ist_build.proofs.TopLemmas.{leaf_there, key_told_at}
+use Rattle.ist_build.proofs.TopLeafLemmas.{leaf_there, key_told_at}
 use Rattle.ist_build.proofs.top.key_at.Goals as goal
 
 pub key_of-requires-clause-leaf : goal.key_of-requires-clause-leaf

@@ -1,0 +1,292 @@
+-- The root of a rebuild, and what was built as one. Serves `root`.
+use Rattle.std.proofs.Common.{◌≡◌, ◌≢◌, ℕ, ◌+◌, ◌/◌, ◌<◌, ◌≤◌, List, [], ◌∷◌, ◌++◌, length, take, drop, Option, Some, None, option_map, refl, sym, ap, ap₂, ◌∙◌, subst, inl, inr, arith}
+use Rattle.std.proofs.lemmas.List.{take_all}
+use Rattle.ist_core.specs.declared.events.Event.TheVariants.{Root, Lose}
+use Rattle.ist_core.specs.declared.lists.Row.{Row}
+use Rattle.ist_core.specs.declared.states.RebuildRow.{RebuildRow}
+use Rattle.ist_core.specs.Arithmetic.{degree}
+use Rattle.ist_core.specs.Building.{IsRoot, root_whole, root_top}
+use Rattle.ist_core.specs.Elements.{Among}
+use Rattle.ist_core.specs.Growing.{AllGrow}
+use Rattle.ist_core.specs.Ideals.{IsIdeal, of_none, of_one, of_more}
+use Rattle.ist_core.specs.Lawful.{EachEnabled, state_of}
+use Rattle.ist_core.specs.Leaves.{PlacedLeaf, HasLeaves}
+use Rattle.ist_core.specs.Marking.{HasTarget}
+use Rattle.ist_core.specs.Pieces.{Piece, Pieces, Rebuild, Inner, with_inners, with_root}
+use Rattle.ist_core.specs.Rebuilding.{IsFinishedWith}
+use Rattle.ist_core.specs.References.{Ref, InnerAt, Unset, ref_of, unset_word, tag_count}
+use Rattle.ist_core.specs.RowLayout.{inner_words, rebuild_root_offset}
+use Rattle.ist_core.specs.Shapes.{shape, share_from}
+use Rattle.ist_core.specs.Snapshots.{Snapshot, bases_of, sizes_of}
+use Rattle.ist_core.specs.StartLayout.{start}
+use Rattle.ist_core.proofs.AddingLemmas.{held_free}
+use Rattle.ist_core.proofs.ElementLemmas.{each-among}
+use Rattle.ist_core.proofs.FateLemmas.{grow_between}
+use Rattle.ist_core.proofs.GrowingLemmas.{rebuild_there}
+use Rattle.ist_core.proofs.PlaceLemmas.{placed, claimed_within}
+use Rattle.ist_core.proofs.ReferenceLemmas.{ref_of-unset, word_of-ref_of}
+use Rattle.ist_core.proofs.RowLemmas.{changed_at-same, with_inners-other}
+use Rattle.ist_core.proofs.SoundLemmas.{sound}
+use Rattle.ist_core.proofs.StartLemmas.{sound_start}
+use Rattle.ist_links.proofs.FormLemmas.{finished_with_grows, started_grows}
+use Rattle.ist_rule.specs.declared.view.View.{View}
+use Rattle.ist_rule.specs.Rule.{IsSound}
+use Rattle.ist_core.specs.Shown.{IsShown, shown_row}
+use Rattle.ist_rule.specs.Learning.{now, Looked, Logged, LoggedLoad}
+use Rattle.ist_rule.proofs.GoingOnLemmas.{looked_goes_on}
+use Rattle.ist_rule.proofs.LaterLemmas.{later-goes_on}
+use Rattle.ist_dcss.proofs.FieldLemmas.{looked_row}
+use Rattle.ist_mark.proofs.MarkLemmas.{before_enabled}
+use Rattle.ist_rows.specs.declared.callers.Caller.{Caller}
+use Rattle.ist_rows.specs.Building.{IsInBuild, sizes_built}
+use Rattle.ist_coming.specs.Builds.{IsRootBuilt}
+use Rattle.ist_coming.proofs.SizeLemmas.{IsRootSizes, of_whole, of_top, root_sizes}
+use Rattle.ist_build.specs.Calls.{IsTold}
+use Rattle.ist_build.specs.Laying.{Rises, BuiltOn, OwnsRows, IsLaid, IsTopLaid, IsRootLaid, IsTarget}
+use Rattle.ist_build.specs.Putting.{HasRoot}
+use Rattle.ist_build.proofs.BuiltLemmas.{built_grow}
+use Rattle.ist_build.proofs.LayingLemmas.{rows_free}
+use Rattle.ist_build.proofs.ReadingLemmas.{leaves_number}
+use Rattle.ist_build.proofs.TopBegunLemmas.{leaves_on}
+
+-- ---- the root of a rebuild
+
+clash : (o : Option Piece) (p : Piece) → o ≡ None → o ≡ Some p → ⊥
+clash o p e f = cc
+
+-- what is told of a rebuild stays so
+pub told_on : (t u : Snapshot) → AllGrow t.pieces u.pieces → (rebuild k : ℕ) → IsTold t rebuild k
+    → IsTold u rebuild k
+told_on t u g rebuild k h =
+    let it = rebuild_there t.pieces u.pieces g rebuild h.row h.published in
+    record {
+      row = it.0;
+      published = it.1;
+      started = started_grows t u g rebuild h.started;
+      finished = subst (λ n. IsFinishedWith u n k) (sym it.2.target)
+          (finished_with_grows t u g h.row.target k h.finished);
+    }
+
+-- its target
+pub told_target : (t : Snapshot) (rebuild target k : ℕ) → IsTold t rebuild k
+    → HasTarget t rebuild target → IsTarget t target k
+told_target t rebuild target k h g =
+    let same : h.row.target ≡ target = one (t.pieces rebuild) h.row g.row h.published g.published g.target_is in
+    record {
+      rebuild = rebuild;
+      row = h.row;
+      published = h.published;
+      target_is = same;
+      started = h.started;
+      finished = subst (λ n. IsFinishedWith t n k) same h.finished;
+    }
+  where
+    one : (o : Option Piece) (r s : RebuildRow) → o ≡ Some (Rebuild r) → o ≡ Some (Rebuild s)
+        → s.target ≡ target → r.target ≡ target
+    one o r s e f is = let same : r ≡ s = cc in ap (λ x. x.target) same ∙ is
+
+-- a load of its root word
+pub root_looked : (v w : View) (rebuild place word : ℕ) (row : RebuildRow)
+    → (now v).pieces rebuild ≡ Some (Rebuild row) → place ≡ rebuild + rebuild_root_offset
+    → Looked v place word w → word ≢ unset_word → HasRoot (now w) rebuild word
+root_looked v w rebuild place word row e at l set =
+    let g = looked_goes_on v place word w l in
+    let grow = grow_between w.start w.words v.log w.log l.sound.lawful.enabled (later-goes_on l.later) in
+    let same : state_of w.start w.words v.log ≡ now v =
+    ap₂ (λ p n. state_of p n v.log) (ap (λ x. x.start) g.same) (ap (λ x. x.words) g.same) in
+    let it = rebuild_there (now v).pieces (now w).pieces
+    (subst (λ t. AllGrow t.pieces (now w).pieces) same grow) rebuild row e in
+    record {
+      row = it.0;
+      published = it.1;
+      root_is = sym (looked_row v place word w l rebuild (Rebuild it.0) 3 it.0.root it.1 refl at);
+      set = set;
+    }
+
+-- behind a Root it has this one
+pub root_put : (v w : View) (number rebuild word : ℕ) (rows : List Row) → word ≢ unset_word
+    → Logged v (Root number rebuild word rows) w → HasRoot (now w) rebuild word
+root_put v w number rebuild word rows set l =
+    let event = Root number rebuild word rows in
+    let b = state_of v.start v.words l.before in
+    let enabled = before_enabled v event w l in
+    let can = (subst (λ (x : View). EachEnabled (start x.start x.words) x.log) l.view
+    l.sound.lawful.enabled).1 in
+    let s = sound (start v.start v.words) l.before (sound_start v.start v.words) enabled in
+    let there : with_inners b.pieces rows rebuild ≡ Some (Rebuild can.row) =
+    with_inners-other b.pieces rows rebuild
+    (λ i. clash (b.pieces rebuild) (Rebuild can.row) (held_free b number rows can.held s rebuild i)
+    can.published) ∙ can.published in
+    record {
+      row = record (can.row) { root = word };
+      published = ap (λ x. (now x).pieces rebuild) l.view
+          ∙ changed_at-same (with_inners b.pieces rows) rebuild (with_root word)
+          ∙ ap (option_map (with_root word)) there;
+      root_is = refl;
+      set = set;
+    }
+
+-- and behind a Lose that which was found
+pub root_lost : (v w : View) (number rebuild place word : ℕ) (bases : List ℕ) (row : RebuildRow)
+    → (now v).pieces rebuild ≡ Some (Rebuild row) → place ≡ rebuild + rebuild_root_offset
+    → word ≢ unset_word → LoggedLoad v (Lose number bases) place word w → HasRoot (now w) rebuild word
+root_lost v w number rebuild place word bases row e at set l =
+    let b = state_of v.start v.words l.before in
+    let enabled = (subst (λ (x : View). EachEnabled (start x.start x.words) x.log) l.view
+    l.sound.lawful.enabled).0 in
+    let it = rebuild_there (now v).pieces b.pieces
+    (grow_between v.start v.words v.log l.before enabled (later-goes_on l.later)) rebuild row e in
+    record {
+      row = it.0;
+      published = ap (λ x. (now x).pieces rebuild) l.view ∙ it.1;
+      root_is = sym (l.stood it.0.root (subst (λ q. IsShown b q it.0.root) (sym at)
+          (shown_row rebuild (Rebuild it.0) 3 it.1 refl)));
+      set = set;
+    }
+
+-- ---- what was built
+
+-- a row lies below the first free word
+published_low : (v : View) → IsSound v → (node k : ℕ) → IsFinishedWith (now v) node k
+    → node < (now v).next
+published_low v s node k f =
+    let it = claimed_within v.start v.words v.log node _ s.lawful.enabled
+    ((placed v.start v.words v.log s.lawful.enabled).published node (Inner f.row) f.published) in
+    let low = it.below_next in
+    let some = it.some in
+    omega arith
+
+module _ (old new : Caller) (target k word : ℕ) (s : IsSound old.seat.view) (number : new.number ≡ old.number)
+    (b : BuiltOn old.seat.view new.seat.view) (t : IsTarget (now old.seat.view) target k)
+    (leaves : List PlacedLeaf)
+    (has : HasLeaves (now old.seat.view).pieces (Some (InnerAt target)) leaves) where
+  pub many : length leaves ≡ k
+  many = leaves_number old.seat.view s target k t.finished leaves has
+
+  pub low : target < (now old.seat.view).next
+  low = published_low old.seat.view s target k t.finished
+
+  -- its rows have the sizes of a root
+  sizes_fit : (rows : List Row) → OwnsRows new.seat.view new.number (now old.seat.view).next rows
+      → IsRoot (with_inners (now new.seat.view).pieces rows) word k leaves target (bases_of rows)
+      → IsRootSizes k (sizes_of rows)
+  sizes_fit rows o root =
+      root_sizes (now new.seat.view).pieces rows word k leaves target o.once
+      (rows_free new.seat.view b.sound new.number rows o.held) many root
+
+  pub whole_laid : k < share_from
+      → IsLaid new.seat.view new.number (now old.seat.view).next word (take k (drop 0 leaves))
+      → IsInBuild new (sizes_built old) (shape k) [] → IsRootLaid old new target k word leaves
+  whole_laid few h at =
+      let root = root_whole h.ref few h.ref_is
+      (subst (λ xs. IsIdeal (with_inners (now new.seat.view).pieces h.rows) h.ref xs target (bases_of h.rows))
+      (take_all k leaves (let m = many in omega arith)) (h.ideal target low)) in
+      record {
+        rows = h.rows;
+        owns = h.owns;
+        root = root;
+        sizes = at.sizes ∙ ap (λ xs. sizes_built old ++ xs) (sym (fit (sizes_fit h.rows h.owns root)));
+      }
+    where
+      fit : {xs : List ℕ} → IsRootSizes k xs → xs ≡ shape k
+      fit (of_whole less e) = e
+      fit (of_top more e) = absurd (omega arith)
+
+  pub top_root : share_from ≤ k
+      → IsTopLaid new.seat.view new.number (now old.seat.view).next word leaves
+      → sizes_built new ≡ sizes_built old ++ inner_words (degree k) ∷ []
+      → IsRootLaid old new target k word leaves
+  top_root more h is =
+      let root = root_top h.base h.row more h.ref_is (h.top target low) h.unset h.one in
+      record {
+        rows = h.rows;
+        owns = h.owns;
+        root = root;
+        sizes = is ∙ ap (λ xs. sizes_built old ++ xs) (sym (fit (sizes_fit h.rows h.owns root)));
+      }
+    where
+      fit : {xs : List ℕ} → IsRootSizes k xs → xs ≡ inner_words (degree k) ∷ []
+      fit (of_whole less e) = absurd (omega arith)
+      fit (of_top great e) = e
+
+-- it may be put in place
+pub root_ready : (old new : Caller) (rebuild target k word : ℕ) → IsSound old.seat.view
+    → BuiltOn old.seat.view new.seat.view → IsTold (now old.seat.view) rebuild k
+    → HasTarget (now old.seat.view) rebuild target → (leaves : List PlacedLeaf)
+    → HasLeaves (now old.seat.view).pieces (Some (InnerAt target)) leaves
+    → (h : IsRootLaid old new target k word leaves)
+    → IsRootBuilt (now new.seat.view) new.number rebuild word h.rows
+unfolding told_target
+root_ready old new rebuild target k word s b told g leaves has h =
+    let v = old.seat.view in
+    let w = new.seat.view in
+    let on = told_on (now v) (now w) (built_grow v w b) rebuild k told in
+    let t = told_target (now v) rebuild target k told g in
+    let it = rebuild_there (now v).pieces (now w).pieces (built_grow v w b) rebuild t.row t.published in
+    let same : on.row.target ≡ target =
+    one ((now w).pieces rebuild) on.row it.0 on.published it.1 ∙ it.2.target ∙ t.target_is in
+    record {
+      row = on.row;
+      published = on.published;
+      started = on.started;
+      k = k;
+      finished = on.finished;
+      leaves = leaves;
+      reached = subst (λ n. HasLeaves (now w).pieces (Some (InnerAt n)) leaves) (sym same)
+          (leaves_on v w b target k t.finished leaves has);
+      root = subst (λ n. IsRoot (with_inners (now w).pieces h.rows) word k leaves n (bases_of h.rows))
+          (sym same) h.root;
+      once = h.owns.once;
+      held = h.owns.held;
+    }
+  where
+    one : (o : Option Piece) (r x : RebuildRow) → o ≡ Some (Rebuild r) → o ≡ Some (Rebuild x)
+        → r.target ≡ x.target
+    one o r x e f = let same : r ≡ x = cc in ap (λ y. y.target) same
+
+-- ---- its first row
+
+-- the word is that of a row, which is the first of some
+pub record IsTopped (word : ℕ) (bases : List ℕ) : Type 0 where
+  pub base : ℕ
+  pub ref_is : ref_of word ≡ Some (InnerAt base)
+  pub rest : List ℕ
+  pub bases_are : bases ≡ base ∷ rest
+
+pub root_topped : (ps : Pieces) (word k : ℕ) (leaves : List PlacedLeaf) (target : ℕ)
+    (bases : List ℕ) → 2 ≤ length leaves → IsRoot ps word k leaves target bases → IsTopped word bases
+root_topped ps word k leaves target bases two (root_whole ref few e ideal) =
+    by ref leaves target bases two ideal e
+  where
+    by : (x : Ref) (ls : List PlacedLeaf) (above : ℕ) (bs : List ℕ) → 2 ≤ length ls
+        → IsIdeal ps x ls above bs → ref_of word ≡ Some x → IsTopped word bs
+    by _ _ _ _ more of_none f = absurd (omega arith)
+    by _ _ _ _ more (of_one same there) f = absurd (omega arith)
+    by _ _ _ _ more (of_more {base = base} {rows = rows} r top under) f =
+        record { base = base; ref_is = f; rest = rows; bases_are = refl }
+root_topped ps word k leaves target bases two (root_top base row all e top unset one) =
+    record { base = base; ref_is = e; rest = []; bases_are = one }
+
+-- the word of a row is its base and the tag
+pub topped_base : (word : ℕ) (bases : List ℕ) (h : IsTopped word bases) → word / tag_count ≡ h.base
+topped_base word bases h =
+    let it = word_of-ref_of word (InnerAt h.base) h.ref_is in
+    let is = it.same_word in
+    omega arith
+
+pub topped_set : (word : ℕ) (bases : List ℕ) (h : IsTopped word bases) → word ≢ unset_word
+topped_set word bases h e =
+    no (sym (ap ref_of e ∙ ref_of-unset) ∙ h.ref_is)
+  where
+    no : Some Unset ≡ Some (InnerAt h.base) → ⊥
+    no f = cc
+
+-- the others lie above it
+pub first_least : (bases : List ℕ) (base : ℕ) (rest : List ℕ) → bases ≡ base ∷ rest → Rises bases
+    → (b : ℕ) → Among b bases → base ≤ b
+first_least [] base rest e rising b i = absurd i
+first_least (x ∷ xs) base rest e rising b (inl f) = let same : x ≡ base = cc in omega arith
+first_least (x ∷ xs) base rest e rising b (inr i) =
+    let same : x ≡ base = cc in
+    let less = each-among (λ y. x < y) b xs rising.0 i in
+    omega arith

@@ -1,0 +1,253 @@
+-- A row that was opened, and words that are set in it. Serves `build`.
+use Rattle.std.proofs.Common.{◌≡◌, ◌≢◌, ℕ, ◌+◌, ◌-◌, ◌<◌, ◌≤◌, List, [], ◌∷◌, ◌++◌, length, nat_lt, Bool, true, false, if◌then◌else◌, refl, sym, ap, ◌∙◌, subst, inl, arith}
+use Rattle.std.proofs.lemmas.Bool.Decides.{nat_tests}
+use Rattle.std.specs.List.{flat_map}
+use Rattle.ist_core.specs.Arithmetic.{degree}
+use Rattle.ist_core.specs.Lawful.{state_of}
+use Rattle.ist_core.specs.RowLayout.{inner_words}
+use Rattle.ist_core.specs.Shapes.{shape}
+use Rattle.ist_core.specs.Snapshots.{HoldsRow}
+use Rattle.ist_core.proofs.ElementLemmas.{among_right}
+use Rattle.ist_core.proofs.ShapeLemmas.{shape_many}
+use Rattle.ist_rule.specs.declared.view.View.{View}
+use Rattle.ist_rule.specs.declared.view.OwnWord.{OwnWord}
+use Rattle.ist_core.specs.declared.events.Who.TheVariants.{Caller as CallerOf}
+use Rattle.ist_rule.specs.Faces.{SeatFace}
+use Rattle.ist_rule.specs.Rule.{IsSound, own_at}
+use Rattle.ist_rule.specs.Learning.{now, GoesOnTo, storing}
+use Rattle.ist_rule.proofs.WentOnLemmas.{later_by}
+use Rattle.ist_rows.specs.declared.callers.Caller.{Caller}
+use Rattle.ist_rows.specs.Rows.{spares_of, IsCaller, Reserved, HoldsPlace}
+use Rattle.ist_rows.specs.Building.{IsInBuild, HasTaken}
+use Rattle.ist_rows.proofs.BuildingCallLemmas.{took, at_goes_on, at_storing}
+use Rattle.ist_rows.proofs.CallerGoingLemmas.{caller_goes_on}
+use Rattle.ist_build.specs.Laying.{Reserves}
+use Rattle.ist_forms.specs.Dividing.{lens_to, parts_to}
+use Rattle.ist_build.specs.Midway.{words_at, AreLaid, lens_from, IsOpened, IsMidway, opening, setting}
+use Rattle.ist_build.proofs.BuiltLemmas.{built_more, built_held, built_grow, loads_built, reserved_built, rewritten_built}
+use Rattle.ist_build.proofs.LaidOnLemmas.{next_between}
+use Rattle.ist_build.proofs.LayingLemmas.{are_laid_none, are_laid_on}
+use Rattle.ist_build.proofs.OwnWordLemmas.{own_here, own_else}
+use Rattle.ist_build.proofs.PartsLemmas.{lens_first}
+
+pub holds_place : (who : Caller) (base d at : ℕ)
+    → HoldsRow (now who.seat.view) who.number base (inner_words d) → at < inner_words d
+    → HoldsPlace who base at
+holds_place who base d at held less = record { size = inner_words d; held = held; within = less }
+
+-- ---- a fresh row
+
+-- where a row lies that was reserved: from the first free word on, and its words are 0
+pub record IsFreshRow (v : View) (number base size : ℕ) (w : View) : Type 0 where
+  pub high : (now v).next ≤ base
+  pub held : HoldsRow (now w) number base size
+  pub zero_words : (place : ℕ) → base ≤ place → own_at w.own place ≡ 0
+
+pub fresh_row : (v : View) → IsSound v → (number base size : ℕ) (w : View)
+    → Reserved v number base size w → IsFreshRow v number base size w
+fresh_row v s number base size w r =
+    let it = took v number base size w r in
+    let up = next_between v.start v.words v.who Reserves v.log it.before it.lawful.enabled.0
+    (later_by it.later) in
+    let at_next = it.lawful.enabled.1.base_is in
+    let own_is : w.own ≡ v.own = ap (λ x. x.own) r.reserved.view ∙ ap (λ x. x.own) r.seen.same in
+    record {
+      high = omega arith;
+      held = subst (λ t. HoldsRow t number base size) (sym it.now_is)
+          (among_right record { caller = number; base = base; size = size }
+          (state_of v.start v.words it.before).held
+          (record { caller = number; base = base; size = size } ∷ []) (inl refl));
+      zero_words = λ place le. ap (λ o. own_at o place) own_is
+          ∙ s.is_true.fresh place (omega arith);
+    }
+
+-- ---- the first row
+
+module _ (old new : Caller) (leaves : List ℕ) (base : ℕ) (s : IsSound old.seat.view)
+    (mine : old.seat.view.who ≡ CallerOf old.number)
+    (two : 2 ≤ length leaves)
+    (number : new.number ≡ old.number) (rows : spares_of new ≡ spares_of old)
+    (r : Reserved old.seat.view old.number base (inner_words (degree (length leaves))) new.seat.view)
+    (taken : HasTaken old (inner_words (degree (length leaves)) ∷ []) new) where
+  abbrev d : ℕ
+  d = degree (length leaves)
+
+  abbrev view : View
+  view = opening new.seat.view base d (length leaves)
+
+  abbrev who : Caller
+  who = record new { seat = record new.seat { view = view } }
+
+  fresh : IsFreshRow old.seat.view old.number base (inner_words d) new.seat.view
+  fresh = fresh_row old.seat.view s old.number base (inner_words d) new.seat.view r
+
+  pub opened : IsOpened view.own base d (length leaves)
+  opened =
+      let o = new.seat.view.own in
+      let first = record { place = base + 2; word = d } ∷ o in
+      record {
+        status = own_else first (base + 3) (length leaves) base (λ e. omega arith)
+            ∙ own_else o (base + 2) d base (λ e. omega arith) ∙ fresh.zero_words base (omega arith);
+        count = own_else first (base + 3) (length leaves) (base + 1) (λ e. omega arith)
+            ∙ own_else o (base + 2) d (base + 1) (λ e. omega arith)
+            ∙ fresh.zero_words (base + 1) (omega arith);
+        degree_is = own_else first (base + 3) (length leaves) (base + 2) (λ e. omega arith)
+            ∙ own_here o (base + 2) d;
+        size_is = own_here first (base + 3) (length leaves);
+      }
+
+  due_first : (stuck done rest : List ℕ) → IsInBuild old stuck done (shape (length leaves) ++ rest)
+      → IsInBuild who stuck (done ++ inner_words d ∷ flat_map shape (lens_to (length leaves) 0))
+      (flat_map shape (lens_from (length leaves) 0) ++ rest)
+  due_first stuck done rest h =
+      let whole : shape (length leaves) ≡ inner_words d ∷ flat_map shape (lens_from (length leaves) 0) =
+      shape_many (length leaves) two
+      ∙ ap (λ xs. inner_words d ∷ flat_map shape xs) (sym (lens_first (length leaves))) in
+      at_storing (record new { seat = record new.seat { view = storing new.seat.view (base + 2) d } })
+      (base + 3) (length leaves) stuck _ _
+      (at_storing new (base + 2) d stuck _ _
+      (taken stuck done (flat_map shape (lens_from (length leaves) 0) ++ rest)
+      (subst (λ xs. IsInBuild old stuck done (xs ++ rest)) whole h)))
+
+  pub midway_first : IsCaller who → IsSound view → IsMidway old leaves base d 0 who
+  midway_first caller sound =
+      let high = fresh.high in
+      record {
+        caller = caller;
+        number = number;
+        rows = rows;
+        built = rewritten_built old.seat.view new.seat.view view.own
+            (reserved_built old.seat.view old.number base (inner_words d) new.seat.view r) sound
+            (λ p low. own_else (record { place = base + 2; word = d } ∷ new.seat.view.own)
+            (base + 3) (length leaves) p (λ e. omega arith)
+            ∙ own_else new.seat.view.own (base + 2) d p (λ e. omega arith));
+        high = fresh.high;
+        held = subst (λ n. HoldsRow (now new.seat.view) n base (inner_words d)) (sym number) fresh.held;
+        opened = opened;
+        laid = λ placed a. are_laid_none view new.number (base + inner_words d) base;
+        keys = λ placed a. refl;
+        due = due_first;
+      }
+
+-- ---- behind a load
+
+-- what the first words of a row are they are where none of them was stored anew
+pub opened_on : (a b : List OwnWord) (base d size : ℕ)
+    → ((p : ℕ) → p < base + 4 → own_at b p ≡ own_at a p)
+    → IsOpened a base d size → IsOpened b base d size
+opened_on a b base d size same o =
+    record {
+      status = same base (omega arith) ∙ o.status;
+      count = same (base + 1) (omega arith) ∙ o.count;
+      degree_is = same (base + 2) (omega arith) ∙ o.degree_is;
+      size_is = same (base + 3) (omega arith) ∙ o.size_is;
+    }
+
+pub midway_loaded : (old who : Caller) (seat : SeatFace) (leaves : List ℕ) (base d j : ℕ)
+    → IsSound who.seat.view → IsMidway old leaves base d j who → GoesOnTo who.seat.view seat.view
+    → IsMidway old leaves base d j (record who { seat = seat })
+midway_loaded old who seat leaves base d j s m g =
+    let v = who.seat.view in
+    let w = seat.view in
+    let b = loads_built v w g in
+    let own_is : w.own ≡ v.own = ap (λ x. x.own) g.same in
+    record {
+      caller = caller_goes_on who seat m.caller g;
+      number = m.number;
+      rows = m.rows;
+      built = built_more old.seat.view v w m.built b;
+      high = m.high;
+      held = built_held v w b who.number base (inner_words d) m.caller.mine m.held;
+      opened = subst (λ o. IsOpened o base d (length leaves)) (sym own_is) m.opened;
+      laid = λ placed a.
+          subst (λ o. AreLaid w who.number (base + inner_words d) base (words_at o (base + 3 + d) j)
+          (parts_to (length leaves) j placed)) (sym own_is)
+          (are_laid_on v w s g.sound who.number (base + inner_words d) (built_grow v w b)
+          (λ b2 size h. built_held v w b who.number b2 size m.caller.mine h)
+          (λ place low high. ap (λ o. own_at o place) own_is) base
+          (words_at v.own (base + 3 + d) j) (parts_to (length leaves) j placed) (m.laid placed a));
+      keys = λ placed a.
+          ap (λ o. words_at o (base + 4) (j - 1)) own_is ∙ m.keys placed a;
+      due = λ stuck done rest h.
+          at_goes_on who seat stuck _ _ m.caller g (m.due stuck done rest h);
+    }
+
+-- ---- behind a part
+
+-- the words of the row that were stored before stay, where others are stored behind a part
+module _ (v : View) (base d j key word : ℕ) (less : j < d) where
+  -- below the row's slots and keys of the part nothing changes
+  setting_own : List OwnWord
+  setting_own = (setting v base d j key word).own
+
+  pub at_slot : own_at (setting v base d j key word).own (base + 3 + d + j) ≡ word
+  at_slot = cases (nat_lt 0 j)
+    where
+      slot : base + (3 + d + j) ≡ base + 3 + d + j
+      slot = omega arith
+
+      cases : (b : Bool)
+          → own_at (if b then storing (storing v (base + (3 + d + j)) word) (base + (3 + j)) key
+          else storing v (base + (3 + d + j)) word).own (base + 3 + d + j) ≡ word
+      cases true =
+          own_else (record { place = base + (3 + d + j); word = word } ∷ v.own) (base + (3 + j)) key
+          (base + 3 + d + j) (λ e. omega arith)
+          ∙ ap (own_at (record { place = base + (3 + d + j); word = word } ∷ v.own)) (sym slot)
+          ∙ own_here v.own (base + (3 + d + j)) word
+      cases false =
+          ap (own_at (record { place = base + (3 + d + j); word = word } ∷ v.own)) (sym slot)
+          ∙ own_here v.own (base + (3 + d + j)) word
+
+  pub at_key : 1 ≤ j → own_at (setting v base d j key word).own (base + 3 + j) ≡ key
+  at_key some = cases (nat_lt 0 j) refl
+    where
+      place : base + (3 + j) ≡ base + 3 + j
+      place = omega arith
+
+      cases : (b : Bool) → nat_lt 0 j ≡ b
+          → own_at (if b then storing (storing v (base + (3 + d + j)) word) (base + (3 + j)) key
+          else storing v (base + (3 + d + j)) word).own (base + 3 + j) ≡ key
+      cases true e =
+          ap (own_at (record { place = base + (3 + j); word = key }
+          ∷ record { place = base + (3 + d + j); word = word } ∷ v.own)) (sym place)
+          ∙ own_here (record { place = base + (3 + d + j); word = word } ∷ v.own) (base + (3 + j)) key
+      cases false e = absurd (let none : j ≤ 0 = grind (arith, nat_tests) in omega arith)
+
+  pub elsewhere : (p : ℕ) → p ≢ base + 3 + d + j → (1 ≤ j → p ≢ base + 3 + j)
+      → own_at (setting v base d j key word).own p ≡ own_at v.own p
+  elsewhere p ne nk = cases (nat_lt 0 j) refl
+    where
+      cases : (b : Bool) → nat_lt 0 j ≡ b
+          → own_at (if b then storing (storing v (base + (3 + d + j)) word) (base + (3 + j)) key
+          else storing v (base + (3 + d + j)) word).own p ≡ own_at v.own p
+      cases true e =
+          let some : 1 ≤ j = let pos : 0 < j = grind (arith, nat_tests) in omega arith in
+          own_else (record { place = base + (3 + d + j); word = word } ∷ v.own) (base + (3 + j)) key p
+          (λ f. nk some (let q : p ≡ base + 3 + j = omega arith in q))
+          ∙ own_else v.own (base + (3 + d + j)) word p
+          (λ f. ne (let q : p ≡ base + 3 + d + j = omega arith in q))
+      cases false e =
+          own_else v.own (base + (3 + d + j)) word p
+          (λ f. ne (let q : p ≡ base + 3 + d + j = omega arith in q))
+
+  -- the view is the old one but for its words
+  pub setting_is : setting v base d j key word ≡ record v { own = (setting v base d j key word).own }
+  setting_is = cases (nat_lt 0 j)
+    where
+      cases : (b : Bool)
+          → (if b then storing (storing v (base + (3 + d + j)) word) (base + (3 + j)) key
+          else storing v (base + (3 + d + j)) word)
+          ≡ record v {
+            own = (if b then storing (storing v (base + (3 + d + j)) word) (base + (3 + j)) key
+                else storing v (base + (3 + d + j)) word).own;
+          }
+      cases true = refl
+      cases false = refl
+
+-- a caller with other words of its own is where it was
+pub at_rewritten : (who : Caller) (own : List OwnWord) (stuck done rest : List ℕ)
+    → IsInBuild who stuck done rest
+    → IsInBuild (record who { seat = record who.seat { view = record who.seat.view { own = own } } })
+    stuck done rest
+at_rewritten who own stuck done rest h =
+    record { sizes = h.sizes; all_stuck = h.all_stuck; building = h.building }
