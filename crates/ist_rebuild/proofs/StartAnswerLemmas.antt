@@ -24,12 +24,12 @@ use Rattle.ist_dcss.specs.Helping.{Serves, IsDecided}
 use Rattle.ist_dcss.specs.Installing.{Filling, IsInstalled}
 use Rattle.ist_rebuild.specs.declared.answers.Started.{Started}
 use Rattle.ist_rebuild.specs.declared.answers.Started.TheVariants.{Yes, Other, Marked}
-use Rattle.ist_rebuild.specs.Going.{Begins}
+use Rattle.ist_rebuild.specs.Going.{Begins, StartsAt}
 use Rattle.ist_rebuild.specs.Starting.{IsStartedAt, LeavesDone, IsStartRefused, StartsAreDoneBut}
 use Rattle.ist_rebuild.specs.Starting.{LeavesUninstalled, LeavesUnstarted, StartsNone}
 use Rattle.ist_rebuild.specs.StartSteps.{IsReady, start_filling}
 use Rattle.ist_rebuild.proofs.StartFillLemmas.{rebuild_good, rows_apart}
-use Rattle.ist_rebuild.proofs.StartGoingLemmas.{HasPutIn, begins_installing, begins_serving, put_went}
+use Rattle.ist_rebuild.proofs.StartGoingLemmas.{HasPutIn, begins_installing, begins_serving, put_went, aims_installing, aims_serving}
 use Rattle.ist_rebuild.proofs.StartOwnLemmas.{InstallsBut, own_was, starts_but, starts_none_reserving, starts_reserving}
 use Rattle.ist_rebuild.proofs.StartResultLemmas.{put_closed, put_said, put_started, put_to}
 
@@ -92,6 +92,11 @@ module _ (who : Caller) (parent index target rebuild change : ℕ) (f : Filling)
   put_begins said h =
       put_went Begins v change plan said w h (λ n. begins_installing change plan refl)
       (begins_serving change)
+
+  pub put_aims : (said : Bool) → HasPutIn v change plan said w → WentOn (StartsAt target) v w
+  put_aims said h =
+      put_went (StartsAt target) v change plan said w h (aims_installing target change plan refl)
+      (aims_serving target change)
 
   put_but : (said : Bool) → HasPutIn v change plan said w
       → WentOn (InstallsBut who.number change) v w

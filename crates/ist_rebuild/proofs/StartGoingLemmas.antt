@@ -4,13 +4,14 @@ use Rattle.ist_build.specs.Laying.{Reserves}
 use Rattle.ist_core.specs.declared.events.Event.{Event}
 use Rattle.ist_core.specs.declared.events.Event.TheVariants.{Reserve, Install, Okay, Decide, Resolve}
 use Rattle.ist_core.specs.declared.states.ChangeRow.{ChangeRow}
+use Rattle.ist_core.specs.References.{InnerAt, word_of}
 use Rattle.ist_core.specs.Statuses.{start_kind}
 use Rattle.ist_rule.specs.declared.view.View.{View}
 use Rattle.ist_rule.specs.Going.{WentOn}
 use Rattle.ist_rule.proofs.WentOnLemmas.{goes_on_went, logged_went, went_all, went_more}
 use Rattle.ist_dcss.specs.Helping.{Serves, IsDecided}
 use Rattle.ist_dcss.specs.Installing.{Filling, rows_of, IsInstalled}
-use Rattle.ist_rebuild.specs.Going.{Begins, IsOfKind}
+use Rattle.ist_rebuild.specs.Going.{Begins, IsOfKind, StartsAt}
 
 -- a reserving begins a start
 pub begins_reserving : (event : Event) → Reserves event → Begins event
@@ -23,6 +24,18 @@ begins_serving change (Okay c other) is = tt
 begins_serving change (Decide c other said) is = tt
 begins_serving change (Resolve c other) is = tt
 begins_serving change _ is = absurd is
+
+-- neither installs a start
+pub aims_reserving : (target : ℕ) (event : Event) → Reserves event → StartsAt target event
+aims_reserving target (Reserve c base size) is = tt
+aims_reserving target _ is = absurd is
+
+pub aims_serving : (target change : ℕ) (event : Event) → Serves change event
+    → StartsAt target event
+aims_serving target change (Okay c other) is = tt
+aims_serving target change (Decide c other said) is = tt
+aims_serving target change (Resolve c other) is = tt
+aims_serving target change _ is = absurd is
 
 -- ---- a start that was put in
 
@@ -49,6 +62,15 @@ put_went P v change f said w h installs serves =
 pub begins_installing : (change : ℕ) (f : Filling) → f.change.kind ≡ start_kind
     → IsOfKind start_kind (rows_of f change)
 begins_installing change f kind x is = ap (λ (y : ChangeRow). y.kind) (one x is) ∙ kind
+  where
+    one : (x : ChangeRow) → Some f.change ≡ Some x → x ≡ f.change
+    one x e = cc
+
+-- and they put it in the place of its target
+pub aims_installing : (target change : ℕ) (f : Filling) → f.change.from ≡ word_of (InnerAt target)
+    → (number : ℕ) → StartsAt target (Install number change (rows_of f change))
+aims_installing target change f from number x is kind =
+    ap (λ (y : ChangeRow). y.from) (one x is) ∙ from
   where
     one : (x : ChangeRow) → Some f.change ≡ Some x → x ≡ f.change
     one x e = cc

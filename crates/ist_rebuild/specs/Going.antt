@@ -6,6 +6,7 @@ use Rattle.ist_core.specs.declared.events.Event.TheVariants.{Enter, Reserve, Ins
 use Rattle.ist_core.specs.declared.lists.Row.{Row}
 use Rattle.ist_core.specs.declared.ports.Full.{Full}
 use Rattle.ist_core.specs.declared.states.ChangeRow.{ChangeRow}
+use Rattle.ist_core.specs.References.{InnerAt, word_of}
 use Rattle.ist_core.specs.RowLayout.{next_place}
 use Rattle.ist_core.specs.Statuses.{start_kind, finish_kind}
 use Rattle.ist_core.specs.Writing.{first_change}
@@ -39,6 +40,13 @@ Begins (Okay caller base) = Unit {0}
 Begins (Decide caller base said) = Unit {0}
 Begins (Resolve caller base) = Unit {0}
 Begins _ = ⊥
+
+-- a start that the event installs is in the place of this node
+abbrev pub StartsAt : ℕ → Event → Type 0
+StartsAt target (Install caller base rows) =
+    (change : ChangeRow) → first_change rows ≡ Some change → change.kind ≡ start_kind
+    → change.from ≡ word_of (InnerAt target)
+StartsAt target _ = Unit {0}
 
 -- the event is a step of helping one: of Installs that of a finish alone, no Count, and no Enter
 abbrev pub Serves : Event → Type 0

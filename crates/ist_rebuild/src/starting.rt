@@ -9,7 +9,7 @@ ghost use Rattle.ist_rule.specs.Learning.{now};
 ghost use Rattle.ist_rows.specs.Building.{HasRefused};
 ghost use Rattle.ist_rows.specs.Rows.{IsCaller};
 ghost use Rattle.ist_settling.specs.Settling.{StartsAreDone};
-ghost use Rattle.ist_rebuild.specs.Going.{IsQuiet, Begins, KeepsFresh};
+ghost use Rattle.ist_rebuild.specs.Going.{IsQuiet, Begins, KeepsFresh, StartsAt};
 ghost use Rattle.ist_rebuild.specs.Starting.{MayStart, IsStartedAt, StoodInstead, LeavesDone};
 ghost use Rattle.ist_rebuild.specs.Starting.{IsStartRefused, LeavesUninstalled, LeavesUnstarted};
 ghost use Rattle.ist_rebuild.specs.StartSteps.{IsReady, start_filling};
@@ -43,6 +43,7 @@ fn put_in(table: &TreeTable, who: &mut Caller, plan: Plan) -> Started
     ensures number { who.new.number ≡ who.old.number }
     ensures fresh { KeepsFresh who.old who.new }
     ensures went { WentOn Begins who.old.seat.view who.new.seat.view }
+    ensures aims { WentOn (StartsAt plan.target) who.old.seat.view who.new.seat.view }
     ensures quiet { IsQuiet who.new }
     ensures refused { HasRefused who.old → HasRefused who.new }
     ensures yes { (rebuild : ℕ) → result ≡ Yes rebuild
@@ -100,6 +101,7 @@ pub fn start<R: Wait>(
     ensures number { who.new.number ≡ who.old.number }
     ensures fresh { KeepsFresh who.old who.new }
     ensures went { WentOn Begins who.old.seat.view who.new.seat.view }
+    ensures aims { WentOn (StartsAt target) who.old.seat.view who.new.seat.view }
     ensures quiet { IsQuiet who.new }
     ensures refused { HasRefused who.old → HasRefused who.new }
     ensures yes { (rebuild : ℕ) → result ≡ Ok (Yes rebuild)

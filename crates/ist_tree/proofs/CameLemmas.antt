@@ -35,13 +35,13 @@ in_order {a = a} {b = b} {log = log} p q =
     either x y = grind arith
 
 -- a prefix of a log with one event more is one of the log, or is the whole
-whole_or_before : (whole : Log) (other : Event) (log : Log) → GoesOn whole (other ∷ log)
+pub whole_or_before : (whole : Log) (other : Event) (log : Log) → GoesOn whole (other ∷ log)
     → (whole ≡ other ∷ log) ⊎ GoesOn whole log
 whole_or_before _ other log same_log = inl refl
 whole_or_before whole other log (one_event _ on) = inr on
 
 -- an event of a log that went on was in the log before, or is one of those by which it went on
-event_since : (P : Event → Type 0) (event : Event) (w at : Log) (x : Log) → GoesOnBy P w x
+pub event_since : (P : Event → Type 0) (event : Event) (w at : Log) (x : Log) → GoesOnBy P w x
     → GoesOn (event ∷ at) x → GoesOn (event ∷ at) w ⊎ P event
 event_since P event w at _ no_more on = inl on
 event_since P event w at _ (one_more {log = log} other later p) on =

@@ -21,12 +21,13 @@ use Rattle.ist_rule.proofs.WentOnLemmas.{later_by-goes_on}
 use Rattle.ist_rows.specs.declared.callers.Caller.{Caller}
 use Rattle.ist_updates.specs.Asking.{MayEnd}
 use Rattle.ist_tree.specs.Calls.{AddsCall, HasSeenMore}
-use Rattle.ist_tree.specs.DueRows.{HasCounted, LeavesNoneDue}
+use Rattle.ist_tree.specs.DueRows.{HasCounted, LeavesNoneDue, StartsOnlyDue}
 use Rattle.ist_tree.specs.Faces.{PassFace}
 use Rattle.ist_tree.specs.Insides.{IsPass, IsPassWith, face_as, pass_face}
 use Rattle.ist_tree.specs.Refusals.{IsRebuildRefused, IsRefused, KeepsRefusal}
 use Rattle.ist_tree.specs.Working as working
-use Rattle.ist_tree.specs.Working.{CarriesOut, IsTurnedDown, Works}
+use Rattle.ist_tree.specs.Working.{CarriesOut, IsTurnedDown, Works, StartsDue}
+use Rattle.ist_tree.proofs.InstallLemmas.{way_starts}
 use Rattle.ist_tree.proofs.BeginningLemmas.{begun_calls}
 use Rattle.ist_tree.proofs.EndingLemmas.{can_end_so, ended_call, ending_in}
 use Rattle.ist_tree.proofs.RefusalLemmas.{keeps_first, rebuild_was_refused, update_was_refused}
@@ -205,6 +206,12 @@ module _ (who began new : Caller) (seat : SeatFace) (command : Command) (s : IsS
     update_ends old view =
         subst (λ (o : PassFace). UpdateEnds o new seat q command reply) view ends_here
 
+    pub update_starts : StartsDue began new → (old : PassFace) → pass_face who r ≡ old
+        → StartsOnlyDue old (face_as seat new.number q)
+    update_starts d old view =
+        subst (λ (o : PassFace). StartsOnlyDue o (face_as seat new.number q)) view
+        (way_starts who began new seat command it r q d)
+
   -- ---- the call was refused
 
   module _ (key : ℕ) (value : Option ℕ) (full : Full)
@@ -263,3 +270,9 @@ module _ (who began new : Caller) (seat : SeatFace) (command : Command) (s : IsS
         subst (λ (o : PassFace). IsRefused o (face_as seat new.number r) key value full) view
         (update_was_refused who began new seat command stops r r words key value full same_words
         d.cause)
+
+    pub stopped_starts : StartsDue began new → (old : PassFace) → pass_face who r ≡ old
+        → StartsOnlyDue old (face_as seat new.number r)
+    stopped_starts due old view =
+        subst (λ (o : PassFace). StartsOnlyDue o (face_as seat new.number r)) view
+        (way_starts who began new seat command stops r r due)

@@ -8,7 +8,7 @@ use Rattle.ist_core.specs.Statuses.{start_kind, finish_kind}
 use Rattle.ist_dcss.specs.Helping as dcss
 use Rattle.ist_rows.specs.CallerLaws.{KeepsRows, InstallsNone}
 use Rattle.ist_settling.specs.Settling.{InstallsNoStart, CountsNothing}
-use Rattle.ist_rebuild.specs.Going.{Begins, Serves}
+use Rattle.ist_rebuild.specs.Going.{Begins, Serves, StartsAt}
 use Rattle.ist_updates.specs.Asking.{Updates}
 use Rattle.ist_tree.specs.Working.{Rebuilds, Works}
 
@@ -105,6 +105,31 @@ none_starts_none number (Root caller rebuild word rows) p = tt
 none_starts_none number (Draw caller rebuild part) p = tt
 none_starts_none number (Place caller rebuild i word rows) p = tt
 none_starts_none number (Lose caller bases) p = tt
+
+-- helping a rebuild starts none, so that no start is out of place
+pub serves_aims : (target : ℕ) (event : Event) → Serves event → StartsAt target event
+serves_aims target (Install caller base rows) p =
+    λ change is start. absurd (finish_no_start change.kind (p change is) start)
+serves_aims target (Reserve caller base size) p = tt
+serves_aims target (Okay caller base) p = tt
+serves_aims target (Decide caller base said) p = tt
+serves_aims target (Resolve caller base) p = tt
+serves_aims target (Enter caller) p = tt
+serves_aims target (Count caller node) p = tt
+serves_aims target (Mark caller node) p = tt
+serves_aims target (Pass caller node i word) p = tt
+serves_aims target (Finish caller node keys) p = tt
+serves_aims target (Root caller rebuild word rows) p = tt
+serves_aims target (Draw caller rebuild part) p = tt
+serves_aims target (Place caller rebuild i word rows) p = tt
+serves_aims target (Lose caller bases) p = tt
+
+-- nor does helping a change
+pub help_aims : (target base : ℕ) (event : Event) → dcss.Serves base event → StartsAt target event
+help_aims target base (Okay caller other) p = tt
+help_aims target base (Decide caller other said) p = tt
+help_aims target base (Resolve caller other) p = tt
+help_aims target base _ p = absurd p
 
 -- helping a rebuild starts none
 pub serves_start_none : (number : ℕ) (event : Event) → Serves event → InstallsNoStart number event

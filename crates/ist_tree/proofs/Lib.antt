@@ -10,6 +10,7 @@ pub mod CarriedLemmas
 pub mod EndingLemmas
 pub mod BeginningLemmas
 pub mod WayLemmas
+pub mod InstallLemmas
 pub mod RefusalLemmas
 pub mod UpdateLemmas
 pub mod EndsLemmas

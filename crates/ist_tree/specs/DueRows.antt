@@ -1,12 +1,24 @@
--- What a put or a remove has counted, and what became of the rows that it made due.
-use Rattle.std.specs.Prelude.{◌≡◌, ◌⊎◌, ℕ, Option, Some, None}
+-- What a put or a remove has counted, what became of the rows that it made due, and which rebuilds it
+-- started.
+use Rattle.std.specs.Prelude.{◌≡◌, ◌⊎◌, ℕ, List, ◌∷◌, Option, Some, None}
 use Rattle.ist_core.specs.declared.commands.Command.{Command}
+use Rattle.ist_core.specs.declared.events.Event.TheVariants.{Install}
+use Rattle.ist_core.specs.declared.lists.Row.{Row}
+use Rattle.ist_core.specs.declared.pairs.Pair.{Pair}
 use Rattle.ist_core.specs.declared.ports.Full.{Full}
+use Rattle.ist_core.specs.declared.states.ChangeRow.{ChangeRow}
+use Rattle.ist_core.specs.declared.states.InnerRow.{InnerRow}
 use Rattle.ist_core.specs.Lawful.{state_of}
 use Rattle.ist_core.specs.Links.{IsChild, WasOnChain}
-use Rattle.ist_core.specs.Logs.{Ever}
+use Rattle.ist_core.specs.Logs.{Ever, GoesOn, Log}
+use Rattle.ist_core.specs.Pieces.{Inner}
+use Rattle.ist_core.specs.Rebuilding.{IsDue}
+use Rattle.ist_core.specs.References.{InnerAt, word_of}
 use Rattle.ist_core.specs.Slots.{IsOpen}
+use Rattle.ist_core.specs.Snapshots.{Snapshot}
 use Rattle.ist_core.specs.StartLayout.{start}
+use Rattle.ist_core.specs.Statuses.{start_kind}
+use Rattle.ist_core.specs.Writing.{first_change}
 use Rattle.ist_updates.specs.Counting.{IsCounted, CameToLimit}
 use Rattle.ist_tree.specs.Faces.{PassFace}
 use Rattle.ist_tree.specs.Refusals.{IsRebuildRefused}
@@ -45,3 +57,25 @@ pub data LeavesNoneDue (p q : PassFace) : Type 0 where
   is_closed : (row : ℕ) → IsTopmostDue p q row → IsClosedAt q row → LeavesNoneDue p q
   was_refused : (full : Full) → IsRebuildRefused p q full
       → q.refused ≡ first_refusal p.refused full → LeavesNoneDue p q
+
+-- ---- which rebuilds it started
+
+-- the word is that of an inner row whose count has come to its limit
+pub record IsDueAt (t : Snapshot) (word : ℕ) : Type 0 where
+  pub target : ℕ
+  pub word_is : word ≡ word_of (InnerAt target)
+  pub row : InnerRow
+  pub published : t.pieces target ≡ Some (Inner row)
+  pub due : IsDue row
+
+-- each start of a rebuild that the caller installed behind the earlier log took, at that moment, the
+-- place of a row whose count had come to its limit
+abbrev pub InstallsDue : List Pair → ℕ → Log → Log → ℕ → Type 0
+InstallsDue pairs words earlier log caller =
+    (at : Log) (base : ℕ) (rows : List Row) (change : ChangeRow) → GoesOn earlier at
+    → GoesOn (Install caller base rows ∷ at) log → first_change rows ≡ Some change
+    → change.kind ≡ start_kind → IsDueAt (state_of pairs words at) change.from
+
+-- so did each that the pass installed in the call
+abbrev pub StartsOnlyDue : PassFace → PassFace → Type 0
+StartsOnlyDue p q = InstallsDue p.tree.start p.tree.words p.seen q.seen p.number

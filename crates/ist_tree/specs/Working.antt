@@ -30,6 +30,7 @@ use Rattle.ist_rebuild.specs.Helping.{IsAskedFor}
 use Rattle.ist_updates.specs.Asking.{MayEnd}
 use Rattle.ist_updates.specs.Counting.{IsCounted, CameToLimit}
 use Rattle.ist_updates.specs.Refusals.{IsUpdateRefused}
+use Rattle.ist_tree.specs.DueRows.{InstallsDue}
 
 -- ---- a caller in its call
 
@@ -64,6 +65,12 @@ pub record RebuildsOn (old new : Caller) : Type 0 where
 abbrev pub KeepsDone : Caller → Caller → Type 0
 KeepsDone old new = StartsAreDone (now old.seat.view) old.number
     → StartsAreDone (now new.seat.view) old.number
+
+-- each start that the caller installed meanwhile took the place of a row that was due
+abbrev pub StartsDue : Caller → Caller → Type 0
+StartsDue old new =
+    let v = old.seat.view in
+    InstallsDue v.start v.words v.log new.seat.view.log old.number
 
 -- ---- the rebuild of a row that came to its limit
 

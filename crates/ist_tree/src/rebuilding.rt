@@ -1,7 +1,9 @@
 //! Rebuilding a row that came to its limit.
 ghost use Rattle.std.specs.Prelude.{◌≡◌, IfOk, IfErr, OnOk};
 ghost use Rattle.ist_rule.specs.Faces.{word_count_of};
+ghost use Rattle.ist_rule.specs.Going.{WentOn};
 ghost use Rattle.ist_rule.specs.Learning.{now};
+ghost use Rattle.ist_rebuild.specs.Going.{StartsAt};
 ghost use Rattle.ist_rebuild.specs.Starting.{MayStart, StoodInstead};
 ghost use Rattle.ist_tree.specs.Working.{IsReady, RebuildsOn, KeepsDone, IsShut, IsLastFor, IsDueRefused};
 
@@ -27,6 +29,7 @@ fn help_other<R: Wait>(
     requires stood { StoodInstead who.old.seat.view due.parent due.index due.target word }
     ensures same_table { who.new.seat.table ≡ table.now.table }
     ensures on { RebuildsOn who.old who.new }
+    ensures aims { WentOn (StartsAt due.target) who.old.seat.view who.new.seat.view }
     ensures done { OnOk result (KeepsDone who.old who.new) }
     ensures full { IfErr result (λ full.
         IsDueRefused who.new.seat.view (word_count_of table.now) full) }
@@ -52,6 +55,7 @@ fn try_due<R: Wait>(table: &TreeTable, rt: &R, who: &mut Caller, due: Due) -> Re
     requires may_start { MayStart who.old.seat.view due.parent due.index due.target }
     ensures same_table { who.new.seat.table ≡ table.now.table }
     ensures on { RebuildsOn who.old who.new }
+    ensures aims { WentOn (StartsAt due.target) who.old.seat.view who.new.seat.view }
     ensures last { IfOk result (λ last.
         IsLastFor last (now who.new.seat.view) due.parent due.target) }
     ensures done { OnOk result (KeepsDone who.old who.new) }
@@ -83,6 +87,7 @@ pub(crate) fn rebuild_due<R: Wait>(
     requires may_start { MayStart who.old.seat.view due.parent due.index due.target }
     ensures same_table { who.new.seat.table ≡ table.now.table }
     ensures on { RebuildsOn who.old who.new }
+    ensures aims { WentOn (StartsAt due.target) who.old.seat.view who.new.seat.view }
     ensures shut { OnOk result (IsShut (now who.new.seat.view) due.parent due.target) }
     ensures done { OnOk result (KeepsDone who.old who.new) }
     ensures full { IfErr result (λ full.

@@ -11,7 +11,7 @@ ghost use Rattle.ist_histories.specs.Searching.{HasPosition};
 ghost use Rattle.ist_tree.specs.Faces.{noted, calls_in};
 ghost use Rattle.ist_tree.specs.Calls.{HasSeenMore, HasLearnt, AddsCall, WeavesWith, HasLoadedFew};
 ghost use Rattle.ist_tree.specs.Closing.{ClosesWith};
-ghost use Rattle.ist_tree.specs.DueRows.{HasCounted, LeavesNoneDue};
+ghost use Rattle.ist_tree.specs.DueRows.{HasCounted, LeavesNoneDue, StartsOnlyDue};
 ghost use Rattle.ist_tree.specs.Opening.{IsNewTree, IsFaultOf};
 ghost use Rattle.ist_tree.specs.Refusals.{IsRefused, KeepsRefusal};
 
@@ -193,15 +193,17 @@ impl Tree {
     ///
     /// The call is added to those of the pass: the map was changed so in one step, behind all that the
     /// pass had seen. It counts the change at each node above it; where counts came to their limits, the
-    /// topmost such node is rebuilt. `Full` where the tree had too few words left for a row of the put,
-    /// or for a rebuild on its way: the call didn't happen then. Where only the rebuild behind the
-    /// change met that, the call is answered, and the pass keeps the first such refusal.
+    /// topmost such node is rebuilt, and no rebuild of a node below its limit is started. `Full` where
+    /// the tree had too few words left for a row of the put, or for a rebuild on its way: the call didn't
+    /// happen then. Where only the rebuild behind the change met that, the call is answered, and the pass
+    /// keeps the first such refusal.
     pub fn put<R: Wait>(&self, rt: &R, pass: &mut Pass, key: u64, value: u64) -> Result<Reply, Full>
         requires same_tree { pass.old.tree ≡ self.now }
         ensures seen { HasSeenMore pass.old pass.new }
         ensures added { IfOk result (λ reply. AddsCall pass.old pass.new (Put key value) reply) }
         ensures counted { OnOk result (HasCounted pass.old pass.new (Put key value)) }
         ensures due { OnOk result (LeavesNoneDue pass.old pass.new) }
+        ensures starts { StartsOnlyDue pass.old pass.new }
         ensures full { IfErr result (λ full. IsRefused pass.old pass.new key (Some value) full) }
         ensures calls { OnErr result (pass.new.calls ≡ pass.old.calls) }
         ensures unrefused { OnErr result (pass.new.refused ≡ pass.old.refused) }
@@ -219,6 +221,7 @@ impl Tree {
         ensures counted { IfOk result (λ reply. makes_entry (Remove key) reply ≡ true
             → HasCounted pass.old pass.new (Remove key)) }
         ensures due { OnOk result (LeavesNoneDue pass.old pass.new) }
+        ensures starts { StartsOnlyDue pass.old pass.new }
         ensures full { IfErr result (λ full. IsRefused pass.old pass.new key None full) }
         ensures calls { OnErr result (pass.new.calls ≡ pass.old.calls) }
         ensures unrefused { OnErr result (pass.new.refused ≡ pass.old.refused) }

@@ -6,10 +6,10 @@ ghost use Rattle.ist_rule.specs.Learning.{Turned, beginning};
 ghost use Rattle.ist_rule.specs.Rule.{IsSound};
 ghost use Rattle.ist_updates.specs.Asking.{command_for, IsAsked};
 ghost use Rattle.ist_tree.specs.Calls.{HasSeenMore, AddsCall};
-ghost use Rattle.ist_tree.specs.DueRows.{HasCounted, LeavesNoneDue};
+ghost use Rattle.ist_tree.specs.DueRows.{HasCounted, LeavesNoneDue, StartsOnlyDue};
 ghost use Rattle.ist_tree.specs.Insides.{IsPass};
 ghost use Rattle.ist_tree.specs.Refusals.{IsRefused, KeepsRefusal};
-ghost use Rattle.ist_tree.specs.Working.{CarriesOut, IsTurnedDown};
+ghost use Rattle.ist_tree.specs.Working.{CarriesOut, IsTurnedDown, StartsDue};
 
 use crate::passes::Pass;
 use crate::rebuilding::rebuild_due;
@@ -67,6 +67,7 @@ fn carry_out<R: Wait>(
         (command_for key value) c.reply c.refused) }
     ensures full { IfErr result (λ full.
         IsTurnedDown who.old who.new (word_count_of table.now) key value full) }
+    ensures starts { StartsDue who.old who.new }
 {
     know(&who.seat);
     let done = apply(table, rt, who, key, value)?;
@@ -95,6 +96,7 @@ pub(crate) fn update<R: Wait>(
     ensures counted { IfOk result (λ reply. makes_entry (command_for key value) reply ≡ true
         → HasCounted pass.old pass.new (command_for key value)) }
     ensures due { OnOk result (LeavesNoneDue pass.old pass.new) }
+    ensures starts { StartsOnlyDue pass.old pass.new }
     ensures full { IfErr result (λ full. IsRefused pass.old pass.new key value full) }
     ensures calls { OnErr result (pass.new.calls ≡ pass.old.calls) }
     ensures unrefused { OnErr result (pass.new.refused ≡ pass.old.refused) }

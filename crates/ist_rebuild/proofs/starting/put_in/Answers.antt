@@ -2,9 +2,9 @@ use Rattle.std.proofs.Common.{refl, subst, true, false}
 use Rattle.ist_build.specs.Laying.{Reserves}
 use Rattle.ist_rule.proofs.WentOnLemmas.{goes_on_went}
 use Rattle.ist_rows.proofs.CallerGoingLemmas.{caller_goes_on}
-use Rattle.ist_rebuild.specs.Going.{Begins}
+use Rattle.ist_rebuild.specs.Going.{Begins, StartsAt}
 use Rattle.ist_rebuild.specs.Starting.{StoodInstead}
-use Rattle.ist_rebuild.proofs.StartAnswerLemmas.{has_put, no_closed, no_done, no_start, put_begins, same_word, yes_done, yes_started}
+use Rattle.ist_rebuild.proofs.StartAnswerLemmas.{has_put, no_closed, no_done, no_start, put_begins, same_word, yes_done, yes_started, put_aims}
 use Rattle.ist_rebuild.proofs.StartOwnLemmas.{starts_none_reserving, starts_reserving}
 use Rattle.ist_rebuild.proofs.StartPutLemmas.{loads_quiet, loads_refused, put_caller, put_refused, put_quiet, start_bases}
 use Rattle.ist_rebuild.proofs.StartResultLemmas.{other_stood}
@@ -20,6 +20,11 @@ returns-in-Other-clause-caller g c =
 pub returns-in-Other-clause-went : goal.returns-in-Other-clause-went
 returns-in-Other-clause-went g c =
     goes_on_went Begins _ _ (c.in-Other.ensures.other c.in-Other.word refl).seen
+
+pub returns-in-Other-clause-aims : goal.returns-in-Other-clause-aims
+returns-in-Other-clause-aims g c =
+    goes_on_went (StartsAt c.args.plan.target) _ _
+    (c.in-Other.ensures.other c.in-Other.word refl).seen
 
 pub returns-in-Other-clause-quiet : goal.returns-in-Other-clause-quiet
 returns-in-Other-clause-quiet g c =
@@ -72,6 +77,14 @@ returns-in-Yes-clause-went g c =
     (has_put _ c.args.plan.rows.change g.filling _ true _ _ c.requires.1.1
     (c.install.ensures.yes c.in_default.is) c.help.ensures.went c.in-Yes.ensures.decided)
 
+pub returns-in-Yes-clause-aims : goal.returns-in-Yes-clause-aims
+returns-in-Yes-clause-aims g c =
+    put_aims c.args.who.now c.args.plan.parent c.args.plan.index c.args.plan.target
+    c.args.plan.rows.rebuild c.args.plan.rows.change g.filling c.requires.1.0 c.know.ensures.sound
+    _ true
+    (has_put _ c.args.plan.rows.change g.filling _ true _ _ c.requires.1.1
+    (c.install.ensures.yes c.in_default.is) c.help.ensures.went c.in-Yes.ensures.decided)
+
 pub returns-in-Yes-clause-quiet : goal.returns-in-Yes-clause-quiet
 returns-in-Yes-clause-quiet g c =
     put_quiet c.args.who.now c.args.plan.rows.rebuild c.args.plan.rows.change
@@ -115,6 +128,14 @@ returns-in-No-clause-caller g c =
 pub returns-in-No-clause-went : goal.returns-in-No-clause-went
 returns-in-No-clause-went g c =
     put_begins c.args.who.now c.args.plan.parent c.args.plan.index c.args.plan.target
+    c.args.plan.rows.rebuild c.args.plan.rows.change g.filling c.requires.1.0 c.know.ensures.sound
+    _ false
+    (has_put _ c.args.plan.rows.change g.filling _ false _ _ c.requires.1.1
+    (c.install.ensures.yes c.in_default.is) c.help.ensures.went c.in-No.ensures.decided)
+
+pub returns-in-No-clause-aims : goal.returns-in-No-clause-aims
+returns-in-No-clause-aims g c =
+    put_aims c.args.who.now c.args.plan.parent c.args.plan.index c.args.plan.target
     c.args.plan.rows.rebuild c.args.plan.rows.change g.filling c.requires.1.0 c.know.ensures.sound
     _ false
     (has_put _ c.args.plan.rows.change g.filling _ false _ _ c.requires.1.1

@@ -1,11 +1,11 @@
 use Rattle.std.proofs.Common.{rules, refl, Ok}
 use Rattle.ist_build.specs.Laying.{Reserves}
 use Rattle.ist_rebuild.specs.declared.answers.Started.TheVariants.{Marked}
-use Rattle.ist_rebuild.specs.Going.{Begins}
+use Rattle.ist_rebuild.specs.Going.{Begins, StartsAt}
 use Rattle.ist_rule.proofs.WentOnLemmas.{goes_on_went, went_all, went_more}
 use Rattle.ist_rows.proofs.CallerGoingLemmas.{caller_goes_on}
 use Rattle.ist_rebuild.proofs.StartAnswerLemmas.{behind_done, behind_uninstalled, behind_unstarted, err_done, err_uninstalled, err_unstarted, refused_behind, same_answer}
-use Rattle.ist_rebuild.proofs.StartGoingLemmas.{begins_reserving}
+use Rattle.ist_rebuild.proofs.StartGoingLemmas.{begins_reserving, aims_reserving}
 use Rattle.ist_rebuild.proofs.StartOwnLemmas.{starts_none_reserving, starts_reserving}
 use Rattle.ist_rebuild.proofs.StartPutLemmas.{loads_quiet, loads_refused}
 use Rattle.ist_rebuild.proofs.StartReadyLemmas.{may_start_on, start_node}
@@ -24,6 +24,10 @@ returns-then-not-is_open-clause-caller g c =
 
 pub returns-then-not-is_open-clause-went : goal.returns-then-not-is_open-clause-went
 returns-then-not-is_open-clause-went g c = goes_on_went Begins _ _ c.is_open.ensures.seen
+
+pub returns-then-not-is_open-clause-aims : goal.returns-then-not-is_open-clause-aims
+returns-then-not-is_open-clause-aims g c =
+    goes_on_went (StartsAt c.args.target) _ _ c.is_open.ensures.seen
 
 pub returns-then-not-is_open-clause-quiet : goal.returns-then-not-is_open-clause-quiet
 returns-then-not-is_open-clause-quiet g c =
@@ -71,6 +75,13 @@ returns-in_err-rows-clause-went g c =
     went_more Begins _ _ _ (goes_on_went Begins _ _ c.is_open.ensures.seen)
     (went_all Reserves Begins begins_reserving _ _ c.in_err-rows.ensures.went)
 
+pub returns-in_err-rows-clause-aims : goal.returns-in_err-rows-clause-aims
+returns-in_err-rows-clause-aims g c =
+    went_more (StartsAt c.args.target) _ _ _
+    (goes_on_went (StartsAt c.args.target) _ _ c.is_open.ensures.seen)
+    (went_all Reserves (StartsAt c.args.target) (aims_reserving c.args.target) _ _
+    c.in_err-rows.ensures.went)
+
 pub returns-in_err-rows-clause-refused : goal.returns-in_err-rows-clause-refused
 returns-in_err-rows-clause-refused g c was =
     c.in_err-rows.ensures.refused
@@ -114,6 +125,15 @@ returns-clause-went g c =
     (went_more Begins _ _ _ (goes_on_went Begins _ _ c.is_open.ensures.seen)
     (went_all Reserves Begins begins_reserving _ _ c.in_ok-rows.ensures.went))
     c.put_in.ensures.went
+
+pub returns-clause-aims : goal.returns-clause-aims
+returns-clause-aims g c =
+    went_more (StartsAt c.args.target) _ _ _
+    (went_more (StartsAt c.args.target) _ _ _
+    (goes_on_went (StartsAt c.args.target) _ _ c.is_open.ensures.seen)
+    (went_all Reserves (StartsAt c.args.target) (aims_reserving c.args.target) _ _
+    c.in_ok-rows.ensures.went))
+    c.put_in.ensures.aims
 
 pub returns-clause-refused : goal.returns-clause-refused
 returns-clause-refused g c was =

@@ -1,7 +1,9 @@
 -- What stands in the place of the row is helped: a rebuild, or a change.
 use Rattle.ist_mark.proofs.BelowLemmas.{read_as}
-use Rattle.ist_rebuild.specs.Going.{Serves}
-use Rattle.ist_tree.proofs.EventLemmas.{help_plain, serves_rebuild, serves_start_none}
+use Rattle.ist_rebuild.specs.Going.{Serves, StartsAt}
+use Rattle.ist_dcss.specs.Helping as dcss
+use Rattle.ist_rule.proofs.WentOnLemmas.{went_all, went_same}
+use Rattle.ist_tree.proofs.EventLemmas.{help_aims, help_plain, serves_aims, serves_rebuild, serves_start_none}
 use Rattle.ist_tree.proofs.RebuildLemmas.{help_refused, other_helped, other_started, passed_on, plain_done, plain_on, rebuilds_by, rebuilds_same, starts_went}
 use Rattle.ist_tree.proofs.rebuilding.help_other.Goals as goal
 
@@ -22,6 +24,12 @@ returns-in_err-help_rebuild-in-Some-Rebuild-clause-on g c =
     }
     c.help_rebuild.ensures.number
 
+pub returns-in_err-help_rebuild-in-Some-Rebuild-clause-aims :
+    goal.returns-in_err-help_rebuild-in-Some-Rebuild-clause-aims
+returns-in_err-help_rebuild-in-Some-Rebuild-clause-aims g c =
+    went_all Serves (StartsAt c.args.due.target) (serves_aims c.args.due.target) _ _
+    c.help_rebuild.ensures.went
+
 pub returns-in_err-help_rebuild-in-Some-Rebuild-clause-full :
     goal.returns-in_err-help_rebuild-in-Some-Rebuild-clause-full
 returns-in_err-help_rebuild-in-Some-Rebuild-clause-full g c =
@@ -38,6 +46,12 @@ returns-in_ok-help_rebuild-in-Some-Rebuild-clause-on g c =
       quiet = c.help_rebuild.ensures.quiet;
     }
     c.help_rebuild.ensures.number
+
+pub returns-in_ok-help_rebuild-in-Some-Rebuild-clause-aims :
+    goal.returns-in_ok-help_rebuild-in-Some-Rebuild-clause-aims
+returns-in_ok-help_rebuild-in-Some-Rebuild-clause-aims g c =
+    went_all Serves (StartsAt c.args.due.target) (serves_aims c.args.due.target) _ _
+    c.help_rebuild.ensures.went
 
 pub returns-in_ok-help_rebuild-in-Some-Rebuild-clause-done :
     goal.returns-in_ok-help_rebuild-in-Some-Rebuild-clause-done
@@ -56,6 +70,11 @@ returns-in-Some-Change-clause-on g c =
     plain_on _ (help_plain c.in-Some-Change.base) _ c.help.new.seat c.requires.ready
     c.help.ensures.went
 
+pub returns-in-Some-Change-clause-aims : goal.returns-in-Some-Change-clause-aims
+returns-in-Some-Change-clause-aims g c =
+    went_all (dcss.Serves c.in-Some-Change.base) (StartsAt c.args.due.target)
+    (help_aims c.args.due.target c.in-Some-Change.base) _ _ c.help.ensures.went
+
 pub returns-in-Some-Change-clause-done : goal.returns-in-Some-Change-clause-done
 returns-in-Some-Change-clause-done g c =
     plain_done _ (help_plain c.in-Some-Change.base) _ c.help.new.seat c.requires.ready
@@ -67,9 +86,13 @@ returns g c =
     record {
       same_table = c.requires.same_table;
       on = rebuilds_same _ c.know.ensures.sound c.requires.ready;
+      aims = went_same (StartsAt c.args.due.target) _ c.know.ensures.sound;
       done = λ done. done;
       full = tt;
     }
 
 pub returns-2-clause-on : goal.returns-2-clause-on
 returns-2-clause-on g c = rebuilds_same _ c.know.ensures.sound c.requires.ready
+
+pub returns-2-clause-aims : goal.returns-2-clause-aims
+returns-2-clause-aims g c = went_same (StartsAt c.args.due.target) _ c.know.ensures.sound

@@ -1,4 +1,6 @@
 -- The row is rebuilt, attempt by attempt.
+use Rattle.ist_rebuild.specs.Going.{StartsAt}
+use Rattle.ist_rule.proofs.WentOnLemmas.{went_more, went_same}
 use Rattle.ist_tree.specs.Working.{Rebuilds}
 use Rattle.ist_tree.proofs.DueLemmas.{done_more}
 use Rattle.ist_tree.proofs.RebuildLemmas.{may_start_went, rebuilds_more, rebuilds_same}
@@ -10,6 +12,7 @@ loop-init g c = (
   c.requires.same_table,
   rebuilds_same c.args.who.now c.know.ensures.sound c.requires.ready,
   λ done. done,
+  went_same (StartsAt c.args.due.target) _ c.know.ensures.sound,
 )
 
 -- the row may be rebuilt still
@@ -21,10 +24,18 @@ pub returns-in_err-try_due-clause-on : goal.returns-in_err-try_due-clause-on
 returns-in_err-try_due-clause-on g c =
     rebuilds_more _ _ _ c.loop.invariant.1 c.try_due.ensures.on
 
+pub returns-in_err-try_due-clause-aims : goal.returns-in_err-try_due-clause-aims
+returns-in_err-try_due-clause-aims g c =
+    went_more (StartsAt c.args.due.target) _ _ _ c.loop.invariant.3 c.try_due.ensures.aims
+
 -- the last attempt found it shut
 pub returns-then-branch-clause-on : goal.returns-then-branch-clause-on
 returns-then-branch-clause-on g c =
     rebuilds_more _ _ _ c.loop.invariant.1 c.try_due.ensures.on
+
+pub returns-then-branch-clause-aims : goal.returns-then-branch-clause-aims
+returns-then-branch-clause-aims g c =
+    went_more (StartsAt c.args.due.target) _ _ _ c.loop.invariant.3 c.try_due.ensures.aims
 
 pub returns-then-branch-clause-shut : goal.returns-then-branch-clause-shut
 returns-then-branch-clause-shut g c = c.in_ok-try_due.ensures.last c.if-branch.true
@@ -40,4 +51,5 @@ loop-preserved g c = (
   rebuilds_more _ _ _ c.loop.invariant.1 c.try_due.ensures.on,
   done_more c.args.who.now c.loop.who c.try_due.new.who c.loop.invariant.1.number
       c.loop.invariant.2 c.in_ok-try_due.ensures.done,
+  went_more (StartsAt c.args.due.target) _ _ _ c.loop.invariant.3 c.try_due.ensures.aims,
 )

@@ -1,7 +1,9 @@
 -- A row is rebuilt, or found shut, or what stands in its place is helped.
 use Rattle.std.proofs.Common.{Ok, ap, inl, inr}
 use Rattle.ist_rule.specs.Watching.{is_inner}
-use Rattle.ist_rule.proofs.WentOnLemmas.{goes_on_went}
+use Rattle.ist_rebuild.specs.Going.{Serves, StartsAt}
+use Rattle.ist_rule.proofs.WentOnLemmas.{goes_on_went, went_all, went_more}
+use Rattle.ist_tree.proofs.EventLemmas.{serves_aims}
 use Rattle.ist_tree.proofs.DueLemmas.{begins_on, done_behind, done_more, helped_done, helped_either, helped_shut, marked_leaves, other_leaves, serves_on, yes_leaves}
 use Rattle.ist_tree.proofs.RebuildLemmas.{help_refused, load_plain, may_start_went, not_open_shut, passed_on, plain_done, plain_on, rebuilds_more, start_refused}
 use Rattle.ist_tree.specs.Working.{Rebuilds}
@@ -33,6 +35,13 @@ returns-in_err-help_rebuild-in-Yes-clause-on g c =
     (serves_on _ _ c.help_rebuild.ensures.caller c.help_rebuild.ensures.refused
     c.help_rebuild.ensures.quiet c.help_rebuild.ensures.went c.help_rebuild.ensures.number)
 
+pub returns-in_err-help_rebuild-in-Yes-clause-aims :
+    goal.returns-in_err-help_rebuild-in-Yes-clause-aims
+returns-in_err-help_rebuild-in-Yes-clause-aims g c =
+    went_more (StartsAt c.args.due.target) _ _ _ c.start.ensures.aims
+    (went_all Serves (StartsAt c.args.due.target) (serves_aims c.args.due.target) _ _
+    c.help_rebuild.ensures.went)
+
 pub returns-in_err-help_rebuild-in-Yes-clause-full :
     goal.returns-in_err-help_rebuild-in-Yes-clause-full
 returns-in_err-help_rebuild-in-Yes-clause-full g c =
@@ -47,6 +56,13 @@ returns-in_ok-help_rebuild-in-Yes-clause-on g c =
     c.start.ensures.quiet c.start.ensures.went c.start.ensures.number)
     (serves_on _ _ c.help_rebuild.ensures.caller c.help_rebuild.ensures.refused
     c.help_rebuild.ensures.quiet c.help_rebuild.ensures.went c.help_rebuild.ensures.number)
+
+pub returns-in_ok-help_rebuild-in-Yes-clause-aims :
+    goal.returns-in_ok-help_rebuild-in-Yes-clause-aims
+returns-in_ok-help_rebuild-in-Yes-clause-aims g c =
+    went_more (StartsAt c.args.due.target) _ _ _ c.start.ensures.aims
+    (went_all Serves (StartsAt c.args.due.target) (serves_aims c.args.due.target) _ _
+    c.help_rebuild.ensures.went)
 
 pub returns-in_ok-help_rebuild-in-Yes-clause-last :
     goal.returns-in_ok-help_rebuild-in-Yes-clause-last
@@ -89,6 +105,11 @@ returns-in_err-help_other-in-Other-clause-on g c =
     (begins_on _ _ c.requires.ready c.start.ensures.caller c.start.ensures.refused
     c.start.ensures.quiet c.start.ensures.went c.start.ensures.number) c.help_other.ensures.on
 
+pub returns-in_err-help_other-in-Other-clause-aims :
+    goal.returns-in_err-help_other-in-Other-clause-aims
+returns-in_err-help_other-in-Other-clause-aims g c =
+    went_more (StartsAt c.args.due.target) _ _ _ c.start.ensures.aims c.help_other.ensures.aims
+
 pub is_open-requires-clause-node : goal.is_open-requires-clause-node
 is_open-requires-clause-node g c =
     let on = rebuilds_more _ _ _
@@ -105,6 +126,13 @@ returns-in_ok-help_other-in-Other-clause-on g c =
     rebuilds_more _ _ _ on
     (plain_on _ load_plain c.help_other.new.who c.is_open.new.seat on.ready
     (goes_on_went _ _ _ c.is_open.ensures.seen))
+
+pub returns-in_ok-help_other-in-Other-clause-aims :
+    goal.returns-in_ok-help_other-in-Other-clause-aims
+returns-in_ok-help_other-in-Other-clause-aims g c =
+    went_more (StartsAt c.args.due.target) _ _ _
+    (went_more (StartsAt c.args.due.target) _ _ _ c.start.ensures.aims c.help_other.ensures.aims)
+    (goes_on_went (StartsAt c.args.due.target) _ _ c.is_open.ensures.seen)
 
 pub returns-in_ok-help_other-in-Other-clause-last :
     goal.returns-in_ok-help_other-in-Other-clause-last

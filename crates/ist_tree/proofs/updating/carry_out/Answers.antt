@@ -2,6 +2,7 @@
 use Rattle.std.proofs.Common.{subst}
 use Rattle.ist_updates.specs.Counting.{LeavesDue}
 use Rattle.ist_tree.proofs.CarriedLemmas.{carried_none, carried_some, turned_down}
+use Rattle.ist_tree.proofs.InstallLemmas.{applied_starts, carried_starts}
 use Rattle.ist_tree.proofs.RebuildLemmas.{passed_on}
 use Rattle.ist_tree.proofs.updating.carry_out.Goals as goal
 
@@ -13,6 +14,11 @@ returns-in_err-done-clause-full g c =
     c.requires.asked.resolved c.in_err-done.ensures.caller c.in_err-done.ensures.refused
     c.in_err-done.ensures.number c.in_err-done.ensures.went c.in_err-done.ensures.full
     c.in_err-done.ensures.given_up c.in_err-done.ensures.none_due)
+
+pub returns-in_err-done-clause-starts : goal.returns-in_err-done-clause-starts
+returns-in_err-done-clause-starts g c =
+    applied_starts c.args.who.now c.apply.new.who c.requires.asked.caller.mine
+    c.in_err-done.ensures.went
 
 -- it made a row due
 pub returns-in-Some-clause-carried : goal.returns-in-Some-clause-carried
@@ -51,3 +57,19 @@ returns-in-None-clause-carried g c =
           subst (LeavesDue c.args.who.now.seat.view c.apply.new.who.seat.view c.args.who.now.number)
           c.in-None.is c.in_ok-done.ensures.due;
     }
+
+-- ---- which rebuilds were started
+
+pub returns-in-Some-clause-starts : goal.returns-in-Some-clause-starts
+returns-in-Some-clause-starts g c =
+    carried_starts c.args.who.now c.apply.new.who c.rebuild_due.new.who c.in-Some.due
+    c.requires.asked.caller.mine c.in_ok-done.ensures.caller c.in_ok-done.ensures.number
+    c.in_ok-done.ensures.went
+    (subst (LeavesDue c.args.who.now.seat.view c.apply.new.who.seat.view c.args.who.now.number)
+    c.in-Some.is c.in_ok-done.ensures.due)
+    c.rebuild_due.ensures.aims
+
+pub returns-in-None-clause-starts : goal.returns-in-None-clause-starts
+returns-in-None-clause-starts g c =
+    applied_starts c.args.who.now c.apply.new.who c.requires.asked.caller.mine
+    c.in_ok-done.ensures.went

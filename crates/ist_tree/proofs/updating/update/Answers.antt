@@ -4,7 +4,7 @@ use Rattle.ist_core.specs.declared.commands.Command.{Command}
 use Rattle.ist_rule.specs.Learning.{Turned, beginning}
 use Rattle.ist_updates.specs.Asking.{command_for}
 use Rattle.ist_tree.specs.Faces.{PassFace, TreeFace}
-use Rattle.ist_tree.proofs.EndsLemmas.{UpdateEnds, picked_ends, stopped_full, stopped_pass, stopped_seen, update_ends}
+use Rattle.ist_tree.proofs.EndsLemmas.{UpdateEnds, picked_ends, stopped_full, stopped_pass, stopped_seen, stopped_starts, update_ends, update_starts}
 use Rattle.ist_tree.proofs.updating.update.Given as given
 use Rattle.ist_tree.proofs.updating.update.Goals as goal
 
@@ -57,6 +57,21 @@ returns-in-Ok-clause-due g c = (ends g c).due
 pub returns-in-Ok-clause-refused : goal.returns-in-Ok-clause-refused
 returns-in-Ok-clause-refused g c = (ends g c).refused
 
+pub returns-in-Ok-clause-starts : goal.returns-in-Ok-clause-starts
+returns-in-Ok-clause-starts g c =
+    let begun = subst (λ (command : Command). Turned c.pass.inside.caller.seat.view
+    (beginning c.pass.inside.caller.seat.view (Some command)) c.begin.new.who.seat.view)
+    c.command_of.ensures.value c.begin.ensures.begun in
+    let tree = c.tree.view_is ∙ sym c.requires.same_tree
+    ∙ sym (ap (λ (p : PassFace). p.tree) c.pass.view_is) in
+    update_starts c.pass.inside.caller c.begin.new.who c.carry_out.new.who c.end_call.new.seat
+    (command_for c.args.key c.args.value) c.begin.ensures.sound c.pass.inside.refused
+    c.pass.invariant begun c.begin.ensures.number _ (ap (λ (t : TreeFace). t.words) tree)
+    (c.end_call.ensures.same_table ∙ c.carry_out.ensures.same_table
+    ∙ ap (λ (t : TreeFace). t.table) tree) c.in-Ok.done.reply c.in-Ok.done.refused
+    c.in-Ok.ensures.carried c.end_call.ensures.ended c.or-pass-inside.result
+    c.or-pass-inside.ensures c.carry_out.ensures.starts c.args.pass.now c.pass.view_is
+
 -- or it was refused
 pub invariant_of-pass-in-Err : goal.invariant_of-pass-in-Err
 invariant_of-pass-in-Err g c =
@@ -99,3 +114,18 @@ returns-in-Err-clause-full g c =
     (c.give_up.ensures.same_table ∙ c.carry_out.ensures.same_table
     ∙ ap (λ (t : TreeFace). t.table) tree) c.args.key c.args.value c.in-Err.full
     c.in-Err.ensures.full c.give_up.ensures.given_up c.args.pass.now c.pass.view_is
+
+pub returns-in-Err-clause-starts : goal.returns-in-Err-clause-starts
+returns-in-Err-clause-starts g c =
+    let begun = subst (λ (command : Command). Turned c.pass.inside.caller.seat.view
+    (beginning c.pass.inside.caller.seat.view (Some command)) c.begin.new.who.seat.view)
+    c.command_of.ensures.value c.begin.ensures.begun in
+    let tree = c.tree.view_is ∙ sym c.requires.same_tree
+    ∙ sym (ap (λ (p : PassFace). p.tree) c.pass.view_is) in
+    stopped_starts c.pass.inside.caller c.begin.new.who c.carry_out.new.who c.give_up.new.seat
+    (command_for c.args.key c.args.value) c.begin.ensures.sound c.pass.inside.refused
+    c.pass.invariant begun c.begin.ensures.number _ (ap (λ (t : TreeFace). t.words) tree)
+    (c.give_up.ensures.same_table ∙ c.carry_out.ensures.same_table
+    ∙ ap (λ (t : TreeFace). t.table) tree) c.args.key c.args.value c.in-Err.full
+    c.in-Err.ensures.full c.give_up.ensures.given_up c.carry_out.ensures.starts c.args.pass.now
+    c.pass.view_is

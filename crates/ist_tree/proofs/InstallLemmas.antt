@@ -1,0 +1,177 @@
+-- In the place of which rows the starts of a call stood when they were installed. Serves `update`.
+use Rattle.std.proofs.Common.{◌≡◌, ◌≢◌, ℕ, ◌≤◌, ◌⊎◌, List, ◌∷◌, Option, Some, refl, sym, ap, ◌∙◌, subst, inl, inr, ⊎_elim, arith}
+use Rattle.std.proofs.Math.Nat.{le_trans}
+use Rattle.ist_core.specs.declared.commands.Command.{Command}
+use Rattle.ist_core.specs.declared.events.Event.{Event}
+use Rattle.ist_core.specs.declared.events.Event.TheVariants.{Install}
+use Rattle.ist_core.specs.declared.lists.Row.{Row}
+use Rattle.ist_core.specs.declared.pairs.Pair.{Pair}
+use Rattle.ist_core.specs.declared.ports.Full.{Full}
+use Rattle.ist_core.specs.declared.states.ChangeRow.{ChangeRow}
+use Rattle.ist_core.specs.declared.states.InnerRow.{InnerRow}
+use Rattle.ist_core.specs.Arithmetic.{limit}
+use Rattle.ist_core.specs.Authors.{GoesOnBy}
+use Rattle.ist_core.specs.Growing.{InnerGrows}
+use Rattle.ist_core.specs.Lawful.{EachEnabled, state_of}
+use Rattle.ist_core.specs.Logs.{GoesOn, Log, same_log}
+use Rattle.ist_core.specs.Pieces.{Inner}
+use Rattle.ist_core.specs.Rebuilding.{IsDue}
+use Rattle.ist_core.specs.References.{InnerAt, word_of}
+use Rattle.ist_core.specs.StartLayout.{start}
+use Rattle.ist_core.specs.Statuses.{start_kind}
+use Rattle.ist_core.specs.Writing.{first_change}
+use Rattle.ist_core.proofs.FateLemmas.{enabled_before, grow_between}
+use Rattle.ist_core.proofs.GrowingLemmas.{inner_there}
+use Rattle.ist_settling.specs.Settling.{InstallsNoStart}
+use Rattle.ist_rule.specs.declared.view.View.{View}
+use Rattle.ist_core.specs.declared.events.Who.TheVariants.{Caller as CallerOf}
+use Rattle.ist_core.specs.Authors.{LaterBy, whose}
+use Rattle.ist_rule.specs.Going.{WentOn}
+use Rattle.ist_rule.proofs.LaterLemmas.{goes_on_length}
+use Rattle.ist_rule.specs.Faces.{SeatFace}
+use Rattle.ist_rule.proofs.WentOnLemmas.{later_by-goes_on, went_lawful}
+use Rattle.ist_rows.specs.declared.callers.Caller.{Caller}
+use Rattle.ist_rows.specs.Rows.{IsCaller}
+use Rattle.ist_rebuild.specs.Going.{StartsAt}
+use Rattle.ist_settling.proofs.DoneLemmas.{others_start_nothing}
+use Rattle.ist_updates.specs.declared.updates.Due.{Due}
+use Rattle.ist_updates.specs.Asking.{Updates}
+use Rattle.ist_updates.specs.Counting.{HasMadeDue}
+use Rattle.ist_tree.specs.DueRows.{InstallsDue, IsDueAt, StartsOnlyDue}
+use Rattle.ist_tree.specs.Insides.{face_as, pass_face}
+use Rattle.ist_tree.specs.Working.{StartsDue}
+use Rattle.ist_tree.proofs.CameLemmas.{event_since, in_order, whole_or_before}
+use Rattle.ist_tree.proofs.EventLemmas.{updates_start_none}
+use Rattle.ist_tree.proofs.WayLemmas as way
+
+-- a row that came to its limit is at it still
+still_due : (old new : InnerRow) → InnerGrows old new → IsDue old → IsDue new
+still_due old new g d =
+    let count = g.count in
+    subst (λ s. limit s ≤ new.count) (sym g.size) (le_trans d count)
+
+module _ (pairs : List Pair) (words caller : ℕ) where
+  -- an event behind a log isn't in it
+  not_before : (event : Event) (earlier at : Log) → GoesOn earlier at
+      → ¬ (GoesOn (event ∷ at) earlier)
+  not_before event earlier at a b =
+      let x = goes_on_length a in
+      let y = goes_on_length b in
+      omega arith
+
+  -- where no start was installed, each was in the place of a due row
+  pub none_due : (Q : Event → Type 0) → ((event : Event) → Q event → InstallsNoStart caller event)
+      → (earlier log : Log) → GoesOnBy Q earlier log → InstallsDue pairs words earlier log caller
+  none_due Q none earlier log g at base rows change since until is kind =
+      ⊎_elim (λ e. absurd (not_before (Install caller base rows) earlier at since e))
+      (λ q. absurd (none (Install caller base rows) q refl change is kind))
+      (event_since Q (Install caller base rows) earlier at log g until)
+
+  -- and so it was of two parts of a log, where it was of each
+  pub due_more : (a b c : Log) → GoesOn b c → InstallsDue pairs words a b caller
+      → InstallsDue pairs words b c caller → InstallsDue pairs words a c caller
+  due_more a b c g one two at base rows change since until is kind =
+      ⊎_elim (λ k. one at base rows change since k is kind)
+      (λ k. behind (whole_or_before b (Install caller base rows) at k)) (in_order until g)
+    where
+      behind : (b ≡ Install caller base rows ∷ at) ⊎ GoesOn b at
+          → IsDueAt (state_of pairs words at) change.from
+      behind (inl e) =
+          one at base rows change since
+          (subst (GoesOn (Install caller base rows ∷ at)) (sym e) same_log) is kind
+      behind (inr k) = two at base rows change k until is kind
+
+  -- a start in the place of a row that was due was in that of a due row
+  pub aimed_due : (earlier log : Log) → EachEnabled (start pairs words) log → (target : ℕ)
+      → LaterBy (CallerOf caller) (StartsAt target) earlier log → (row : InnerRow)
+      → (state_of pairs words earlier).pieces target ≡ Some (Inner row) → IsDue row
+      → InstallsDue pairs words earlier log caller
+  aimed_due earlier log enabled target g row e due at base rows change since until is kind =
+      ⊎_elim (λ k. absurd (not_before (Install caller base rows) earlier at since k))
+      (λ q. ⊎_elim (λ other. absurd (other refl)) (λ aims. there (aims change is kind)) q)
+      (event_since (λ event. (whose event ≢ CallerOf caller) ⊎ StartsAt target event)
+      (Install caller base rows) earlier at log g until)
+    where
+      before : EachEnabled (start pairs words) at
+      before =
+          (enabled_before (start pairs words) (Install caller base rows ∷ at) log until enabled).0
+
+      there : change.from ≡ word_of (InnerAt target) → IsDueAt (state_of pairs words at) change.from
+      there word_is =
+          let it = inner_there (state_of pairs words earlier).pieces (state_of pairs words at).pieces
+          (grow_between pairs words earlier at before since) target row e in
+          record {
+            target = target;
+            word_is = word_is;
+            row = it.0;
+            published = it.1;
+            due = still_due row it.0 it.2 due;
+          }
+
+-- ---- by callers
+
+-- steps that install no start of the caller
+unstarted : (P : Event → Type 0) (number : ℕ)
+    → ((event : Event) → P event → InstallsNoStart number event) → (event : Event)
+    → (whose event ≢ CallerOf number) ⊎ P event → InstallsNoStart number event
+unstarted P number none event either =
+    ⊎_elim (others_start_nothing number event) (none event)
+    either
+
+-- an update alone starts nothing
+pub applied_starts : (old mid : Caller) → old.seat.view.who ≡ CallerOf old.number
+    → WentOn Updates old.seat.view mid.seat.view → StartsDue old mid
+applied_starts old mid mine went =
+    let v = old.seat.view in
+    none_due v.start v.words old.number
+    (λ event. (whose event ≢ CallerOf old.number) ⊎ Updates event)
+    (unstarted Updates old.number (updates_start_none old.number)) v.log mid.seat.view.log
+    (subst (λ x. LaterBy x Updates v.log mid.seat.view.log) mine went.later)
+
+-- and the rebuild behind it is of the row that it made due
+pub carried_starts : (old mid new : Caller) (due : Due) → old.seat.view.who ≡ CallerOf old.number
+    → IsCaller mid → mid.number ≡ old.number → WentOn Updates old.seat.view mid.seat.view
+    → HasMadeDue old.seat.view mid.seat.view old.number due.parent due.index due.target
+    → WentOn (StartsAt due.target) mid.seat.view new.seat.view → StartsDue old new
+carried_starts old mid new due mine c number went made aims =
+    let v = old.seat.view in
+    let m = mid.seat.view in
+    let w = new.seat.view in
+    due_more v.start v.words old.number v.log m.log w.log (later_by-goes_on aims.later)
+    (applied_starts old mid mine went)
+    (subst (λ pairs. InstallsDue pairs v.words m.log w.log old.number)
+    (ap (λ (x : View). x.start) went.same)
+    (subst (λ words. InstallsDue m.start words m.log w.log old.number)
+    (ap (λ (x : View). x.words) went.same)
+    (aimed_due m.start m.words old.number m.log w.log
+    (went_lawful (StartsAt due.target) m w aims).enabled due.target
+    (subst (λ x. LaterBy x (StartsAt due.target) m.log w.log) (c.mine ∙ ap CallerOf number)
+    aims.later)
+    made.may.row made.may.published made.due)))
+
+-- ---- by passes
+
+module _ (who began new : Caller) (seat : SeatFace) (command : Command)
+    (it : way.IsWay who began new seat command) (r q : Option Full) where
+  others_none : (event : Event) → whose event ≢ CallerOf who.number
+      → InstallsNoStart who.number event
+  others_none event other = others_start_nothing who.number event other
+
+  -- what the work of a call started the call did
+  pub way_starts : StartsDue began new → StartsOnlyDue (pass_face who r) (face_as seat new.number q)
+  way_starts d =
+      let v = who.seat.view in
+      let b = began.seat.view in
+      let w = new.seat.view in
+      let x = seat.view in
+      due_more v.start v.words who.number v.log w.log x.log (way.w_to_x who began new seat command it)
+      (due_more v.start v.words who.number v.log b.log w.log (way.b_to_w who began new seat command it)
+      (none_due v.start v.words who.number (λ event. whose event ≢ CallerOf who.number) others_none
+      v.log b.log (way.later_b who began new seat command it))
+      (subst (λ n. InstallsDue v.start v.words b.log w.log n) it.began_number
+      (subst (λ pairs. InstallsDue pairs v.words b.log w.log began.number)
+      (way.b_start who began new seat command it)
+      (subst (λ words. InstallsDue b.start words b.log w.log began.number)
+      (way.b_words who began new seat command it) d))))
+      (none_due v.start v.words who.number (λ event. whose event ≢ CallerOf who.number) others_none
+      w.log x.log (way.later_x who began new seat command it))
