@@ -1,7 +1,10 @@
 //! The same lines by each number of workers, on trees of each size.
 
 use crate::running::run_sized;
+use std::alloc::{AllocError, Global};
+use std::sync::Wait;
 use std::test::Fail;
+use std::thread::Threads;
 
 /// Thirty lines over keys that lie apart, in three rounds.
 const LINES: &[u8] = b"P 40 1\nP 7 2\nP 93 3\nG 7\nP 12 4\nP 55 5\nP 3 6\nR 40\nP 71 7\nP 28 8\n\
@@ -26,24 +29,38 @@ const FEW_REPLIES: &[u8] = b"1 -\n2 -\n3 -\n4 3\n5 -\n6 4\n7 -\n8 7\n9 -\n10 4\n
     13 11\n14 8\n15 2\n0 14\n1 13\n16 13\n17 16\n18 -\n19 17\n20 19\n21 -\n22 14\n23 -\n24 20\n\
     25 -\n26 -\n27 26\n28 27\n29 -\n30 1\n3 23\n";
 
-#[test]
-fn neither_workers_nor_words_show_in_the_output(rt: HostRuntime) -> Result<(), Fail> {
-    for (input, output) in [(LINES, REPLIES), (FEW_KEYS, FEW_REPLIES)] {
-        for workers in [1, 2, 3, 64] {
-            for words in 64..401 {
-                let ran = run_sized(&rt, rt.alloc(), workers, words, input)?;
-                assert_eq!(rt;
-                    ran.out.bytes(),
-                    output,
-                    "the text by {workers} workers with {words} words"
-                );
-                assert_eq!(rt;
-                    ran.outcome.status,
-                    0,
-                    "the status by {workers} workers with {words} words"
-                );
-            }
+/// The least number of words, from 64 to 400, with which a run by so many workers writes something
+/// else, or ends otherwise than well.
+fn first_other<R: Threads + Wait + Sync>(
+    rt: &R,
+    alloc: Global,
+    workers: u32,
+    input: &[u8],
+    output: &[u8],
+) -> Result<Option<u32>, AllocError> {
+    for words in 64..401 {
+        let ran = run_sized(rt, alloc, workers, words, input)?;
+        if ran.out.bytes() != output || ran.outcome.status != 0 {
+            return Ok(Some(words));
         }
     }
+    Ok(None)
+}
+
+#[test]
+fn neither_workers_nor_words_show_in_the_output(rt: HostRuntime) -> Result<(), Fail> {
+    for workers in [1, 2, 3] {
+        for (input, output) in [(LINES, REPLIES), (FEW_KEYS, FEW_REPLIES)] {
+            let other = first_other(&rt, rt.alloc(), workers, input, output)?;
+            assert_eq!(rt; other, None, "the words by {workers} workers");
+        }
+    }
+    Ok(())
+}
+
+#[test]
+fn more_workers_than_lines_answer_as_one_map_too(rt: HostRuntime) -> Result<(), Fail> {
+    let other = first_other(&rt, rt.alloc(), 64, LINES, REPLIES)?;
+    assert_eq!(rt; other, None, "the words");
     Ok(())
 }
