@@ -126,6 +126,47 @@ fn gallop_from(
     }
 }
 
+// The child in a row of more than four keys, with the loads of its keys.
+#[inline(always)]
+fn child_among_many(
+    table: &TreeTable,
+    seat: &mut TreeSeat,
+    node: u32,
+    count: u64,
+    key: u64,
+) -> Counted<u64>
+    requires same_table { seat.old.table ≡ table.now.table }
+    requires row { IsRow seat.old.view node }
+    requires count { count ≡ length (keys_at seat.old.view node) }
+    requires fits { count < place_limit }
+    requires many { 4 < count }
+    ensures same_table { seat.new.table ≡ seat.old.table }
+    ensures seen { GoesOnTo seat.old.view seat.new.view }
+    ensures counted { seat.new.view.loaded ≡ seat.old.view.loaded + result.loads }
+    ensures loads { let guess = guess_in (keys_at seat.old.view node) key in
+        result.loads ≤ distance guess result.value + 5 }
+    ensures loads_far { let guess = guess_in (keys_at seat.old.view node) key in
+        (k : ℕ) → distance guess result.value < 2 ^ k → result.loads ≤ 2 * k + 4 }
+    ensures fits { result.loads ≤ 2 * count + 5 }
+    ensures value { result.value ≡ child_count (keys_at seat.old.view node) key }
+    ensures within { result.value ≤ count }
+{
+    know(seat);
+    let ends = end_keys(table, seat, node, count);
+    if key < ends.first {
+        return Counted { value: 0, loads: 2 };
+    }
+    if ends.last <= key {
+        let value = count;
+        return Counted { value, loads: 2 };
+    }
+    let from = guess(ends.first, ends.last, count, key);
+    let child = gallop_from(table, seat, node, count, from, key);
+    let loads = child.loads + 2;
+    let value = child.value;
+    Counted { value, loads }
+}
+
 /// The child of an inner row for the key: the number of its keys that are at most it. With the
 /// loads of its keys.
 #[inline(always)]
@@ -153,26 +194,8 @@ pub(crate) fn child_for(
 {
     if count <= FEW_KEYS {
         let value = count_through(table, seat, node, count, key);
-        return Counted {
-            value,
-            loads: count,
-        };
+        let loads = count;
+        return Counted { value, loads };
     }
-    know(seat);
-    let ends = end_keys(table, seat, node, count);
-    if key < ends.first {
-        return Counted { value: 0, loads: 2 };
-    }
-    if ends.last <= key {
-        return Counted {
-            value: count,
-            loads: 2,
-        };
-    }
-    let from = guess(ends.first, ends.last, count, key);
-    let child = gallop_from(table, seat, node, count, from, key);
-    Counted {
-        value: child.value,
-        loads: child.loads + 2,
-    }
+    child_among_many(table, seat, node, count, key)
 }

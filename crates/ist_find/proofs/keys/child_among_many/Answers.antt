@@ -5,7 +5,7 @@ use Rattle.ist_math.proofs.GuessLemmas.{guess_of-between}
 use Rattle.ist_rule.proofs.GoingOnLemmas.{goes_on_more}
 use Rattle.ist_find.specs.Searches.{keys_at}
 use Rattle.ist_find.proofs.RowLemmas.{row_on, keys_on, keys_rise}
-use Rattle.ist_find.proofs.keys.child_for.Goals as goal
+use Rattle.ist_find.proofs.keys.child_among_many.Goals as goal
 
 -- no key is at most the key, or each is
 pub returns-then-key-ends-clause-value : goal.returns-then-key-ends-clause-value
@@ -39,7 +39,7 @@ gallop_from-child-requires-clause-count c =
 pub gallop_from-child-requires-clause-within : goal.gallop_from-child-requires-clause-within
 gallop_from-child-requires-clause-within c =
     let is = c.guess-from.ensures.value in
-    let many = c.if-count-le-FEW_KEYS.false in
+    let many = c.requires.many in
     let between = guess_of-between c.end_keys-ends.result.first c.end_keys-ends.result.last
     c.args.count c.args.key (omega arith) c.if-key-ends.false c.if-ends-key.false in
     omega (arith, between.1)
