@@ -4,10 +4,8 @@ use Rattle.std.proofs.Math.Nat.{le_trans}
 use Rattle.ist_core.specs.declared.commands.Command.{Command}
 use Rattle.ist_core.specs.declared.events.Event.{Event}
 use Rattle.ist_core.specs.declared.events.Event.TheVariants.{Install}
-use Rattle.ist_core.specs.declared.lists.Row.{Row}
 use Rattle.ist_core.specs.declared.pairs.Pair.{Pair}
 use Rattle.ist_core.specs.declared.ports.Full.{Full}
-use Rattle.ist_core.specs.declared.states.ChangeRow.{ChangeRow}
 use Rattle.ist_core.specs.declared.states.InnerRow.{InnerRow}
 use Rattle.ist_core.specs.Arithmetic.{limit}
 use Rattle.ist_core.specs.Authors.{GoesOnBy}
@@ -18,8 +16,6 @@ use Rattle.ist_core.specs.Pieces.{Inner}
 use Rattle.ist_core.specs.Rebuilding.{IsDue}
 use Rattle.ist_core.specs.References.{InnerAt, word_of}
 use Rattle.ist_core.specs.StartLayout.{start}
-use Rattle.ist_core.specs.Statuses.{start_kind}
-use Rattle.ist_core.specs.Writing.{first_change}
 use Rattle.ist_core.proofs.FateLemmas.{enabled_before, grow_between}
 use Rattle.ist_core.proofs.GrowingLemmas.{inner_there}
 use Rattle.ist_settling.specs.Settling.{InstallsNoStart}
