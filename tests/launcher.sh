@@ -22,7 +22,7 @@ if grep -qs broken src/*; then
     exit 1
 fi
 case $1 in
-check)
+lib)
     if [ "$name" = "${STUB_KILLS:-}" ] && [ ! -e out/killed ]; then mkdir -p out; touch out/killed; exit 137; fi
     echo "checked $name::first, 1 of 2"
     if [ ! -e out/incremental/first ]; then
@@ -39,8 +39,6 @@ check)
         done
     fi
     echo "checked $name::second, 2 of 2"
-    ;;
-lib)
     mkdir -p "out/rlib/$name.rlib"
     cat src/* | sha256sum >out/rlib/stamp
     cp out/rlib/stamp "out/rlib/$name.rlib/format"
@@ -118,7 +116,7 @@ expect "what the program doesn't stand on isn't built" "$(calls aside)" 0
 run a 'b c'
 expect "words are handed on" "$out" "${answer/words:/words:a b c}"
 expect "nothing is said where the program is built" "$err" ""
-expect "nothing is called then" "$(calls check-begins)" 3
+expect "nothing is called then" "$(calls lib-begins)" 3
 export PROGRAM_STATUS=3
 run
 expect "the status is the program's" "$status" 3
@@ -130,14 +128,14 @@ echo '# a comment' >>"$top/crates.txt"
 touch "$top/crates/low/src/lib.rt"
 mkdir -p "$top/crates/low/out"
 run
-expect "a README, another crate, a comment and a touched file build nothing" "$err$(calls begins)" "7"
+expect "a README, another crate, a comment and a touched file build nothing" "$err$(calls begins)" "4"
 : >"$STUB_LOG"
 echo left-2 >"$top/crates/left/src/lib.rt"
 touch -d '2001-01-01' "$top/crates/left/src/lib.rt"
 run
 has "a file that changed, older than the program, is seen" "$out" "left-2"
 expect "what doesn't stand on it is left as it is" "$(grep begins "$STUB_LOG" | tr '\n' ' ')" \
-    "check-begins left lib-begins left run-begins tele "
+    "lib-begins left run-begins tele "
 echo extra >"$top/crates/low/src/more.rt"
 run
 has "a new file is seen" "$out" "low-1 extra"
@@ -147,11 +145,11 @@ expect "a file that went is seen" "$out" "${answer/left-1/left-2}"
 sed -i 's/may_wait=2/may_wait=3/' "$top/crates.txt"
 : >"$STUB_LOG"
 run
-expect "a crate's line of crates.txt is seen" "$(calls check-begins)" 1
+expect "a crate's line of crates.txt is seen" "$(calls lib-begins)" 1
 echo two >"$dir/kit/KIT-ID"
 : >"$STUB_LOG"
 run
-expect "another kit builds all anew" "$(calls check-begins)" 3
+expect "another kit builds all anew" "$(calls lib-begins)" 3
 TELE_RT=$dir/none run
 expect "a built program runs without the kit" "$err$out" "${answer/left-1/left-2}"
 run
@@ -183,7 +181,7 @@ run
 wait
 has "a second call waits and says so" "$err" "waiting"
 expect "both answer" "$(cat "$dir/first")$out" "$answer$answer"
-expect "one of them builds" "$(calls check-begins)" 3
+expect "one of them builds" "$(calls lib-begins)" 3
 
 fresh
 mkdir -p "$dir/elsewhere/crates/tele"
@@ -211,7 +209,7 @@ expect "in a few lines" "$(($(grep -n failed "$dir/err" | cut -d: -f1) + 4 > $(w
 : >"$STUB_LOG"
 echo right-2 >"$top/crates/right/src/lib.rt"
 run
-expect "mended, it goes on where it was" "$out$(calls 'check-begins low')" "${answer}0"
+expect "mended, it goes on where it was" "$out$(calls 'lib-begins low')" "${answer}0"
 echo broken >"$top/crates/left/src/lib.rt"
 run
 expect "where it can't be built anew, the program of before isn't run" "$out$status" 125
@@ -226,11 +224,11 @@ expect "an interrupted build has the status of its signal" "$?" 143
 has "it says that it stopped" "$(cat "$dir/err")" "stopped"
 : >"$STUB_LOG"
 run
-expect "the next call goes on from there" "$out$(calls 'check-begins low')$(calls 'first left')" "${answer}00"
+expect "the next call goes on from there" "$out$(calls 'lib-begins low')$(calls 'first left')" "${answer}00"
 
 fresh
 STUB_KILLS=left run
-expect "a check that is killed is tried once more, alone" "$out$(calls 'check-begins left')" "${answer}2"
+expect "a check that is killed is tried once more, alone" "$out$(calls 'lib-begins left')" "${answer}2"
 
 fresh
 run

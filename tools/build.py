@@ -293,8 +293,9 @@ class Proof(threading.Thread):
         jobs = ["--jobs", str(self.jobs)] if self.jobs else []
         if self.name_of == self.room.source.program:
             return [["run", *jobs]]
-        # A check says how far it is, and a library is built over what it keeps.
-        return [["check", *jobs], ["lib", *jobs]]
+        # Before each command `rt` sums up all files below once for each way through crates.txt, which takes minutes for the top
+        # crates: so there is one command a crate, which proves it, says how far it is and builds its library.
+        return [["lib", *jobs]]
 
     def run(self):
         try:
