@@ -10,6 +10,7 @@ pub mod BuildingLemmas
 pub mod SlotLemmas
 pub mod ReadLemmas
 pub mod ReadingLemmas
+pub mod DescentLemmas
 pub mod UnderLemmas
 pub mod ShareLemmas
 pub mod RootLemmas

@@ -1,5 +1,5 @@
 //! What callers of this crate call, in references.
-ghost use Rattle.std.specs.Prelude.{◌≡◌, ◌≢◌, ◌+◌, ◌≤◌, ℕ, List, [], take, drop, None, Some, IfOk, IfErr};
+ghost use Rattle.std.specs.Prelude.{◌≡◌, ◌≢◌, ◌+◌, ◌≤◌, ◌^◌, ℕ, List, [], take, drop, None, Some, IfOk, IfErr};
 ghost use Rattle.ist_core.specs.Leaves.{PlacedLeaf, HasLeaves};
 ghost use Rattle.ist_core.specs.References.{InnerAt, IsGoodRef, ref_of};
 ghost use Rattle.ist_core.specs.Shapes.{shape};
@@ -12,8 +12,9 @@ ghost use Rattle.ist_rows.specs.Building.{HasRefused, IsInBuild, sizes_built};
 ghost use Rattle.ist_build.specs.Calls.{HasKeys, MayBuild, IsBuildable, IsLeafOf, IsPartLaid};
 ghost use Rattle.ist_build.specs.Calls.{Builds, HasRootAs, IsRooted, IsBuiltOut, IsOutOfWords, RebuildIsShort};
 
+use crate::descent::leaf_base;
 use crate::filling::fill_root;
-use crate::parts::{build_share, leaf_base};
+use crate::parts::build_share;
 use crate::root::place_root;
 use ist_core::Full;
 use ist_layout::Ref;
@@ -47,10 +48,29 @@ pub fn leaf_at(table: &TreeTable, seat: &mut TreeSeat, target: u32, i: u64) -> R
         → IsLeafOf leaves i (ref_meant result) }
     ensures good { IsGoodRef (ref_meant result) }
 {
+    leaf_and_loads(table, seat, target, i).0
+}
+
+/// The same leaf, and how many words were loaded on the way to it.
+///
+/// A row on the way costs one load, and for each slot up to the one that is gone on from at most
+/// four: its word, what a change in it would take out, the target of a rebuild, and a finished count.
+pub fn leaf_and_loads(table: &TreeTable, seat: &mut TreeSeat, target: u32, i: u64) -> (Ref, u64)
+    requires same_table { seat.old.table ≡ table.now.table }
+    requires finished { HasKeys (now seat.old.view) target (i + 1) }
+    ensures same_table { seat.new.table ≡ seat.old.table }
+    ensures seen { GoesOnTo seat.old.view seat.new.view }
+    ensures leaf { (leaves : List PlacedLeaf)
+        → HasLeaves (now seat.old.view).pieces (Some (InnerAt target)) leaves
+        → IsLeafOf leaves i (ref_meant result.0) }
+    ensures good { IsGoodRef (ref_meant result.0) }
+    ensures counted { seat.new.view.loaded ≡ seat.old.view.loaded + result.1 }
+    ensures fits { result.1 ≤ 2 ^ 59 }
+{
     know(seat);
-    let base = leaf_base(table, seat, target, i);
+    let reached = leaf_base(table, seat, target, i);
     know(seat);
-    Ref::Leaf { base }
+    (Ref::Leaf { base: reached.base }, reached.loads)
 }
 
 /// The ideal subtree over the leaves number `start` to `start + len - 1` of a finished target: Empty

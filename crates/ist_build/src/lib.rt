@@ -8,10 +8,11 @@
 mod below;
 mod building;
 mod calls;
+mod descent;
 mod filling;
 mod parts;
 mod reading;
 mod root;
 mod top;
 
-pub use calls::{build_part, fill_parts, leaf_at, set_root};
+pub use calls::{build_part, fill_parts, leaf_and_loads, leaf_at, set_root};

@@ -25,28 +25,6 @@ const FEW: usize = 256;
 // No part is longer than this.
 const MANY: usize = 16388;
 
-/// The leaf of the key number `i` of a finished target, counted from 0.
-pub(crate) fn leaf_base(table: &TreeTable, seat: &mut TreeSeat, target: u32, i: u64) -> u32
-    requires same_table { seat.old.table ≡ table.now.table }
-    requires finished { HasKeys (now seat.old.view) target (i + 1) }
-    ensures same_table { seat.new.table ≡ seat.old.table }
-    ensures seen { GoesOnTo seat.old.view seat.new.view }
-    ensures leaf { (leaves : List PlacedLeaf)
-        → HasLeaves (now seat.old.view).pieces (Some (InnerAt target)) leaves
-        → map (λ leaf. leaf.base) (take 1 (drop i leaves)) ≡ result ∷ [] }
-{
-    know(seat);
-    let mut leaves = [0; 1];
-    read_leaves(
-        table,
-        seat,
-        target,
-        &mut leaves,
-        Cursor { skip: i, count: 0 },
-    );
-    leaves[0]
-}
-
 // Builds over as many leaves as there is room for, from number `start` on.
 fn build_read<R: Wait>(
     table: &TreeTable,

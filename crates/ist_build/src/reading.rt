@@ -1,5 +1,5 @@
 //! Reading the leaves of a finished target, in the order of their keys.
-ghost use Rattle.std.specs.Prelude.{◌≡◌, ◌<◌, ◌≤◌, ℕ, None, Some, List, [], ◌∷◌, length};
+ghost use Rattle.std.specs.Prelude.{◌≡◌, ◌+◌, ◌<◌, ◌≤◌, ℕ, None, Some, List, [], ◌∷◌, length};
 ghost use Rattle.ist_core.specs.Leaves.{PlacedLeaf, HasLeaves};
 ghost use Rattle.ist_core.specs.Marking.{HasTarget, IsFrozen};
 ghost use Rattle.ist_core.specs.Rebuilding.{IsFinishedWith};
@@ -35,21 +35,31 @@ fn change_in(word: u64) -> Option<u32>
     }
 }
 
-// The word with which the slot was passed. Where a change stands in the slot, it came too late, and
-// would take this word out.
-fn passed_word(table: &TreeTable, seat: &mut TreeSeat, node: u32, degree: u64, index: u64) -> u64
+// The word with which the slot was passed, and how many loads it took. Where a change stands in the
+// slot, it came too late, and would take this word out. It is put where it is called, so that loads
+// which no one asks for aren't counted.
+#[inline(always)]
+fn passed_word(
+    table: &TreeTable,
+    seat: &mut TreeSeat,
+    node: u32,
+    degree: u64,
+    index: u64,
+) -> (u64, u64)
     requires same_table { seat.old.table ≡ table.now.table }
     requires slots { HasSlots seat.old.view node degree }
     requires within { index < degree }
     ensures same_table { seat.new.table ≡ seat.old.table }
     ensures seen { GoesOnTo seat.old.view seat.new.view }
-    ensures frozen { IsFrozen seat.new.view.log node index result }
+    ensures frozen { IsFrozen seat.new.view.log node index result.0 }
+    ensures counted { seat.new.view.loaded ≡ seat.old.view.loaded + result.1 }
+    ensures few { result.1 ≤ 2 }
 {
     know(seat);
     let word = load(table, seat, slot_place(node, degree, index));
     match change_in(word) {
-        Some(change) => load(table, seat, u64::from(change) + CHANGE_FROM_OFFSET),
-        None => word,
+        Some(change) => (load(table, seat, u64::from(change) + CHANGE_FROM_OFFSET), 2),
+        None => (word, 1),
     }
 }
 
@@ -60,6 +70,7 @@ pub(crate) fn keys_of(table: &TreeTable, seat: &mut TreeSeat, node: u32) -> u64
     ensures same_table { seat.new.table ≡ seat.old.table }
     ensures seen { GoesOnTo seat.old.view seat.new.view }
     ensures finished { IsFinishedWith (now seat.new.view) node result }
+    ensures counted { seat.new.view.loaded ≡ seat.old.view.loaded + 1 }
 {
     know(seat);
     // A finished status is 4 * keys + 3.
@@ -73,33 +84,44 @@ pub(crate) fn target_of(table: &TreeTable, seat: &mut TreeSeat, rebuild: u32) ->
     ensures same_table { seat.new.table ≡ seat.old.table }
     ensures seen { GoesOnTo seat.old.view seat.new.view }
     ensures target { HasTarget (now seat.new.view) rebuild result }
+    ensures counted { seat.new.view.loaded ≡ seat.old.view.loaded + 1 }
 {
     know(seat);
     load(table, seat, u64::from(rebuild) + REBUILD_TARGET_OFFSET) as u32
 }
 
-// What hangs below a slot of the finished node.
-fn look_below(table: &TreeTable, seat: &mut TreeSeat, node: u32, degree: u64, index: u64) -> Below
+// What hangs below a slot of the finished node, and how many loads it took to tell, as for
+// `passed_word`.
+#[inline(always)]
+pub(crate) fn look_below(
+    table: &TreeTable,
+    seat: &mut TreeSeat,
+    node: u32,
+    degree: u64,
+    index: u64,
+) -> (Below, u64)
     requires same_table { seat.old.table ≡ table.now.table }
     requires slots { HasSlots seat.old.view node degree }
     requires within { index < degree }
     ensures same_table { seat.new.table ≡ seat.old.table }
     ensures seen { GoesOnTo seat.old.view seat.new.view }
-    ensures under { IsUnder seat.new.view node index result }
+    ensures under { IsUnder seat.new.view node index result.0 }
+    ensures counted { seat.new.view.loaded ≡ seat.old.view.loaded + result.1 }
+    ensures few { result.1 ≤ 4 }
 {
-    let word = passed_word(table, seat, node, degree, index);
+    let passed = passed_word(table, seat, node, degree, index);
     know(seat);
-    match Ref::from_word(word) {
-        Some(Ref::Empty) => Below::Nothing,
-        Some(Ref::Leaf { base }) => Below::Leaf { base },
+    match Ref::from_word(passed.0) {
+        Some(Ref::Empty) => (Below::Nothing, passed.1),
+        Some(Ref::Leaf { base }) => (Below::Leaf { base }, passed.1),
         Some(Ref::Inner { base }) => {
             let keys = keys_of(table, seat, base);
-            Below::Row { base, keys }
+            (Below::Row { base, keys }, passed.1 + 1)
         }
         Some(Ref::Rebuild { base }) => {
             let target = target_of(table, seat, base);
             let keys = keys_of(table, seat, target);
-            Below::Row { base: target, keys }
+            (Below::Row { base: target, keys }, passed.1 + 2)
         }
         Some(Ref::Unset) => unreachable!(),
         Some(Ref::Change { base: _ }) => unreachable!(),
@@ -131,12 +153,13 @@ fn take_leaf(base: u32, into: &mut [u32], at: Cursor) -> Cursor
 }
 
 // How many slots the finished node has.
-fn degree_of(table: &TreeTable, seat: &mut TreeSeat, node: u32) -> u64
+pub(crate) fn degree_of(table: &TreeTable, seat: &mut TreeSeat, node: u32) -> u64
     requires same_table { seat.old.table ≡ table.now.table }
     requires finished { IsFinished (now seat.old.view) node }
     ensures same_table { seat.new.table ≡ seat.old.table }
     ensures seen { GoesOnTo seat.old.view seat.new.view }
     ensures slots { HasSlots seat.new.view node result }
+    ensures counted { seat.new.view.loaded ≡ seat.old.view.loaded + 1 }
 {
     know(seat);
     load(table, seat, u64::from(node) + INNER_DEGREE_OFFSET)
@@ -166,7 +189,7 @@ fn read_slot(
         → HasRead into.old at leaves into.new result }
 {
     know(seat);
-    match look_below(table, seat, node, degree, index) {
+    match look_below(table, seat, node, degree, index).0 {
         Below::Nothing => at,
         Below::Leaf { base } => take_leaf(base, into, at),
         Below::Row { base, keys } => {

@@ -16,7 +16,8 @@ ghost use Rattle.ist_build.specs.Calls.{IsTold, IsBuildable};
 ghost use Rattle.ist_build.specs.Putting.{PutOn, HasRoot, IsStopped};
 ghost use Rattle.ist_mark.specs.Passing.{IsRebuildRow};
 
-use crate::parts::{build_share, leaf_base};
+use crate::descent::leaf_base;
+use crate::parts::build_share;
 use crate::reading::{keys_of, target_of};
 use crate::top::build_top;
 use ist_core::Full;
@@ -127,7 +128,7 @@ fn small_root(table: &TreeTable, seat: &mut TreeSeat, target: u32, keys: u64) ->
     if keys == 0 {
         return Ref::Empty.to_word();
     }
-    let base = leaf_base(table, seat, target, 0);
+    let base = leaf_base(table, seat, target, 0).base;
     Ref::Leaf { base }.to_word()
 }
 

@@ -13,7 +13,7 @@ ghost use Rattle.ist_build.specs.Calls.{HasKeys};
 ghost use Rattle.ist_build.specs.Laying.{BuiltOn, IsTopLaid, IsTarget, IsShort};
 
 use crate::building::{key_of, open_row, set_part};
-use crate::parts::leaf_base;
+use crate::descent::leaf_base;
 use ist_core::Full;
 use ist_layout::Ref;
 use ist_math::{degree, part};
@@ -33,7 +33,7 @@ fn key_at(table: &TreeTable, seat: &mut TreeSeat, target: u32, i: u64) -> u64
         → result ≡ leaf.row.key }
 {
     know(seat);
-    let leaf = leaf_base(table, seat, target, i);
+    let leaf = leaf_base(table, seat, target, i).base;
     key_of(table, seat, leaf)
 }
 

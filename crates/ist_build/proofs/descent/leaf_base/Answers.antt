@@ -1,11 +1,10 @@
-use Rattle.std.proofs.Common.{refl}
-use Rattle.ist_build.proofs.ShareLemmas.{read_whole, enough_leaves, one_word}
-use Rattle.ist_build.proofs.parts.leaf_base.Goals as goal
+use Rattle.std.proofs.Common.{refl, sym}
+use Rattle.ist_build.proofs.ShareLemmas.{read_whole, enough_leaves}
+use Rattle.ist_build.proofs.descent.leaf_base.Goals as goal
 
 pub returns-clause-leaf : goal.returns-clause-leaf
 returns-clause-leaf c =
     λ leaves has.
-    let read = c.read_leaves.ensures.read leaves has in
-    one_word c.read_leaves.new.into _ read.size
-    (read_whole _ c.read_leaves.new.into _ _ leaves refl
-    (enough_leaves _ c.know.ensures.sound c.args.target _ c.requires.finished leaves has) read)
+    sym (read_whole _ _ _ _ leaves refl
+    (enough_leaves _ c.know.ensures.sound c.args.target _ c.requires.finished leaves has)
+    (c.go_down.ensures.read leaves has))

@@ -1,0 +1,138 @@
+-- The way down to one leaf of a finished node. Serves `descent`.
+use Rattle.std.proofs.Common.{◌≡◌, ℕ, ◌+◌, ◌*◌, ◌-◌, ◌^◌, ◌<◌, ◌≤◌, List, [], ◌∷◌, length, map, drop, Some, refl, sym, ap, ◌∙◌, subst, arith}
+use Rattle.std.proofs.lemmas.List.{length-take-le, length-drop, length-map}
+use Rattle.ist_core.specs.Leaves.{PlacedLeaf, HasLeaves}
+use Rattle.ist_core.specs.RowLayout.{place_limit}
+use Rattle.ist_core.specs.References.{Ref, Empty, LeafAt, InnerAt}
+use Rattle.ist_rule.specs.declared.view.View.{View}
+use Rattle.ist_rule.specs.Rule.{IsSound}
+use Rattle.ist_rule.specs.Learning.{now, GoesOnTo}
+use Rattle.ist_build.specs.declared.below.Below.{Below}
+use Rattle.ist_build.specs.declared.below.Below.TheVariants.{Nothing, Leaf, Row}
+use Rattle.ist_build.specs.Calls.{HasKeys}
+use Rattle.ist_build.specs.Reading.{HasSlots, HasRead, HasReadOne, IsReading, IsUnder, SlotReads, before_one, behind_one}
+use Rattle.ist_build.proofs.ReadLemmas.{read_is, read_left_out, one_left_out, one_taken}
+use Rattle.ist_build.proofs.ReadingLemmas.{reading_more, reading_full, reading_last, under_leaves, leaves_number, nothing_read, leaf_read}
+use Rattle.ist_build.proofs.ShareLemmas.{some_leaves}
+use Rattle.ist_build.proofs.SlotLemmas.{few_slots}
+
+-- ---- few words are loaded
+
+-- in a row
+pub few_loads : (v : View) → IsSound v → (node degree i loads more : ℕ) → HasSlots v node degree
+    → i < degree → loads ≤ 4 * i + 1 → more ≤ 4 → loads + more ≤ (place_limit - node) * 2 ^ 31
+few_loads v s node degree i loads more h less few two =
+    let it = few_slots v s node degree h in
+    let few_slots = it.0 in
+    let low = it.1 in
+    let words = s.lawful.opens.within in
+    omega arith
+
+-- in a row and what is below it
+pub few_below : (v : View) → IsSound v → (node degree i loads more base below : ℕ)
+    → HasSlots v node degree → i < degree → loads ≤ 4 * i + 1 → more ≤ 4 → node < base
+    → below ≤ (place_limit - base) * 2 ^ 31 → loads + more + below ≤ (place_limit - node) * 2 ^ 31
+few_below v s node degree i loads more base below h less few two rise rest =
+    let it = few_slots v s node degree h in
+    let few_slots = it.0 in
+    let low = it.1 in
+    let words = s.lawful.opens.within in
+    omega arith
+
+-- ---- the leaf is found
+
+-- behind all slots it would have been
+pub not_behind : (leaves : List PlacedLeaf) (i skip : ℕ) → i < length leaves
+    → HasRead (0 ∷ []) (before_one i) leaves (0 ∷ []) (before_one skip) → ⊥
+not_behind leaves i skip enough h =
+    let is = read_is 1 leaves i [] (omega arith) in
+    let rest = length-drop i leaves in
+    let many = length-map (drop i leaves) (λ (leaf : PlacedLeaf). leaf.base) in
+    let full = length-take-le 1 (map (λ (leaf : PlacedLeaf). leaf.base) (drop i leaves)) (omega arith) in
+    let same = ap length (h.got ∙ is) in
+    omega arith
+
+-- what is left to skip behind what hangs below a slot
+abbrev pub LeavesOut : ℕ → Below → ℕ → Type 0
+LeavesOut skip Nothing to = to ≡ skip
+LeavesOut skip (Leaf base) to = (0 < skip) × (to ≡ skip - 1)
+LeavesOut skip (Row base keys) to = (keys ≤ skip) × (to ≡ skip - keys)
+
+pub past_nothing : {skip to : ℕ} {below : Below} → below ≡ Nothing → to ≡ skip → LeavesOut skip below to
+past_nothing {skip} {to} is e = subst (λ b. LeavesOut skip b to) (sym is) e
+
+pub past_leaf : {skip to : ℕ} {below : Below} (base : ℕ) → below ≡ Leaf base → 0 < skip
+    → to ≡ skip - 1 → LeavesOut skip below to
+past_leaf {skip} {to} base is some e = subst (λ b. LeavesOut skip b to) (sym is) (some, e)
+
+pub past_row : {skip to : ℕ} {below : Below} (base keys : ℕ) → below ≡ Row base keys → keys ≤ skip
+    → to ≡ skip - keys → LeavesOut skip below to
+past_row {skip} {to} base keys is out e = subst (λ b. LeavesOut skip b to) (sym is) (out, e)
+
+module _ (leaves : List PlacedLeaf) (v w : View) (node degree j : ℕ) (s : IsSound v)
+    (g : GoesOnTo v w) (h : HasSlots v node degree) (less : j < degree) (i skip : ℕ)
+    (r : IsReading leaves (0 ∷ []) (before_one i) v node j (0 ∷ []) (before_one skip)) where
+  -- it is this leaf
+  pub at_leaf : (base : ℕ) → IsUnder w node j (Leaf base) → skip ≡ 0 → HasReadOne i leaves base
+  at_leaf base under none =
+      reading_full leaves (0 ∷ []) (before_one i) w node (j + 1) (base ∷ []) behind_one
+      (reading_more leaves (0 ∷ []) (before_one i) v w node degree j (0 ∷ []) (before_one skip)
+      (base ∷ []) behind_one s g h less r
+      (λ word here slot has. leaf_read w (0 ∷ []) (base ∷ []) (before_one skip) behind_one base here
+      (λ leaf e. subst (λ b. HasRead (0 ∷ []) (before_one skip) (leaf ∷ []) (b ∷ []) behind_one) e
+      (one_taken (0 ∷ []) (before_one skip) behind_one leaf (omega arith) (omega arith) refl refl))
+      (under_leaves v w s g node degree j h less (LeafAt base) under word here slot has)))
+      refl
+
+  -- it is below this row
+  pub below_row : (base keys found : ℕ) → IsUnder w node j (Row base keys)
+      → ((here : List PlacedLeaf) → HasLeaves (now w).pieces (Some (InnerAt base)) here
+      → HasReadOne skip here found)
+      → HasReadOne i leaves found
+  below_row base keys found under told =
+      reading_full leaves (0 ∷ []) (before_one i) w node (j + 1) (found ∷ []) behind_one
+      (reading_more leaves (0 ∷ []) (before_one i) v w node degree j (0 ∷ []) (before_one skip)
+      (found ∷ []) behind_one s g h less r
+      (λ word here slot has. told here
+      (under_leaves v w s g node degree j h less (InnerAt base) under.0 word here slot has)))
+      refl
+
+  -- what hangs below the slot is left out
+  pub past : (less_to_skip : ℕ) (below : Below) → IsUnder w node j below → LeavesOut skip below less_to_skip
+      → IsReading leaves (0 ∷ []) (before_one i) w node (j + 1) (0 ∷ []) (before_one less_to_skip)
+  past to below under out =
+      reading_more leaves (0 ∷ []) (before_one i) v w node degree j (0 ∷ []) (before_one skip)
+      (0 ∷ []) (before_one to) s g h less r
+      (λ word here slot has. one_slot below out under
+      (λ ref reads. under_leaves v w s g node degree j h less ref reads word here slot has))
+    where
+      one_slot : (below : Below) → LeavesOut skip below to → IsUnder w node j below
+          → {here : List PlacedLeaf}
+          → ((ref : Ref) → SlotReads (now w) node j ref → HasLeaves (now w).pieces (Some ref) here)
+          → HasRead (0 ∷ []) (before_one skip) here (0 ∷ []) (before_one to)
+      one_slot Nothing out under {here} has =
+          subst (λ n. HasRead (0 ∷ []) (before_one skip) here (0 ∷ []) (before_one n)) (sym out)
+          (nothing_read w (0 ∷ []) (before_one skip) here (omega arith) (has Empty under))
+      one_slot (Leaf base) out under {here} has =
+          leaf_read w (0 ∷ []) (0 ∷ []) (before_one skip) (before_one to) base here
+          (λ leaf e. one_left_out (0 ∷ []) (before_one skip) (before_one to) leaf (omega arith) out.0
+          refl out.1)
+          (has (LeafAt base) under)
+      one_slot (Row base keys) out under {here} has =
+          let many = leaves_number w g.sound base keys under.2 here (has (InnerAt base) under.0) in
+          let few = out.0 in
+          read_left_out (0 ∷ []) (before_one skip) (before_one to) here (omega arith) (omega arith) refl
+          (out.1 ∙ ap (λ n. skip - n) (sym many))
+
+-- the slots don't end before it
+pub not_past : (u v : View) → IsSound u → IsSound v → (node degree j i skip : ℕ) → HasSlots v node degree
+    → degree ≤ j → HasKeys (now u) node (i + 1)
+    → ((leaves : List PlacedLeaf) → HasLeaves (now u).pieces (Some (InnerAt node)) leaves
+    → IsReading leaves (0 ∷ []) (before_one i) v node j (0 ∷ []) (before_one skip))
+    → ⊥
+not_past u v s t node degree j i skip h all keys told =
+    let it = some_leaves u s node (i + 1) keys in
+    let enough = it.2 in
+    not_behind it.0 i skip (omega arith)
+    (reading_last it.0 (0 ∷ []) (before_one i) v node degree j (0 ∷ []) (before_one skip) t h all
+    (told it.0 it.1))

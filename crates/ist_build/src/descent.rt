@@ -1,0 +1,78 @@
+//! The way down to one leaf of a finished target.
+ghost use Rattle.std.specs.Prelude.{◌≡◌, ◌+◌, ◌*◌, ◌-◌, ◌^◌, ◌≤◌, List, [], ◌∷◌, map, take, drop, Some};
+ghost use Rattle.ist_core.specs.Leaves.{PlacedLeaf, HasLeaves};
+ghost use Rattle.ist_core.specs.References.{InnerAt};
+ghost use Rattle.ist_core.specs.RowLayout.{place_limit};
+ghost use Rattle.ist_rule.specs.Learning.{now, GoesOnTo};
+ghost use Rattle.ist_build.specs.Calls.{HasKeys};
+ghost use Rattle.ist_build.specs.Reading.{HasReadOne};
+
+use crate::below::Below;
+use crate::reading::{degree_of, look_below};
+use ist_rule::{TreeSeat, TreeTable, know};
+
+// A leaf, and how many words were loaded on the way to it.
+#[derive(Clone, Copy, Drop)]
+pub(crate) struct Reached {
+    pub(crate) base: u32,
+    pub(crate) loads: u64,
+}
+
+// Goes down to the leaf number `i` below a finished node: leaves out what lies before it by the
+// finished counts, and enters one child a row.
+fn go_down(table: &TreeTable, seat: &mut TreeSeat, node: u32, i: u64) -> Reached
+    requires same_table { seat.old.table ≡ table.now.table }
+    requires finished { HasKeys (now seat.old.view) node (i + 1) }
+    ensures same_table { seat.new.table ≡ seat.old.table }
+    ensures seen { GoesOnTo seat.old.view seat.new.view }
+    ensures read { (leaves : List PlacedLeaf)
+        → HasLeaves (now seat.old.view).pieces (Some (InnerAt node)) leaves
+        → HasReadOne i leaves result.base }
+    ensures counted { seat.new.view.loaded ≡ seat.old.view.loaded + result.loads }
+    ensures fits { result.loads ≤ (place_limit - node) * 2 ^ 31 }
+{
+    know(seat);
+    let degree = degree_of(table, seat, node);
+    let mut skip = i;
+    let mut loads = 1;
+    for index in 0..degree {
+        let below = look_below(table, seat, node, degree, index);
+        loads += below.1;
+        match below.0 {
+            Below::Nothing => {}
+            Below::Leaf { base } => {
+                if skip == 0 {
+                    return Reached { base, loads };
+                }
+                skip -= 1;
+            }
+            Below::Row { base, keys } => {
+                if skip < keys {
+                    let reached = go_down(table, seat, base, skip);
+                    return Reached {
+                        base: reached.base,
+                        loads: loads + reached.loads,
+                    };
+                }
+                skip -= keys;
+            }
+        }
+    }
+    unreachable!()
+}
+
+/// The leaf of the key number `i` of a finished target, counted from 0, and how many loads it took.
+pub(crate) fn leaf_base(table: &TreeTable, seat: &mut TreeSeat, target: u32, i: u64) -> Reached
+    requires same_table { seat.old.table ≡ table.now.table }
+    requires finished { HasKeys (now seat.old.view) target (i + 1) }
+    ensures same_table { seat.new.table ≡ seat.old.table }
+    ensures seen { GoesOnTo seat.old.view seat.new.view }
+    ensures leaf { (leaves : List PlacedLeaf)
+        → HasLeaves (now seat.old.view).pieces (Some (InnerAt target)) leaves
+        → map (λ leaf. leaf.base) (take 1 (drop i leaves)) ≡ result.base ∷ [] }
+    ensures counted { seat.new.view.loaded ≡ seat.old.view.loaded + result.loads }
+    ensures fits { result.loads ≤ 2 ^ 59 }
+{
+    know(seat);
+    go_down(table, seat, target, i)
+}
