@@ -1,1 +1,3 @@
 pub mod AbleLemmas
+pub mod LateLemmas
+pub mod UpdateLemmas

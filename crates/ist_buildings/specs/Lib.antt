@@ -1,2 +1,3 @@
 -- what the contracts rest on
 pub mod Steps
+pub mod Late

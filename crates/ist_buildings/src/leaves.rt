@@ -6,9 +6,9 @@ ghost use Rattle.ist_rebuild.specs.Finishing.{IsAble};
 ghost use Rattle.ist_rule.specs.Learning.{now};
 
 use crate::callers::{Marked, begin, enter_call, mark, see_row};
-use crate::tables::{Opened, all_words, are_alike, open_numbered, word_at};
+use crate::tables::{Opened, all_words, are_alike, numbered, open_numbered, word_at};
 use ist_build::{build_part, leaf_at};
-use ist_core::Full;
+use ist_core::{Full, Pair};
 use ist_layout::Ref;
 use ist_math::SHARE_FROM;
 use ist_math::laws::shared_roots_have_several_keys;
@@ -43,13 +43,14 @@ fn leaf_base(table: &TreeTable, who: &mut Caller, rebuild: u32, marked: Marked, 
     base_of(leaf)
 }
 
-// Does each leaf have its number as key and value, counted from 1?
-fn are_numbered(
+/// Are the leaves of the finished target these pairs, in this order, and no more?
+pub(crate) fn are_pairs(
     table: &TreeTable,
     maker: &mut TreeSeat,
     who: &mut Caller,
     rebuild: u32,
     marked: Marked,
+    pairs: &[Pair],
 ) -> bool
     requires maker_table { maker.old.table ≡ table.now.table }
     requires same_table { who.old.seat.table ≡ table.now.table }
@@ -60,17 +61,18 @@ fn are_numbered(
     ensures able { IsAble who.new }
     ensures marked { IsMarked (now who.new.seat.view) rebuild marked.target marked.keys }
 {
-    let mut right = true;
+    let mut right = pairs.len() as u64 == marked.keys;
     for i in 0..marked.keys {
         let base = u64::from(leaf_base(table, who, rebuild, marked, i));
-        right = right && word_at(table, maker, base) == i + 1;
-        right = right && word_at(table, maker, base + 1) == i + 1;
+        let key = word_at(table, maker, base);
+        let value = word_at(table, maker, base + 1);
+        right = right && pairs.get(i as usize) == Some(&Pair { key, value });
     }
     right
 }
 
-// The ideal subtree over all leaves of the finished target, in rows that stay the caller's.
-fn part<R: Wait>(
+/// The ideal subtree over all leaves of the finished target, in rows that stay the caller's.
+pub(crate) fn part<R: Wait>(
     table: &TreeTable,
     rt: &R,
     who: &mut Caller,
@@ -86,8 +88,8 @@ fn part<R: Wait>(
     build_part(table, rt, who, marked.target, 0, marked.keys)
 }
 
-// Are so few keys built whole?
-fn are_few(keys: u64) -> bool
+/// Are so few keys built whole?
+pub(crate) fn are_few(keys: u64) -> bool
     ensures few { IsTrue result → keys < share_from }
 {
     shared_roots_have_several_keys();
@@ -115,7 +117,9 @@ fn agree_in<R: Wait>(rt: &R, alloc: Global, last: u64) -> Result<(bool, bool), O
     if marked.keys != last || marked.target != target {
         return Ok((false, false));
     }
-    let right = are_numbered(&table, &mut maker, &mut who, rebuild, marked);
+    let pairs = numbered(alloc, last)?;
+    let pairs = pairs.as_slice();
+    let right = are_pairs(&table, &mut maker, &mut who, rebuild, marked, pairs);
     if !are_few(marked.keys) {
         return Ok((right, false));
     }

@@ -1,13 +1,19 @@
-//! Rebuilds of small and of shared tables, by direct calls of the crates that mark, build and rebuild: tests alone.
+//! Rebuilds of small, of shared and of changed tables, by direct calls of the crates that mark, build and rebuild: tests alone.
 //!
-//! Read `tables.rt` and `callers.rt`, then `turns.rt`, `shortages.rt`, `shares.rt` and `leaves.rt`. Stands on `ist_rebuild` and on the
-//! crates below it, and on the laws of `ist_tree`.
+//! Read `tables.rt` and `callers.rt`, then `turns.rt`, `shortages.rt`, `shares.rt` and `leaves.rt`; then `updates.rt` and `late.rt`, and
+//! `marked.rt` and `frozen.rt`. Stands on `ist_updates` and on the crates below it, and on the laws of `ist_tree`.
 #![tactic(auto)]
 
 #[cfg(test)]
 mod callers;
 #[cfg(test)]
+mod frozen;
+#[cfg(test)]
+mod late;
+#[cfg(test)]
 mod leaves;
+#[cfg(test)]
+mod marked;
 #[cfg(test)]
 mod shares;
 #[cfg(test)]
@@ -16,3 +22,5 @@ mod shortages;
 mod tables;
 #[cfg(test)]
 mod turns;
+#[cfg(test)]
+mod updates;

@@ -16,8 +16,8 @@ use std::sync::Wait;
 use std::test::Fail;
 use std::thread::join;
 
-// Starts a rebuild of what stands below the anchor.
-fn begin_top<R: Wait>(table: &TreeTable, rt: &R, who: &mut Caller) -> Option<u32>
+/// Starts a rebuild of what stands below the anchor.
+pub(crate) fn begin_top<R: Wait>(table: &TreeTable, rt: &R, who: &mut Caller) -> Option<u32>
     requires same_table { who.old.seat.table ≡ table.now.table }
     requires able { IsAble who.old }
     ensures same_table { who.new.seat.table ≡ table.now.table }

@@ -63,8 +63,8 @@ pub(crate) fn open(alloc: Global, pairs: &[Pair], words: u64) -> Result<Opened, 
     open_rising(alloc, pairs, words)
 }
 
-// The pairs (1, 1), (2, 2) and so on.
-fn numbered(alloc: Global, last: u64) -> Result<Vec<Pair>, AllocError>
+/// The pairs (1, 1), (2, 2) and so on.
+pub(crate) fn numbered(alloc: Global, last: u64) -> Result<Vec<Pair>, AllocError>
     requires few { last ≤ 100000 }
 {
     let mut pairs = Vec::new(alloc);

@@ -2,7 +2,7 @@ use Rattle.std.proofs.Common.{◌≡◌}
 use Rattle.ist_buildings.specs.Steps.{IsMarked}
 use Rattle.ist_rebuild.specs.Finishing.{IsAble}
 use Rattle.ist_rule.specs.Learning.{now}
-use Rattle.ist_buildings.proofs.leaves.are_numbered.Given as goal
+use Rattle.ist_buildings.proofs.leaves.are_pairs.Given as goal
 
 -- both seats are of the table, and the target is finished still
 abbrev pub invariant-loop-i : goal.invariant-loop-i
