@@ -31,3 +31,4 @@ pub mod FreezeCallLemmas
 pub mod FreezeEndLemmas
 pub mod FreezeReadLemmas
 pub mod FreezeMarkLemmas
+pub mod NumberedLemmas

@@ -1,5 +1,5 @@
 //! Freezing the whole tree, and reading what was frozen.
-ghost use Rattle.std.specs.Prelude.{◌≡◌, ◌<◌, ℕ, None, IfOk, IfErr, OnErr};
+ghost use Rattle.std.specs.Prelude.{◌≡◌, ◌+◌, ◌<◌, ◌≤◌, ◌^◌, ℕ, None, IfOk, IfErr, OnErr};
 ghost use Rattle.ist_core.specs.Marking.{HasTarget};
 ghost use Rattle.ist_core.specs.Rebuilding.{IsStarted};
 ghost use Rattle.ist_core.specs.References.{LeafAt};
@@ -23,7 +23,7 @@ ghost use Rattle.ist_tree.specs.Working.{IsReady};
 
 use crate::passes::Pass;
 use crate::trees::Tree;
-use ist_build::leaf_at;
+use ist_build::leaf_and_loads;
 use ist_core::{Full, Pair};
 use ist_dcss::help;
 use ist_layout::{
@@ -271,19 +271,24 @@ fn base_of(reference: Ref) -> u32
     }
 }
 
-// The leaf number `i` below the root of a frozen tree.
-fn frozen_leaf(table: &TreeTable, seat: &mut TreeSeat, frozen: Frozen, i: u64) -> u32
+// The leaf number `i` below the root of a frozen tree, and how many words were loaded on the way to it.
+fn frozen_leaf(table: &TreeTable, seat: &mut TreeSeat, frozen: Frozen, i: u64) -> (u32, u64)
     requires same_table { seat.old.table ≡ table.now.table }
     requires frozen { IsStill (now seat.old.view) (ref_meant frozen.root) frozen.keys }
     requires within { i < frozen.keys }
     ensures same_table { seat.new.table ≡ seat.old.table }
     ensures seen { GoesOnTo seat.old.view seat.new.view }
-    ensures leaf { IsLeafNumber (now seat.old.view) (ref_meant frozen.root) i result }
+    ensures leaf { IsLeafNumber (now seat.old.view) (ref_meant frozen.root) i result.0 }
+    ensures counted { seat.new.view.loaded ≡ seat.old.view.loaded + result.1 }
+    ensures fits { result.1 ≤ 2 ^ 59 }
 {
     know(seat);
     match frozen.root {
-        Ref::Inner { base } => base_of(leaf_at(table, seat, base, i)),
-        other => base_of(other),
+        Ref::Inner { base } => {
+            let leaf = leaf_and_loads(table, seat, base, i);
+            (base_of(leaf.0), leaf.1)
+        }
+        other => (base_of(other), 0),
     }
 }
 
@@ -294,6 +299,7 @@ fn pair_in(table: &TreeTable, seat: &mut TreeSeat, base: u32) -> Pair
     ensures same_table { seat.new.table ≡ seat.old.table }
     ensures seen { GoesOnTo seat.old.view seat.new.view }
     ensures pair { IsPairOf (now seat.old.view) base result }
+    ensures counted { seat.new.view.loaded ≡ seat.old.view.loaded + 2 }
 {
     know(seat);
     let key = load(table, seat, u64::from(base) + LEAF_KEY_OFFSET);
@@ -302,19 +308,26 @@ fn pair_in(table: &TreeTable, seat: &mut TreeSeat, base: u32) -> Pair
     Pair { key, value }
 }
 
-// The pair number `i` of a frozen tree.
-fn pair_at(table: &TreeTable, seat: &mut TreeSeat, frozen: Frozen, i: u64) -> Pair
+// The pair number `i` of a frozen tree, and how many words were loaded for it.
+pub(crate) fn pair_and_loads(
+    table: &TreeTable,
+    seat: &mut TreeSeat,
+    frozen: Frozen,
+    i: u64,
+) -> (Pair, u64)
     requires same_table { seat.old.table ≡ table.now.table }
     requires frozen { IsStill (now seat.old.view) (ref_meant frozen.root) frozen.keys }
     requires within { i < frozen.keys }
     ensures same_table { seat.new.table ≡ seat.old.table }
     ensures seen { GoesOnTo seat.old.view seat.new.view }
-    ensures pair { let v = seat.old.view in IsPairAt v.start v.words v.log frozen i result }
+    ensures pair { let v = seat.old.view in IsPairAt v.start v.words v.log frozen i result.0 }
+    ensures counted { seat.new.view.loaded ≡ seat.old.view.loaded + result.1 }
 {
     know(seat);
-    let base = frozen_leaf(table, seat, frozen, i);
+    let leaf = frozen_leaf(table, seat, frozen, i);
     know(seat);
-    pair_in(table, seat, base)
+    let pair = pair_in(table, seat, leaf.0);
+    (pair, leaf.1 + 2)
 }
 
 impl Tree {
@@ -367,7 +380,22 @@ impl Tree {
         ensures calls { pass.new.calls ≡ pass.old.calls }
         ensures refused { pass.new.refused ≡ pass.old.refused }
     {
+        self.counted_pair(pass, frozen, i).0
+    }
+
+    // The same pair, and how many words were loaded for it.
+    pub(crate) fn counted_pair(&self, pass: &mut Pass, frozen: &Frozen, i: u64) -> (Pair, u64)
+        requires same_tree { pass.old.tree ≡ self.now }
+        requires frozen { IsFrozenFor pass.old frozen.now }
+        requires within { i < frozen.now.keys }
+        ensures seen { HasSeenMore pass.old pass.new }
+        ensures pair { IsFrozenPair pass.old frozen.now i result.0 }
+        ensures still { IsFrozenFor pass.new frozen.now }
+        ensures calls { pass.new.calls ≡ pass.old.calls }
+        ensures refused { pass.new.refused ≡ pass.old.refused }
+        ensures counted { pass.new.loaded ≡ pass.old.loaded + result.1 }
+    {
         know(&pass.caller.seat);
-        pair_at(&self.table, &mut pass.caller.seat, *frozen, i)
+        pair_and_loads(&self.table, &mut pass.caller.seat, *frozen, i)
     }
 }

@@ -23,6 +23,8 @@ pub use trees::Tree;
 #[cfg(test)]
 mod freezing_tests;
 #[cfg(test)]
+mod loads_tests;
+#[cfg(test)]
 mod standing_tests;
 #[cfg(test)]
 mod tests;

@@ -1,14 +1,16 @@
 -- A pair is read by loads alone.
+use Rattle.std.proofs.Common.{ap, arith}
+use Rattle.ist_tree.specs.Faces.{PassFace}
 use Rattle.ist_tree.proofs.FreezeReadLemmas.{ReadEnds, read_ends}
-use Rattle.ist_tree.proofs.trees.Tree.frozen_pair.Goals as goal
-use Rattle.ist_tree.proofs.trees.Tree.frozen_pair.Goals.{After-pair_at}
+use Rattle.ist_tree.proofs.trees.Tree.counted_pair.Goals as goal
+use Rattle.ist_tree.proofs.trees.Tree.counted_pair.Goals.{After-pair_and_loads}
 
 -- what it comes to
-ends : (c : After-pair_at) → ReadEnds c.args.pass.now c.pass.inside.caller c.pass.inside.refused
-    c.pair_at.new.seat c.args.frozen.now
+ends : (c : After-pair_and_loads) → ReadEnds c.args.pass.now c.pass.inside.caller c.pass.inside.refused
+    c.pair_and_loads.new.seat c.args.frozen.now
 ends c =
-    read_ends c.pass.inside.caller c.pass.inside.refused c.pair_at.new.seat c.pass.invariant
-    c.pair_at.ensures.seen c.pair_at.ensures.same_table c.args.frozen.now c.args.pass.now
+    read_ends c.pass.inside.caller c.pass.inside.refused c.pair_and_loads.new.seat c.pass.invariant
+    c.pair_and_loads.ensures.seen c.pair_and_loads.ensures.same_table c.args.frozen.now c.args.pass.now
     c.pass.view_is c.requires.frozen
 
 pub invariant_of-pass : goal.invariant_of-pass
@@ -22,3 +24,9 @@ returns-clause-calls c = (ends c).calls
 
 pub returns-clause-still : goal.returns-clause-still
 returns-clause-still c = (ends c).still
+
+pub returns-clause-counted : goal.returns-clause-counted
+returns-clause-counted c =
+    let before = ap (λ (it : PassFace). it.loaded) c.pass.view_is in
+    let counted = c.pair_and_loads.ensures.counted in
+    omega arith
