@@ -21,7 +21,8 @@ use Rattle.ist_rebuild.specs.Helping.{IsLeftToParent}
 use Rattle.ist_rebuild.specs.Starting.{IsStartedAt, LeavesDone, StartsAreDoneBut}
 use Rattle.ist_tree.specs.Working.{IsReady, IsShut, KeepsDone, RebuildsOn}
 use Rattle.ist_tree.proofs.EventLemmas.{begins_rebuild, serves_rebuild}
-use Rattle.ist_tree.proofs.RebuildLemmas.{all_done, left_is_shut, rebuilds_by, replaced_is_shut}
+use Rattle.ist_tree.proofs.RebuildLemmas.{rebuilds_by}
+use Rattle.ist_tree.proofs.ShutLemmas.{all_done, left_is_shut, replaced_is_shut}
 
 -- ---- going on
 

@@ -34,7 +34,8 @@ use Rattle.ist_tree.specs.Working.{IsReady, KeepsDone, Rebuilds, RebuildsOn}
 use Rattle.ist_tree.proofs.DueLemmas.{done_more}
 use Rattle.ist_tree.proofs.FreezingLemmas.{row_was_frozen, was_frozen_on}
 use Rattle.ist_tree.proofs.EventLemmas.{IsPlainHelp, none_starts_none}
-use Rattle.ist_tree.proofs.RebuildLemmas.{plain_done, plain_on, rebuilds_more, rebuilds_same, short_now}
+use Rattle.ist_tree.proofs.RebuildLemmas.{plain_done, plain_on, rebuilds_more, rebuilds_same}
+use Rattle.ist_tree.proofs.ShortLemmas.{short_now}
 use Rattle.ist_tree.proofs.StartLemmas.{starts_none_more, starts_none_went}
 
 -- ---- one table
@@ -190,9 +191,9 @@ rebuild_on P v w g rebuild target r =
     }
 
 -- the one that was started
-pub begun_of : (t : View) (rebuild index target : ℕ) → IsStartedAt (now t) rebuild anchor index target
-    → IsRebuildOf (now t) rebuild target
-begun_of t rebuild index target s =
+pub begun_of : (t : View) (rebuild parent index target : ℕ)
+    → IsStartedAt (now t) rebuild parent index target → IsRebuildOf (now t) rebuild target
+begun_of t rebuild parent index target s =
     record {
       started = s.started;
       target_is = record { row = s.row; published = s.published; target_is = s.target_is };

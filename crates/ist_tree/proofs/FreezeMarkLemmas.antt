@@ -23,7 +23,9 @@ use Rattle.ist_tree.specs.FreezeSteps.{FreezesTarget, IsRebuildOf}
 use Rattle.ist_tree.specs.Working.{IsDueRefused, IsReady, RebuildsOn}
 use Rattle.ist_tree.proofs.DueLemmas.{helped_either}
 use Rattle.ist_tree.proofs.EventLemmas.{IsPlainHelp, serves_rebuild}
-use Rattle.ist_tree.proofs.RebuildLemmas.{all_done, help_refused, plain_on, rebuilds_more}
+use Rattle.ist_tree.proofs.RebuildLemmas.{plain_on, rebuilds_more}
+use Rattle.ist_tree.proofs.ShortLemmas.{help_refused}
+use Rattle.ist_tree.proofs.ShutLemmas.{all_done}
 use Rattle.ist_layout.specs.declared.references.Ref.TheVariants as layout
 
 -- a step of marking installs nothing and leaves all rows

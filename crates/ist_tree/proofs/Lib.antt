@@ -3,6 +3,9 @@ pub mod SettlingLemmas
 pub mod EventLemmas
 pub mod StartLemmas
 pub mod RebuildLemmas
+pub mod ShutLemmas
+pub mod ShortLemmas
+pub mod NestedLemmas
 pub mod DueLemmas
 pub mod CameLemmas
 pub mod CarryLemmas

@@ -32,7 +32,7 @@ use Rattle.ist_tree.specs.Refusals.{HadTooFew, IsAskedIn, IsForRebuild, IsRebuil
 use Rattle.ist_tree.specs.Working as working
 use Rattle.ist_tree.proofs.FoundLemmas.{position_later}
 use Rattle.ist_tree.proofs.GoingLemmas.{lawful_behind}
-use Rattle.ist_tree.proofs.RebuildLemmas.{short_now}
+use Rattle.ist_tree.proofs.ShortLemmas.{short_now}
 use Rattle.ist_tree.proofs.WayLemmas.{IsWay, b_start, b_view, b_words, b_to_w, lawful_w, lawful_x, v_to_b, w_start, w_to_x, w_words, x_start, x_words}
 
 -- a longer log has no fewer puts

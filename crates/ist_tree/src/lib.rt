@@ -25,6 +25,8 @@ mod freezing_tests;
 #[cfg(test)]
 mod loads_tests;
 #[cfg(test)]
+mod nested_tests;
+#[cfg(test)]
 mod standing_tests;
 #[cfg(test)]
 mod tests;

@@ -182,7 +182,7 @@ fn mark_what_stands<R: Wait>(tree: &Tree, rt: &R, pass: Pass) -> Option<(u64, u6
 }
 
 // Puts 1 to 7 at the key 10, and gives whether each put was answered.
-fn put_seven<R: Wait>(tree: &Tree, rt: &R, pass: &mut Pass) -> bool
+pub(crate) fn put_seven<R: Wait>(tree: &Tree, rt: &R, pass: &mut Pass) -> bool
     requires same_tree { pass.old.tree ≡ tree.now }
     ensures same_tree { pass.new.tree ≡ tree.now }
 {

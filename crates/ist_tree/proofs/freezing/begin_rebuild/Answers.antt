@@ -2,7 +2,7 @@
 use Rattle.std.proofs.Common.{Ok, ap}
 use Rattle.ist_tree.proofs.DueLemmas.{begins_on, marked_leaves, other_leaves, yes_leaves}
 use Rattle.ist_tree.proofs.FreezeGoingLemmas.{begins_idle, begun_of, marked_unstarted, other_unstarted, start_stopped}
-use Rattle.ist_tree.proofs.RebuildLemmas.{passed_on}
+use Rattle.ist_tree.proofs.ShortLemmas.{passed_on}
 use Rattle.ist_tree.proofs.freezing.begin_rebuild.Goals as goal
 
 pub returns-in_err-rebuild-clause-full : goal.returns-in_err-rebuild-clause-full
@@ -20,7 +20,7 @@ pub returns-in-Yes-clause-begun : goal.returns-in-Yes-clause-begun
 returns-in-Yes-clause-begun g c = (
   begins_on _ _ c.requires.ready c.start.ensures.caller c.start.ensures.refused
       c.start.ensures.quiet c.start.ensures.went c.start.ensures.number,
-  begun_of c.start.new.who.seat.view _ _ _ (c.in_ok-rebuild.ensures.yes _ (ap Ok c.in-Yes.is)),
+  begun_of c.start.new.who.seat.view _ _ _ _ (c.in_ok-rebuild.ensures.yes _ (ap Ok c.in-Yes.is)),
   λ done. yes_leaves _ _ _ _ c.in-Yes.is (c.in_ok-rebuild.ensures.done done),
 )
 

@@ -2,7 +2,7 @@
 use Rattle.std.proofs.Common.{subst}
 use Rattle.ist_tree.specs.FreezeSteps.{MayHaveMet}
 use Rattle.ist_tree.proofs.FreezeGoingLemmas.{idle_more, idle_same, met_more, none_met, stopped_more}
-use Rattle.ist_tree.proofs.RebuildLemmas.{passed_on}
+use Rattle.ist_tree.proofs.ShortLemmas.{passed_on}
 use Rattle.ist_tree.proofs.freezing.look_below.Goals as goal
 
 -- before the first look nothing was done

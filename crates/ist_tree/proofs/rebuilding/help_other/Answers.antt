@@ -4,7 +4,9 @@ use Rattle.ist_rebuild.specs.Going.{Serves, StartsAt}
 use Rattle.ist_dcss.specs.Helping as dcss
 use Rattle.ist_rule.proofs.WentOnLemmas.{went_all, went_same}
 use Rattle.ist_tree.proofs.EventLemmas.{help_aims, help_plain, serves_aims, serves_rebuild, serves_start_none}
-use Rattle.ist_tree.proofs.RebuildLemmas.{help_refused, other_helped, other_started, passed_on, plain_done, plain_on, rebuilds_by, rebuilds_same, starts_went}
+use Rattle.ist_tree.proofs.RebuildLemmas.{plain_done, plain_on, rebuilds_by, rebuilds_same, starts_went}
+use Rattle.ist_tree.proofs.ShortLemmas.{help_refused, passed_on}
+use Rattle.ist_tree.proofs.ShutLemmas.{other_helped, other_started}
 use Rattle.ist_tree.proofs.rebuilding.help_other.Goals as goal
 
 -- a rebuild is started

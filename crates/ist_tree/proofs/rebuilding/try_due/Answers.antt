@@ -5,7 +5,9 @@ use Rattle.ist_rebuild.specs.Going.{Serves, StartsAt}
 use Rattle.ist_rule.proofs.WentOnLemmas.{goes_on_went, went_all, went_more}
 use Rattle.ist_tree.proofs.EventLemmas.{serves_aims}
 use Rattle.ist_tree.proofs.DueLemmas.{begins_on, done_behind, done_more, helped_done, helped_either, helped_shut, marked_leaves, other_leaves, serves_on, yes_leaves}
-use Rattle.ist_tree.proofs.RebuildLemmas.{help_refused, load_plain, may_start_went, not_open_shut, passed_on, plain_done, plain_on, rebuilds_more, start_refused}
+use Rattle.ist_tree.proofs.RebuildLemmas.{load_plain, may_start_went, plain_done, plain_on, rebuilds_more}
+use Rattle.ist_tree.proofs.ShortLemmas.{help_refused, passed_on, start_refused}
+use Rattle.ist_tree.proofs.ShutLemmas.{not_open_shut}
 use Rattle.ist_tree.specs.Working.{Rebuilds}
 use Rattle.ist_tree.proofs.rebuilding.try_due.Goals as goal
 

@@ -3,7 +3,7 @@ use Rattle.std.proofs.Common.{subst}
 use Rattle.ist_updates.specs.Counting.{LeavesDue}
 use Rattle.ist_tree.proofs.CarriedLemmas.{carried_none, carried_some, turned_down}
 use Rattle.ist_tree.proofs.InstallLemmas.{applied_starts, carried_starts}
-use Rattle.ist_tree.proofs.RebuildLemmas.{passed_on}
+use Rattle.ist_tree.proofs.ShortLemmas.{passed_on}
 use Rattle.ist_tree.proofs.updating.carry_out.Goals as goal
 
 -- it was refused
