@@ -1,9 +1,10 @@
 //! The tokens by which threads share a tree: the maker of passes, a pass, a note.
 ghost use Rattle.std.specs.Prelude.{◌≡◌};
+ghost use Rattle.ist_core.specs.Lawful.{Lawful};
 
 use ist_core::Full;
 use ist_rows::Caller;
-use ist_rule::TreeSeat;
+use ist_rule::{TreeSeat, know};
 use std::marker::Model;
 
 /// The one that makes passes, takes them back, and closes the tree.
@@ -54,6 +55,13 @@ impl Pass {
         ensures value { result ≡ self.now.number }
     {
         u64::from(self.caller.number)
+    }
+
+    /// What a pass has seen is lawful. It costs nothing, and is for proofs alone.
+    pub fn know(&self)
+        ensures lawful { let p = self.now in Lawful p.tree.start p.tree.words p.seen }
+    {
+        know(&self.caller.seat);
     }
 
     /// The first `Full` of a rebuild that a put or remove of this pass met after its own change had
