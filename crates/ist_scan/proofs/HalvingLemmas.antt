@@ -1,0 +1,93 @@
+-- A search by halving. Serves `looking.count_below`.
+use Rattle.std.proofs.Common.{◌≡◌, ℕ, ◌+◌, ◌*◌, ◌^◌, ◌<◌, ◌≤◌, ◌⊎◌, ◌-◌, zero, suc, List, map, length, slice_get, Some, sym, ap, ◌∙◌, add-one, subst, inl, inr, ⊎_elim, arith}
+use Rattle.std.specs.List.Sorted.{IsStrictlyIncreasing}
+use Rattle.std.proofs.Math.Nat.{mul-le-mul_left, pow-suc}
+use Rattle.std.proofs.lemmas.Option.{slice_get_within}
+use Rattle.std.proofs.lemmas.Bool.Decides.{eqb_tells}
+use Rattle.ist_core.specs.declared.pairs.Pair.{Pair}
+use Rattle.ist_scan.specs.Cuts.{IsBetween, IsHalved}
+use Rattle.ist_scan.proofs.PairLemmas.{rise}
+
+pub between_all : (pairs : List Pair) (key keys : ℕ) → length pairs ≡ keys
+    → IsBetween pairs key 0 keys
+between_all pairs key keys long =
+    record {
+      below = λ i pair low at. absurd (omega arith);
+      above = λ i pair high at.
+          (let within = slice_get_within pairs i pair at in absurd (omega arith));
+    }
+
+-- a number below the next one, and one that isn't below
+at_or_below : (i m : ℕ) → i < m + 1 → (i ≡ m) ⊎ (i < m)
+at_or_below i m low =
+    ⊎_elim (λ t. inl t.1) (λ f. inr (let differ = f.1 in omega arith)) (eqb_tells i m)
+
+at_or_above : (i m : ℕ) → m ≤ i → (i ≡ m) ⊎ (m < i)
+at_or_above i m high =
+    ⊎_elim (λ t. inl t.1) (λ f. inr (let differ = f.1 in omega arith)) (eqb_tells i m)
+
+module _ (pairs : List Pair) (rising : IsStrictlyIncreasing (map (λ p. p.key) pairs))
+    (key low high middle : ℕ) (x : Pair) (b : IsBetween pairs key low high)
+    (at : slice_get pairs middle ≡ Some x) where
+  -- the middle pair has a lower key
+  pub go_up : x.key < key → IsBetween pairs key (middle + 1) high
+  go_up less =
+      record {
+        below = λ i pair lower here. ⊎_elim
+            (λ (same : i ≡ middle). (let one : pair ≡ x = cc in
+            subst (λ p. p.key < key) (sym one) less))
+            (λ (before : i < middle). (let rose = rise pairs rising i middle pair x here at before in
+            omega arith))
+            (at_or_below i middle lower);
+        above = b.above;
+      }
+
+  -- it doesn't
+  pub go_down : key ≤ x.key → IsBetween pairs key low middle
+  go_down more =
+      record {
+        below = b.below;
+        above = λ i pair higher here. ⊎_elim
+            (λ (same : i ≡ middle). (let one : pair ≡ x = cc in
+            subst (λ p. key ≤ p.key) (sym one) more))
+            (λ (behind : middle < i). (let rose = rise pairs rising middle i x pair at here behind in
+            omega arith))
+            (at_or_above i middle higher);
+      }
+
+-- ---- how many looks it takes
+
+pub none_made : (keys : ℕ) → IsHalved keys 0 (keys - 0)
+none_made keys = record { shrunk = omega arith; few = omega arith }
+
+-- a power of two is above its exponent
+power_above : (looks : ℕ) → looks < 2 ^ looks
+power_above zero = omega arith
+power_above (suc looks) =
+    let before = power_above looks in
+    let next = pow-suc 2 looks in
+    omega (arith, before, next)
+
+-- the power so far, where something is left
+power_within : (keys looks left : ℕ) → 0 < left → IsHalved keys looks left → 2 ^ looks ≤ keys
+power_within keys looks left some h =
+    let once = mul-le-mul_left {m = 1} {n = left} (2 ^ looks) (omega arith) in
+    let shrunk = h.shrunk in
+    omega (arith, once, shrunk)
+
+-- one look more leaves no more than half
+pub one_more : (keys looks left less : ℕ) → 0 < left → IsHalved keys looks left
+    → less + less ≤ left → IsHalved keys (looks + 1) less
+one_more keys looks left less some h half =
+    let within = power_within keys looks left some h in
+    let shrunk = h.shrunk in
+    let next : 2 ^ (looks + 1) ≡ 2 ^ looks * 2 = ap (λ n. 2 ^ n) (add-one looks) ∙ pow-suc 2 looks in
+    let double = mul-le-mul_left {m = less + less} {n = left} (2 ^ looks) half in
+    record { shrunk = rw next (omega (arith, double, shrunk)); few = omega (arith, within, next) }
+
+-- so that the looks can be counted
+pub looks_fit : (keys looks left : ℕ) → 0 < left → IsHalved keys looks left → looks + 1 ≤ keys
+looks_fit keys looks left some h =
+    let within = power_within keys looks left some h in
+    let above = power_above looks in
+    omega (arith, within, above)

@@ -1,0 +1,230 @@
+-- A walk: where its next pair is, and that it stays there. Serves `walks.rt` and `laws.shots_stay`.
+use Rattle.std.proofs.Common.{◌≡◌, ℕ, ◌+◌, ◌-◌, ◌<◌, ◌≤◌, true, List, [], ◌∷◌, zero, suc, length, map, drop, slice_get, Some, None, refl, sym, ap, ◌∙◌, subst, ⊎_elim, arith}
+use Rattle.std.specs.List.Sorted.{IsStrictlyIncreasing}
+use Rattle.std.proofs.lemmas.Bool.{cases_lt, false≢true}
+use Rattle.std.proofs.lemmas.List.{length-take}
+use Rattle.std.proofs.lemmas.Option.{slice_get_past}
+use Rattle.ist_core.proofs.PieceLemmas.{slice_get-drop, slice_get-take}
+use Rattle.ist_core.specs.declared.pairs.Pair.{Pair}
+use Rattle.ist_core.specs.Lawful.{Lawful}
+use Rattle.ist_core.specs.Map.{pairs_between, pairs_of}
+use Rattle.ist_tree.specs.declared.freezing.Frozen.{Frozen}
+use Rattle.ist_tree.specs.Faces.{PassFace}
+use Rattle.ist_scan.specs.Cuts.{CutsAt, IsCut, part_of}
+use Rattle.ist_scan.specs.Shots.{HasLooked, HasPairs, IsOf, map_seen}
+use Rattle.ist_scan.specs.Walks.{WalkFace, AreOneWalk, HasBegun, HasWalked, WalksStay}
+use Rattle.ist_scan.proofs.CutLemmas.{cut_is, between_is, none_between}
+use Rattle.ist_scan.proofs.PairLemmas.{rise}
+use Rattle.ist_scan.proofs.ShotLemmas.{GoesOnWell, has_on, one_pairs, of_pairs}
+
+pub walks_stay : WalksStay
+walks_stay p q tree seen lawful w h =
+    let on : GoesOnWell p q = record { tree = tree; seen = seen; lawful = lawful } in
+    record {
+      fresh = h.fresh;
+      way = λ begun. (let b = h.way begun in
+          record {
+            pairs = b.pairs;
+            has = has_on p q on w.shot b.pairs b.has;
+            start = b.start;
+            cut = b.cut;
+            next_is = b.next_is;
+          });
+    }
+
+-- ---- a key cuts rising pairs
+
+-- a key cuts rising pairs somewhere
+some_cut : (pairs : List Pair) (key : ℕ)
+    → ((i j : ℕ) (x y : Pair) → slice_get pairs i ≡ Some x → slice_get pairs j ≡ Some y → i < j
+    → x.key < y.key)
+    → (count : ℕ) × CutsAt pairs key count
+some_cut [] key rises = (
+  0,
+  record {
+    within = omega arith;
+    below = λ i pair low at. absurd (omega arith);
+    above = λ i pair high at. absurd (none_some i pair at);
+  },
+)
+  where
+    none_some : (i : ℕ) (pair : Pair) → slice_get {X = Pair} [] i ≡ Some pair → ⊥
+    none_some i pair at = cc
+some_cut (x ∷ pairs) key rises =
+    let rest = some_cut pairs key (λ i j y z at_i at_j low. rises (suc i) (suc j) y z at_i at_j (omega arith)) in
+    ⊎_elim
+    (λ (less : x.key < key). (suc rest.0, cut_more x pairs key rest.0 less rest.1))
+    (λ (more : key ≤ x.key). (0, cut_here x pairs key more (λ i y at. rises 0 (suc i) x y refl at (omega arith))))
+    (cases_lt x.key key)
+  where
+    cut_more : (x : Pair) (pairs : List Pair) (key count : ℕ) → x.key < key → CutsAt pairs key count
+        → CutsAt (x ∷ pairs) key (suc count)
+    cut_more x pairs key count less c =
+        let within = c.within in
+        record { within = omega arith; below = below; above = above }
+      where
+        below : (i : ℕ) (pair : Pair) → i < suc count → slice_get (x ∷ pairs) i ≡ Some pair
+            → pair.key < key
+        below zero pair low at = let same : x ≡ pair = cc in subst (λ (p : Pair). p.key < key) same less
+        below (suc i) pair low at = c.below i pair (omega arith) at
+
+        above : (i : ℕ) (pair : Pair) → suc count ≤ i → slice_get (x ∷ pairs) i ≡ Some pair
+            → key ≤ pair.key
+        above zero pair high at = absurd (omega arith)
+        above (suc i) pair high at = c.above i pair (omega arith) at
+
+    cut_here : (x : Pair) (pairs : List Pair) (key : ℕ) → key ≤ x.key
+        → ((i : ℕ) (y : Pair) → slice_get pairs i ≡ Some y → x.key < y.key)
+        → CutsAt (x ∷ pairs) key 0
+    cut_here x pairs key more rest =
+        record { within = omega arith; below = λ i pair low at. absurd (omega arith); above = above }
+      where
+        above : (i : ℕ) (pair : Pair) → 0 ≤ i → slice_get (x ∷ pairs) i ≡ Some pair → key ≤ pair.key
+        above zero pair high at = let same : x ≡ pair = cc in subst (λ (p : Pair). key ≤ p.key) same more
+        above (suc i) pair high at = let low = rest i pair at in omega (arith, low)
+
+-- ---- the next pair
+
+-- an interval that isn't empty is cut out of rising pairs
+cut_of : (pairs : List Pair) → IsStrictlyIncreasing (map (λ p. p.key) pairs) → (first last start : ℕ)
+    → first ≤ last → CutsAt pairs first start
+    → (high : ℕ) × CutsAt pairs (last + 1) high × IsCut pairs first (last + 1) start high
+cut_of pairs rising first last start order c =
+    let above = some_cut pairs (last + 1) (rise pairs rising) in
+    (above.0, above.1, cut_is pairs first (last + 1) start above.0 (omega arith) c above.1)
+
+-- a pair of a part, by its number there
+pub get_part : (pairs : List Pair) (low high given : ℕ) → given < high - low
+    → slice_get (part_of pairs low high) given ≡ slice_get pairs (low + given)
+get_part pairs low high given less =
+    slice_get-take (high - low) (drop low pairs) given less ∙ slice_get-drop low pairs given
+
+-- none is behind its end
+pub none_behind : (pairs : List Pair) (low high given : ℕ) → high - low ≤ given
+    → slice_get (part_of pairs low high) given ≡ None
+none_behind pairs low high given more =
+    let long = length-take (high - low) (drop low pairs) in
+    slice_get_past (part_of pairs low high) given (omega (arith, long))
+
+module _ (pairs : List Pair) (rising : IsStrictlyIncreasing (map (λ p. p.key) pairs))
+    (first last start given : ℕ) (c : CutsAt pairs first start) where
+  -- no pair comes where those of the interval were given
+  none_within : ((high : ℕ) → CutsAt pairs (last + 1) high → high ≤ start + given)
+      → slice_get (pairs_between first last pairs) given ≡ None
+  none_within behind =
+      ⊎_elim
+      (λ (less : last < first). ap (λ l. slice_get l given) (none_between pairs first last less))
+      (λ (order : first ≤ last).
+      (let cut = cut_of pairs rising first last start order c in
+      let passed = behind cut.0 cut.1 in
+      ap (λ l. slice_get l given)
+      (between_is pairs first last first (last + 1) start cut.0 refl refl cut.2)
+      ∙ none_behind pairs start cut.0 given (omega arith)))
+      (cases_lt last first)
+
+  -- a pair that isn't above the interval is the next one
+  pub next_is : (x : Pair) → slice_get pairs (start + given) ≡ Some x → x.key ≤ last
+      → slice_get (pairs_between first last pairs) given ≡ Some x
+  next_is x at low =
+      let from = c.above (start + given) x (omega arith) at in
+      let cut = cut_of pairs rising first last start (omega (arith, from, low)) c in
+      let less : given < cut.0 - start = ⊎_elim (λ (l : start + given < cut.0). omega arith)
+      (λ (h : cut.0 ≤ start + given). (let more = cut.1.above (start + given) x h at in
+      absurd (omega (arith, more, low)))) (cases_lt (start + given) cut.0) in
+      ap (λ l. slice_get l given) (between_is pairs first last first (last + 1) start cut.0 refl refl cut.2)
+      ∙ get_part pairs start cut.0 given less ∙ at
+
+  -- where a pair is above the interval, none comes
+  pub none_above : (x : Pair) → slice_get pairs (start + given) ≡ Some x → last < x.key
+      → slice_get (pairs_between first last pairs) given ≡ None
+  none_above x at over = none_within
+      (λ high cut. ⊎_elim (λ (l : start + given < high). (let less = cut.below (start + given) x l at in
+      absurd (omega (arith, less, over)))) (λ (h : high ≤ start + given). h) (cases_lt (start + given) high))
+
+  -- nor where all pairs were given
+  pub none_left : length pairs ≤ start + given
+      → slice_get (pairs_between first last pairs) given ≡ None
+  none_left all = none_within (λ high cut. (let within = cut.within in omega arith))
+
+-- ---- walks
+
+-- a walk that has begun, for a pass that looked
+pub begun_on : (p q : PassFace) (w : WalkFace) → HasLooked p q → HasBegun p w → HasBegun q w
+begun_on p q w looked b =
+    record {
+      pairs = b.pairs;
+      has = looked.pairs w.shot b.pairs b.has;
+      start = b.start;
+      cut = b.cut;
+      next_is = b.next_is;
+    }
+
+-- a walk that has begun and given one pair more
+pub begun_more : (p : PassFace) (w : WalkFace) → HasBegun p w
+    → HasBegun p (record w { given = w.given + 1; next = w.next + 1 })
+begun_more p w b =
+    let next = b.next_is in
+    record {
+      pairs = b.pairs;
+      has = b.has;
+      start = b.start;
+      cut = b.cut;
+      next_is = omega arith;
+    }
+
+-- it is where it should be
+pub walked : (p : PassFace) (w : WalkFace) → w.begun ≡ true → HasBegun p w → HasWalked p w
+walked p w begun b =
+    record { fresh = λ not. absurd (false≢true (sym not ∙ begun)); way = λ _. b }
+
+-- the pairs of a shot at its position, for a pass that has looked and a walk that goes on
+pub pairs_at : (p q : PassFace) (position : ℕ) (shot : Frozen) (v w : WalkFace)
+    → Lawful p.tree.start p.tree.words p.seen → HasLooked p q → AreOneWalk v w → v.shot ≡ shot
+    → IsOf p position shot → HasPairs q w.shot (pairs_of (map_seen p position))
+pairs_at p q position shot v w lawful looked one its o =
+    let pairs = pairs_of (map_seen p position) in
+    subst (λ s. HasPairs q s pairs) (sym (one.shot ∙ its))
+    (looked.pairs shot pairs (of_pairs p position shot lawful o))
+
+-- the pairs cut a walk that has begun
+record HasBegunBy (pairs : List Pair) (w : WalkFace) : Type 0 where
+  start : ℕ
+  cut : CutsAt pairs w.first start
+  next_is : w.next ≡ start + w.given
+
+-- what comes next in a walk that has begun, by the pair with the number that it has come to: of the
+-- walk as it was
+module _ (p : PassFace) (v w : WalkFace) (b : HasBegun p w) (one : AreOneWalk v w)
+    (given : w.given ≡ v.given) (pairs : List Pair) (h : HasPairs p w.shot pairs) where
+  -- the pairs that the walk was cut by
+  these : HasBegunBy pairs w
+  these =
+      let same = one_pairs p w.shot b.pairs pairs b.has h in
+      record { start = b.start; cut = subst (λ l. CutsAt l w.first b.start) same b.cut; next_is = b.next_is }
+
+  as_it_was : slice_get (pairs_between w.first w.last pairs) w.given
+      ≡ slice_get (pairs_between v.first v.last pairs) v.given
+  as_it_was =
+      ap (λ n. slice_get (pairs_between n w.last pairs) w.given) one.first
+      ∙ ap (λ n. slice_get (pairs_between v.first n pairs) w.given) one.last
+      ∙ ap (slice_get (pairs_between v.first v.last pairs)) given
+
+  pub comes : (x : Pair) → slice_get pairs w.next ≡ Some x → x.key ≤ w.last
+      → Some x ≡ slice_get (pairs_between v.first v.last pairs) v.given
+  comes x at low =
+      sym (next_is pairs h.rising w.first w.last these.start w.given these.cut x
+      (ap (slice_get pairs) (sym these.next_is) ∙ at) low) ∙ as_it_was
+
+  pub ends_above : (x : Pair) → slice_get pairs w.next ≡ Some x → w.last < x.key
+      → None ≡ slice_get (pairs_between v.first v.last pairs) v.given
+  ends_above x at over =
+      sym (none_above pairs h.rising w.first w.last these.start w.given these.cut x
+      (ap (slice_get pairs) (sym these.next_is) ∙ at) over) ∙ as_it_was
+
+  pub ends_with_all : w.shot.keys ≤ w.next
+      → None ≡ slice_get (pairs_between v.first v.last pairs) v.given
+  ends_with_all all =
+      let long = h.number in
+      let next = these.next_is in
+      sym (none_left pairs h.rising w.first w.last these.start w.given these.cut (omega arith))
+      ∙ as_it_was

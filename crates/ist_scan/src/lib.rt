@@ -1,0 +1,18 @@
+//! Listing a tree while passes work on it: a shot is the map as it was at one position, which is listed, added up and walked
+//! over while puts and removes go on.
+//!
+//! `specs/Shots.antt` says what a shot is; `src/shots.rt` has the calls; `src/callers.rt` is a caller to start from. Stands on
+//! `ist_tree` by its `freeze` and `frozen_pair` alone.
+#![tactic(auto)]
+
+mod callers;
+pub mod laws;
+mod looking;
+mod shots;
+mod totals;
+mod walks;
+
+pub use crate::callers::total_then_remove;
+pub use crate::shots::Shot;
+pub use crate::totals::Total;
+pub use crate::walks::Walk;

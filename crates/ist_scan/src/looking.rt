@@ -1,0 +1,89 @@
+//! Single pairs of a shot by their numbers, and where keys cut them.
+ghost use Rattle.std.specs.Prelude.{◌≡◌, ◌+◌, ◌*◌, ◌^◌, ◌<◌, ◌≤◌, List, slice_get, Some};
+ghost use Rattle.ist_core.specs.declared.pairs.Pair.{Pair};
+ghost use Rattle.ist_tree.specs.Freezing.{IsFrozenFor};
+ghost use Rattle.ist_scan.specs.Cuts.{CutsAt, IsCut};
+ghost use Rattle.ist_scan.specs.Shots.{HasLooked, HasPairs};
+
+use ist_core::Pair;
+use ist_tree::{Frozen, Pass, Tree};
+
+// Where a key cuts the pairs, and at how many pairs the search for that looked.
+#[derive(Clone, Copy, Drop)]
+pub(crate) struct Cut {
+    pub(crate) count: u64,
+    pub(crate) looks: u64,
+}
+
+// The pairs from number `low` on, to the one before `high`.
+#[derive(Clone, Copy, Drop)]
+pub(crate) struct Ends {
+    pub(crate) low: u64,
+    pub(crate) high: u64,
+}
+
+// The pair number `i` of the shot.
+pub(crate) fn pair_at(tree: &Tree, pass: &mut Pass, shot: Frozen, i: u64) -> Pair
+    requires same_tree { pass.old.tree ≡ tree.now }
+    requires frozen { IsFrozenFor pass.old shot }
+    requires within { i < shot.keys }
+    ensures looked { HasLooked pass.old pass.new }
+    ensures pair { (pairs : List Pair) → HasPairs pass.old shot pairs
+        → slice_get pairs i ≡ Some result }
+{
+    let pair = tree.frozen_pair(pass, &shot, i);
+    pass.know();
+    pair
+}
+
+// How many pairs the shot has.
+fn keys_of(shot: Frozen) -> u64
+    ensures value { result ≡ shot.keys }
+{
+    shot.keys
+}
+
+// How many pairs of the shot have keys below the bound, by halving: at no more looks than one and the
+// logarithm of the keys, to base two.
+pub(crate) fn count_below(tree: &Tree, pass: &mut Pass, shot: Frozen, bound: u128) -> Cut
+    requires same_tree { pass.old.tree ≡ tree.now }
+    requires frozen { IsFrozenFor pass.old shot }
+    ensures looked { HasLooked pass.old pass.new }
+    ensures within { result.count ≤ shot.keys }
+    ensures cuts { (pairs : List Pair) → HasPairs pass.old shot pairs
+        → CutsAt pairs bound result.count }
+    ensures few { 2 ^ result.looks ≤ 2 * shot.keys + 1 }
+{
+    let mut low = 0;
+    let mut high = keys_of(shot);
+    let mut looks = 0;
+    while low < high {
+        let middle = low + (high - low) / 2;
+        looks += 1;
+        if u128::from(pair_at(tree, pass, shot, middle).key) < bound {
+            low = middle + 1;
+        } else {
+            high = middle;
+        }
+    }
+    Cut { count: low, looks }
+}
+
+// The pairs of the shot with keys from one number on and below another.
+pub(crate) fn ends_of(tree: &Tree, pass: &mut Pass, shot: Frozen, from: u128, to: u128) -> Ends
+    requires same_tree { pass.old.tree ≡ tree.now }
+    requires frozen { IsFrozenFor pass.old shot }
+    requires some { from < to }
+    ensures looked { HasLooked pass.old pass.new }
+    ensures cut { (pairs : List Pair) → HasPairs pass.old shot pairs
+        → IsCut pairs from to result.low result.high }
+    ensures order { result.low ≤ result.high }
+    ensures within { result.high ≤ shot.keys }
+{
+    let low = count_below(tree, pass, shot, from).count;
+    let high = count_below(tree, pass, shot, to).count;
+    Ends {
+        low: low.min(high),
+        high,
+    }
+}

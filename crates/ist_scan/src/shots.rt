@@ -1,0 +1,204 @@
+//! A shot: the map as it was at one position, and what it answers.
+ghost use Rattle.std.specs.Prelude.{◌≡◌, ℕ, ◌+◌, ◌-◌, ◌*◌, ◌<◌, ◌≤◌, List, length, slice_get, Some, IfOk, IfErr, OnErr};
+ghost use Rattle.ist_core.specs.declared.pairs.Pair.{Pair};
+ghost use Rattle.ist_tree.specs.Faces.{PassFace};
+ghost use Rattle.ist_scan.specs.Walks.{HasWalked};
+ghost use Rattle.ist_core.specs.Map.{listed, pairs_between};
+ghost use Rattle.ist_tree.specs.Calls.{HasSeenMore};
+ghost use Rattle.ist_tree.specs.Freezing.{IsFrozenFor, IsFreezeRefused, HasStartedNone};
+ghost use Rattle.ist_tree.specs.Refusals.{KeepsRefusal};
+ghost use Rattle.ist_scan.specs.Cuts.{part_of};
+ghost use Rattle.ist_scan.specs.Shots.{HasPairs, IsOf, HasTaken, HasLooked, map_seen};
+ghost use Rattle.ist_scan.specs.Totals.{total_of, in_bin};
+
+use crate::looking::{Ends, ends_of, pair_at};
+use crate::totals::Total;
+use crate::walks::Walk;
+use ist_core::{Full, Pair};
+use ist_tree::{Frozen, Pass, Tree};
+use std::alloc::{AllocError, Global};
+use std::marker::Model;
+use std::sync::Wait;
+
+/// The map as it was at one position among the changes: what a pass froze.
+///
+/// Whatever other passes do, each answer of a shot is of that one position. Each call asks that it
+/// is frozen in what the pass has seen: so it is for the pass that took it, and for each pass that
+/// has learnt of that since.
+#[derive(Debug, Drop)]
+pub struct Shot {
+    frozen: Frozen,
+}
+
+impl Model for Shot {
+    ghost use Rattle.ist_tree.specs.declared.freezing.Frozen.{Frozen};
+
+    ghost Value = { Frozen };
+
+    ghost view = { λ s. s.frozen };
+}
+
+// The total of the pairs of the shot from number `low` on, to the one before `high`.
+fn total_at(tree: &Tree, pass: &mut Pass, shot: Frozen, ends: Ends) -> Total
+    requires same_tree { pass.old.tree ≡ tree.now }
+    requires frozen { IsFrozenFor pass.old shot }
+    requires order { ends.low ≤ ends.high }
+    requires within { ends.high ≤ shot.keys }
+    ensures looked { HasLooked pass.old pass.new }
+    ensures total { (pairs : List Pair) → HasPairs pass.old shot pairs
+        → result ≡ total_of (part_of pairs ends.low ends.high) }
+{
+    let mut total = Total::of_none();
+    for i in ends.low..ends.high {
+        let pair = pair_at(tree, pass, shot, i);
+        total = total.with(pair.value);
+    }
+    total
+}
+
+// The pairs of the shot from number `low` on, to the one before `high`.
+fn list_at(
+    alloc: Global,
+    tree: &Tree,
+    pass: &mut Pass,
+    shot: Frozen,
+    ends: Ends,
+) -> Result<Vec<Pair>, AllocError>
+    requires same_tree { pass.old.tree ≡ tree.now }
+    requires frozen { IsFrozenFor pass.old shot }
+    requires order { ends.low ≤ ends.high }
+    requires within { ends.high ≤ shot.keys }
+    ensures looked { HasLooked pass.old pass.new }
+    ensures list { IfOk result (λ v. (pairs : List Pair) → HasPairs pass.old shot pairs
+        → v.items ≡ part_of pairs ends.low ends.high) }
+{
+    let mut list = Vec::new(alloc);
+    for i in ends.low..ends.high {
+        list.push(pair_at(tree, pass, shot, i))?;
+    }
+    Ok(list)
+}
+
+// The total of bin number `j` of this width.
+fn bin_at(tree: &Tree, pass: &mut Pass, shot: Frozen, first: u64, width: u64, j: u64) -> Total
+    requires same_tree { pass.old.tree ≡ tree.now }
+    requires frozen { IsFrozenFor pass.old shot }
+    requires some { 1 ≤ width }
+    ensures looked { HasLooked pass.old pass.new }
+    ensures total { (pairs : List Pair) → HasPairs pass.old shot pairs → result ≡ total_of
+        (pairs_between (first + j * width) (first + (j + 1) * width - 1) pairs) }
+{
+    let from = u128::from(first) + u128::from(j) * u128::from(width);
+    let ends = ends_of(tree, pass, shot, from, from + u128::from(width));
+    total_at(tree, pass, shot, ends)
+}
+
+impl Shot {
+    /// Takes a shot of the map: freezes the tree at one moment of the call, and rebuilds it.
+    ///
+    /// Its position isn't before what the pass had seen. The calls of the pass are as before. `Full`
+    /// where the tree had too few words left for a row of the rebuild's start; then none was taken.
+    pub fn take<R: Wait>(tree: &Tree, rt: &R, pass: &mut Pass) -> Result<Shot, Full>
+        requires same_tree { pass.old.tree ≡ tree.now }
+        ensures seen { HasSeenMore pass.old pass.new }
+        ensures frozen { IfOk result (IsFrozenFor pass.new) }
+        ensures taken { IfOk result (HasTaken pass.old pass.new) }
+        ensures full { IfErr result (IsFreezeRefused pass.old pass.new) }
+        ensures unstarted { OnErr result (HasStartedNone pass.old pass.new) }
+        ensures calls { pass.new.calls ≡ pass.old.calls }
+        ensures unrefused { OnErr result (pass.new.refused ≡ pass.old.refused) }
+        ensures refused { KeepsRefusal pass.old pass.new }
+    {
+        let frozen = tree.freeze(rt, pass)?;
+        pass.know();
+        Ok(Shot { frozen })
+    }
+
+    // What was frozen.
+    pub(crate) fn frozen(&self) -> Frozen
+        ensures value { result ≡ self.now }
+    {
+        self.frozen
+    }
+
+    /// How many pairs it has.
+    pub fn keys(&self) -> u64
+        ensures value { result ≡ self.now.keys }
+    {
+        self.frozen.keys
+    }
+
+    /// The pairs with keys from `first` to `last`, both included, rising by key; none where `first` is
+    /// above `last`. Looks at about two logarithms of pairs to find the ends, and then at those that
+    /// it lists. Fails for want of memory alone.
+    pub fn list(
+        &self,
+        alloc: Global,
+        tree: &Tree,
+        pass: &mut Pass,
+        first: u64,
+        last: u64,
+    ) -> Result<Vec<Pair>, AllocError>
+        requires same_tree { pass.old.tree ≡ tree.now }
+        requires frozen { IsFrozenFor pass.old self.now }
+        ensures looked { HasLooked pass.old pass.new }
+        ensures list { IfOk result (λ v. (position : ℕ) → IsOf pass.old position self.now
+            → v.items ≡ listed first last (map_seen pass.old position)) }
+    {
+        pass.know();
+        if first > last {
+            return Ok(Vec::new(alloc));
+        }
+        let shot = self.frozen;
+        let ends = ends_of(tree, pass, shot, u128::from(first), u128::from(last) + 1);
+        list_at(alloc, tree, pass, shot, ends)
+    }
+
+    /// How many pairs have keys from `first` to `last`, both included, the sum of their values, the
+    /// least and the greatest of them. Takes no memory.
+    pub fn total(&self, tree: &Tree, pass: &mut Pass, first: u64, last: u64) -> Total
+        requires same_tree { pass.old.tree ≡ tree.now }
+        requires frozen { IsFrozenFor pass.old self.now }
+        ensures looked { HasLooked pass.old pass.new }
+        ensures total { (position : ℕ) → IsOf pass.old position self.now
+            → result ≡ total_of (listed first last (map_seen pass.old position)) }
+    {
+        pass.know();
+        if first > last {
+            return Total::of_none();
+        }
+        let shot = self.frozen;
+        let ends = ends_of(tree, pass, shot, u128::from(first), u128::from(last) + 1);
+        total_at(tree, pass, shot, ends)
+    }
+
+    /// The totals of bins of one width: entry `j` becomes that of the keys from `first + j * width` to
+    /// `first + (j + 1) * width - 1`, whatever it was. A bin above all keys has no pairs. Takes no
+    /// memory.
+    pub fn bins(&self, tree: &Tree, pass: &mut Pass, first: u64, width: u64, out: &mut [Total])
+        requires same_tree { pass.old.tree ≡ tree.now }
+        requires frozen { IsFrozenFor pass.old self.now }
+        requires some { 1 ≤ width }
+        ensures looked { HasLooked pass.old pass.new }
+        ensures same { length out.new ≡ length out.old }
+        ensures bins { (position : ℕ) → IsOf pass.old position self.now
+            → (j : ℕ) → j < length out.old
+            → slice_get out.new j
+            ≡ Some (total_of (in_bin (map_seen pass.old position) first width j)) }
+    {
+        pass.know();
+        for j in 0..out.len() {
+            out[j] = bin_at(tree, pass, self.frozen, first, width, j as u64);
+        }
+    }
+
+    /// A walk over the pairs with keys from `first` to `last`, both included.
+    pub fn walk(&self, first: u64, last: u64) -> Walk
+        ensures shot { result.shot ≡ self.now }
+        ensures first { result.first ≡ first }
+        ensures last { result.last ≡ last }
+        ensures way { (p : PassFace) → HasWalked p result }
+    {
+        Walk::new(self.frozen, first, last)
+    }
+}
