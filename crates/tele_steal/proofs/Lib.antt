@@ -1,0 +1,5 @@
+pub mod RunLemmas
+pub mod ShuffleLemmas
+pub mod ViewLemmas
+pub mod TallyLemmas
+pub mod OrderLemmas

@@ -1,0 +1,99 @@
+use Rattle.std.proofs.Common.{◌++◌, All, map, length, IsPermutation, sym, ap, ◌∙◌, subst, arith}
+use Rattle.std.proofs.lemmas.List.{length-map}
+use Rattle.std.proofs.lemmas.List.Sorted.{length_permutation}
+use Rattle.crossbeam_deque.specs.Handles.{IsPassOf, worker_view}
+use Rattle.tele_steal.specs.declared.tallies.Hand.{Hand}
+use Rattle.tele_steal.specs.Runs.{ticket}
+use Rattle.tele_steal.proofs.TallyLemmas.{is_owners}
+use Rattle.tele_steal.proofs.RunLemmas.{same_length}
+use Rattle.tele_steal.proofs.OrderLemmas.{all_home, as_many}
+use Rattle.tele_steal.proofs.stealing.run_shared.Goals as goal
+
+-- the deque has room for all
+pub put_in-requires-clause-few : goal.put_in-requires-clause-few
+put_in-requires-clause-few g c =
+    let put = ap (λ v. length v.put) c.hire_all.ensures.owner in omega (arith, put, c.requires.few)
+
+-- what is kept isn't more than there was
+pub run_kept-requires-clause-room : goal.run_kept-requires-clause-room
+run_kept-requires-clause-room g c =
+    let n = as_many (worker_view c.hire_all.new.owner).put c.args.lanes.items (worker_view c.put_in.new.owner).put
+    c.put_in.new.kept.items (ap (λ v. v.put) c.hire_all.ensures.owner) c.put_in.ensures.shared in
+    omega (arith, n, c.put_in.ensures.lane_room, c.args.lanes.ok)
+
+-- the passes are of this deque
+pub work_hands-requires-clause-tables : goal.work_hands-requires-clause-tables
+work_hands-requires-clause-tables g c κs within =
+    subst (λ d. All (λ (h : Hand g.row.P.Denot g.row.P-Tie.Denot). IsPassOf d h.pass) c.hire_all.new.hands.items)
+    (sym c.requires.ready.same) c.hire_all.ensures.tables
+
+pub take_back-requires-clause-tables : goal.take_back-requires-clause-tables
+take_back-requires-clause-tables g c =
+    subst (λ d. All (λ (h : Hand g.row.P.Denot g.row.P-Tie.Denot). IsPassOf d h.pass) c.work_hands.new.hands.items)
+    (c.requires.ready.same ∙ sym (c.put_in.ensures.same.0 ∙ c.hire_all.ensures.same.0)) c.work_hands.ensures.tables
+
+-- there is room for all lanes
+pub take_back-requires-clause-lane_room : goal.take_back-requires-clause-lane_room
+take_back-requires-clause-lane_room g c =
+    let t = ticket g.P.Port.tie in
+    let n = as_many (worker_view c.hire_all.new.owner).put c.args.lanes.items (worker_view c.put_in.new.owner).put
+    c.put_in.new.kept.items (ap (λ v. v.put) c.hire_all.ensures.owner) c.put_in.ensures.shared in
+    let m = length_permutation (map t c.put_in.new.kept.items) (map t c.run_kept.new.lanes.items) c.run_kept.ensures.tickets in
+    let a = length-map c.put_in.new.kept.items t in
+    let b = length-map c.run_kept.new.lanes.items t in
+    omega (arith, n, m, a, b, c.put_in.ensures.lane_room, c.run_kept.ensures.lane_room, c.args.lanes.ok)
+
+pub draw_all-requires-clause-room : goal.draw_all-requires-clause-room
+draw_all-requires-clause-room g c =
+    let t = ticket g.P.Port.tie in
+    let n = as_many (worker_view c.hire_all.new.owner).put c.args.lanes.items (worker_view c.put_in.new.owner).put
+    c.put_in.new.kept.items (ap (λ v. v.put) c.hire_all.ensures.owner) c.put_in.ensures.shared in
+    let m = length_permutation (map t c.put_in.new.kept.items) (map t c.run_kept.new.lanes.items) c.run_kept.ensures.tickets in
+    let a = length-map c.put_in.new.kept.items t in
+    let b = length-map c.run_kept.new.lanes.items t in
+    let put = ap (λ v. length v.put) c.take_back.ensures.owner in
+    let back = (worker_view c.take_back.new.owner).back in
+    let all = same_length t c.run_kept.new.lanes.items c.take_back.new.lanes.items (map t back) c.take_back.ensures.tickets in
+    let d = length-map back t in
+    omega (arith, n, m, a, b, d, put, all, c.put_in.ensures.lane_room, c.run_kept.ensures.lane_room, c.take_back.ensures.lane_room, c.args.lanes.ok)
+
+-- the yard is ready again
+pub returns-clause-ready : goal.returns-clause-ready
+returns-clause-ready g c =
+    let was = c.requires.ready in
+    let hired = c.hire_all.ensures in
+    let put = c.put_in.ensures in
+    let worked = c.work_hands.ensures in
+    let took = c.take_back.ensures in
+    let drew = c.draw_all.ensures in
+    record {
+      same = was.same ∙ sym (drew.same.0 ∙ took.same.0 ∙ put.same.0 ∙ hired.same.0);
+      owner_first = drew.same.1 ∙ took.same.1 ∙ put.same.1 ∙ hired.same.1 ∙ was.owner_first;
+      thief_first = was.thief_first;
+      owners = is_owners _ _ _ _ drew.owner;
+      alone = ap (λ v. v.out) drew.owner;
+      settled = drew.settled;
+      some = omega (arith, was.some, took.bags, worked.count, hired.count);
+      empty = took.empty;
+      wide = took.wide;
+      no_hands = took.no_hands;
+      seats = omega (arith, was.seats, took.hand_room, worked.seats, hired.hand_room, took.bags, worked.count, hired.count);
+      no_kept = c.run_kept.ensures.none_kept;
+      keeps = omega (arith, was.keeps, c.run_kept.ensures.room, put.room);
+    }
+
+-- all came back
+pub returns-clause-tickets : goal.returns-clause-tickets
+returns-clause-tickets g c =
+    let t = ticket g.P.Port.tie in
+    let put = (worker_view c.put_in.new.owner).put in
+    let kept = c.put_in.new.kept.items in
+    let back = (worker_view c.draw_all.new.owner).back in
+    let one = c.run_kept.new.lanes.items in
+    let none = ap (λ v. v.put) c.hire_all.ensures.owner in
+    let same = ap (λ v. v.put) c.draw_all.ensures.owner ∙ ap (λ v. v.put) c.take_back.ensures.owner in
+    all_home t c.args.lanes.items put kept back one c.draw_all.new.lanes.items
+    (subst (λ z. IsPermutation (z ++ c.args.lanes.items) (put ++ kept)) none c.put_in.ensures.shared)
+    c.run_kept.ensures.tickets
+    (subst (λ z. IsPermutation z back) same c.draw_all.ensures.settled)
+    (c.draw_all.ensures.tickets (map t one) c.take_back.ensures.tickets)

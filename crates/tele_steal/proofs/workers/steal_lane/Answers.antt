@@ -1,0 +1,19 @@
+use Rattle.std.proofs.Common.{subst, rules, arith}
+use Rattle.std.proofs.Common.{◌≡◌, []}
+use Rattle.tele_steal.proofs.TallyLemmas.{takes}
+use Rattle.tele_steal.proofs.ViewLemmas.{no_elements}
+use Rattle.tele_steal.specs.Tallies.{Balances}
+use Rattle.tele_steal.specs.Runs.{IsFresh}
+use Rattle.tele_steal.proofs.workers.steal_lane.Goals as goal
+
+-- the pass is a worker's
+pub steal_as-requires-clause-takes : goal.steal_as-requires-clause-takes
+steal_as-requires-clause-takes g c = takes _ _ _ (search rules)
+
+-- an empty deque teaches the lesson
+pub steal_as-requires-clause-empty : goal.steal_as-requires-clause-empty
+steal_as-requires-clause-empty g c items views few b at =
+    let none : items ≡ [] = no_elements items
+    (let first = c.requires.first_in in omega (arith, few, first)) in
+    c.requires.lesson views _ _
+    (subst (λ z. Balances (IsFresh g.P.Port.calls g.P.Port.refused) z views) none b) at

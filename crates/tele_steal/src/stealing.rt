@@ -1,0 +1,145 @@
+//! Lanes run by workers that steal them.
+ghost use Rattle.std.specs.Prelude.{◌≡◌, ◌<◌, ◌≤◌, [], map, All, length, None, Some, IfSome, IfNone, slice_get, option_map};
+ghost use Rattle.std.specs.List.Sorted.{IsPermutation, IsNonDecreasingBy, IsStrictlyIncreasing};
+ghost use Rattle.tele_lanes.specs.Lines.{commands_of, AnswerInOrder, CallInOrder, TellReplies};
+ghost use Rattle.tele_steal.specs.Runs.{IsFresh, HasRun, ticket};
+ghost use Rattle.tele_steal.specs.Yards.{IsReady};
+
+use crate::collecting::{draw_all, hire_all, put_in, run_kept, take_back};
+use crate::tallies::{Hand, Owner, Thief};
+use crate::workers::work_hands;
+use crate::yards::Yard;
+use ist_core::Port;
+use std::sync::Wait;
+use std::thread::Threads;
+use tele_lanes::{Gate, Lane};
+
+/// Runs the lanes by the workers of the yard, and hands them back in the order of their numbers.
+///
+/// Each worker has a thread of its own where one can be started. It takes the first lane that no other took, runs it
+/// as `tele_lanes::run_lanes` does, and so on until there is none. A lane that the deque has no memory for
+/// is run by the caller first. Takes no other memory, and is never refused.
+pub fn run_stolen<R: Threads + Wait + Sync, P: Port + Send, G: Gate + Sync>(
+    rt: &R,
+    gate: &G,
+    yard: &mut Yard<P>,
+    lanes: Vec<Lane<P>>,
+) -> Vec<Lane<P>>
+    requires empty { All (λ l. l.answers.list ≡ []) lanes.items }
+    requires room { All (λ l. length l.tasks ≤ l.answers.room) lanes.items }
+    requires no_calls { All (λ l. P.calls l.port ≡ []) lanes.items }
+    requires unrefused { All (λ l. P.refused l.port ≡ None) lanes.items }
+    requires numbers { IsStrictlyIncreasing (map (λ l. l.number) lanes.items) }
+    requires fits { length lanes.items ≤ yard.old.lanes }
+
+    // Each lane is handed back once, at its own place.
+    ensures numbers { map (λ l. l.number) result.items ≡ map (λ l. l.number) lanes.items }
+    ensures tasks { map (λ l. l.tasks) result.items ≡ map (λ l. l.tasks) lanes.items }
+    ensures ties { map (λ l. P.tie l.port) result.items ≡ map (λ l. P.tie l.port) lanes.items }
+
+    // What was done is a first part of the tasks, in order, and each call has its answer.
+    ensures calls { All (λ l. CallInOrder l.tasks (P.calls l.port)) result.items }
+    ensures answers { All (λ l. AnswerInOrder l.tasks l.answers.list) result.items }
+    ensures replies { All (λ l. TellReplies (P.calls l.port) l.answers.list) result.items }
+
+    // A lane stops where its port refuses the first task without an answer, and nowhere else.
+    ensures stopped { All (λ l. l.stopped ≡ option_map (λ r. r.full) (P.refused l.port)) result.items }
+    ensures refused { All (λ l. IfSome (P.refused l.port) (λ r.
+        slice_get (commands_of l.tasks) (length (P.calls l.port)) ≡ Some r.command)) result.items }
+    ensures whole { All (λ l. IfNone l.stopped
+        (length (P.calls l.port) ≡ length l.tasks)) result.items }
+
+    ensures yard { yard.new ≡ yard.old }
+{
+    run_ordered(
+        rt,
+        gate,
+        &mut yard.owner,
+        &yard.thief,
+        &mut yard.bags,
+        &mut yard.hands,
+        &mut yard.kept,
+        lanes,
+    )
+}
+
+/// The same over the parts of a yard.
+fn run_ordered<R: Threads + Wait + Sync, P: Port + Send, G: Gate + Sync>(
+    rt: &R,
+    gate: &G,
+    owner: &mut Owner<P>,
+    thief: &Thief<P>,
+    bags: &mut Vec<Vec<Lane<P>>>,
+    hands: &mut Vec<Hand<P>>,
+    kept: &mut Vec<Lane<P>>,
+    lanes: Vec<Lane<P>>,
+) -> Vec<Lane<P>>
+    requires ready { IsReady owner.old thief.now bags.old.items hands.old kept.old }
+    requires empty { All (λ l. l.answers.list ≡ []) lanes.items }
+    requires room { All (λ l. length l.tasks ≤ l.answers.room) lanes.items }
+    requires no_calls { All (λ l. P.calls l.port ≡ []) lanes.items }
+    requires unrefused { All (λ l. P.refused l.port ≡ None) lanes.items }
+    requires numbers { IsStrictlyIncreasing (map (λ l. l.number) lanes.items) }
+    requires few { length lanes.items ≤ 64 }
+    ensures ready { IsReady owner.new thief.now bags.new.items hands.new kept.new }
+    ensures count { length bags.new.items ≡ length bags.old.items }
+    // Each lane is handed back once, at its own place.
+    ensures numbers { map (λ l. l.number) result.items ≡ map (λ l. l.number) lanes.items }
+    ensures tasks { map (λ l. l.tasks) result.items ≡ map (λ l. l.tasks) lanes.items }
+    ensures ties { map (λ l. P.tie l.port) result.items ≡ map (λ l. P.tie l.port) lanes.items }
+
+    // What was done is a first part of the tasks, in order, and each call has its answer.
+    ensures calls { All (λ l. CallInOrder l.tasks (P.calls l.port)) result.items }
+    ensures answers { All (λ l. AnswerInOrder l.tasks l.answers.list) result.items }
+    ensures replies { All (λ l. TellReplies (P.calls l.port) l.answers.list) result.items }
+
+    // A lane stops where its port refuses the first task without an answer, and nowhere else.
+    ensures stopped { All (λ l. l.stopped ≡ option_map (λ r. r.full) (P.refused l.port)) result.items }
+    ensures refused { All (λ l. IfSome (P.refused l.port) (λ r.
+        slice_get (commands_of l.tasks) (length (P.calls l.port)) ≡ Some r.command)) result.items }
+    ensures whole { All (λ l. IfNone l.stopped
+        (length (P.calls l.port) ≡ length l.tasks)) result.items }
+{
+    let shared = run_shared(rt, gate, owner, thief, bags, hands, kept, lanes);
+    in_order(shared)
+}
+
+/// The lanes by their numbers.
+fn in_order<P: Port>(lanes: Vec<Lane<P>>) -> Vec<Lane<P>>
+    ensures same { IsPermutation lanes.items result.items }
+    ensures rising { IsNonDecreasingBy (λ l. l.number) result.items }
+{
+    let mut lanes = lanes;
+    lanes.sort_unstable_by_key(|lane| lane.number);
+    lanes
+}
+
+/// Runs the lanes by the workers, and hands them back in any order.
+fn run_shared<R: Threads + Wait + Sync, P: Port + Send, G: Gate + Sync>(
+    rt: &R,
+    gate: &G,
+    owner: &mut Owner<P>,
+    thief: &Thief<P>,
+    bags: &mut Vec<Vec<Lane<P>>>,
+    hands: &mut Vec<Hand<P>>,
+    kept: &mut Vec<Lane<P>>,
+    lanes: Vec<Lane<P>>,
+) -> Vec<Lane<P>>
+    requires ready { IsReady owner.old thief.now bags.old.items hands.old kept.old }
+    requires fresh { All (IsFresh P.calls P.refused) lanes.items }
+    requires few { length lanes.items ≤ 64 }
+    ensures ready { IsReady owner.new thief.now bags.new.items hands.new kept.new }
+    ensures count { length bags.new.items ≡ length bags.old.items }
+    ensures tickets { IsPermutation (map (ticket P.tie) lanes.items)
+        (map (ticket P.tie) result.items) }
+    ensures ran { All (HasRun P.calls P.refused) result.items }
+{
+    let mut lanes = lanes;
+    hire_all(owner, bags, hands);
+    put_in(owner, &mut lanes, kept);
+    run_kept(rt, gate, kept, &mut lanes);
+    work_hands(rt, gate, thief, hands);
+    take_back(owner, hands, bags, &mut lanes);
+    draw_all(rt, gate, owner, &mut lanes);
+    lanes
+}
