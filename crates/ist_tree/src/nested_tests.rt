@@ -258,7 +258,7 @@ fn holds_all<R: Wait>(tree: &Tree, rt: &R, pass: &mut Pass) -> bool
 }
 
 #[test]
-fn a_rebuild_below_a_marked_row_is_left_to_the_rebuild_of_that_row(
+fn a_lower_rebuild_is_done_unless_the_row_above_was_marked_before(
     rt: HostRuntime,
 ) -> Result<(), Fail> {
     // whether the lower rebuild is helped before the top row is marked, and what its help answers then
