@@ -1,0 +1,298 @@
+-- What the first bytes of a dump tell, and dumps of lawful words. Serves `audits` and the laws.
+use Rattle.std.proofs.Common.{◌≡◌, ℕ, zero, suc, ◌-◌, ◌<◌, ◌≤◌, ◌^◌, ◌==◌, nat_eq, nat_lt}
+use Rattle.std.proofs.Common.{Bool, true, false, if◌then◌else◌, List, [], ◌∷◌, ◌++◌, length, take}
+use Rattle.std.proofs.Common.{drop, get_or, replicate, Some, None, refl, sym, ap, ◌∙◌, subst}
+use Rattle.std.proofs.Common.{arith}
+use Rattle.std.specs.List.{starts_with, flat_map}
+use Rattle.std.specs.Cmp.Lexicographic.{same_text}
+use Rattle.std.proofs.lemmas.Bool.Decides.{nat_tests}
+use Rattle.std.proofs.lemmas.List.{take-append-drop, length-drop, length-append, length-replicate}
+use Rattle.std.proofs.lemmas.List.{take_at, drop-drop}
+use Rattle.std.proofs.lemmas.List.{get_or_append_left}
+use Rattle.ist_core.specs.declared.pairs.Pair.{Pair}
+use Rattle.ist_core.specs.RowLayout.{first_row, place_limit, next_place, anchor_status_place}
+use Rattle.ist_words.specs.WordRows.{word_at}
+use Rattle.ist_words.specs.Laws.{ZerosChangeNothing}
+use Rattle.ist_words.specs.RestingWords.{HasGoodBounds, AreLawful, BreaksFirstAt}
+use Rattle.ist_words.specs.Walks.{first_visit}
+use Rattle.tele_audit.specs.declared.flaws.Flaw.TheVariants.{Magic, Short, Size, Used, Long, Anchor}
+use Rattle.tele_audit.specs.Dumps.{magic, number_bytes, used_words, dump_of, IsLawfulDump}
+use Rattle.tele_audit.specs.Flaws.{number_of, numbers_in, count_told, used_told, dump_length}
+use Rattle.tele_audit.specs.Flaws.{words_told, table_told, is_out, head_flaw, length_flaw}
+use Rattle.tele_audit.specs.Flaws.{anchor_flaw, flaw_or, flaw_before_rows, BreaksAtRow}
+use Rattle.tele_audit.specs.Taking.{AreBytes}
+use Rattle.tele_audit.proofs.NumberLemmas.{bytes-drop, number_of_inside}
+use Rattle.tele_audit.proofs.NumberLemmas.{number_bytes-number_of, length_numbers_in}
+use Rattle.tele_audit.proofs.NumberLemmas.{get_or_numbers_in, bytes_of_numbers}
+
+-- ---- tests
+
+-- no test of the head names a flaw
+record IsUnnamed (m s z t u : Bool) : Type 0 where
+  pub begins : m ≡ true
+  pub sixteen : s ≡ false
+  pub count : z ≡ false
+  pub long : t ≡ false
+  pub used : u ≡ false
+
+picked : (m s z t u : Bool)
+    → (if m then (if s then Some Short else (if z then Some Size else (if t then Some Short else
+    (if u then Some Used else None)))) else Some Magic) ≡ None
+    → IsUnnamed m s z t u
+picked false s z t u e = absurd (cc)
+picked true true z t u e = absurd (cc)
+picked true false true t u e = absurd (cc)
+picked true false false true u e = absurd (cc)
+picked true false false false true e = absurd (cc)
+picked true false false false false e = record {
+  begins = refl;
+  sixteen = refl;
+  count = refl;
+  long = refl;
+  used = refl;
+}
+
+in_bounds : (low high n : ℕ) → is_out low high n ≡ false → (low ≤ n) × (n ≤ high)
+in_bounds low high n e = (grind (arith, nat_tests), grind (arith, nat_tests))
+
+-- ---- the head
+
+-- the first numbers are in good shape
+pub record IsGoodHead (bytes : List ℕ) : Type 0 where
+  pub begins : starts_with nat_eq bytes magic ≡ true
+  pub long : 24 ≤ length bytes
+  pub count : (first_row ≤ count_told bytes) × (count_told bytes ≤ place_limit)
+  pub used : (first_row ≤ used_told bytes) × (used_told bytes ≤ count_told bytes)
+
+pub good_head : (bytes : List ℕ) → head_flaw bytes ≡ None → IsGoodHead bytes
+good_head bytes e =
+    let p = picked (starts_with nat_eq bytes magic) (nat_lt (length bytes) 16)
+    (is_out first_row place_limit (count_told bytes)) (nat_lt (length bytes) 24)
+    (is_out first_row (count_told bytes) (used_told bytes)) e in
+    let t = p.long in
+    record {
+      begins = p.begins;
+      long = grind (arith, nat_tests);
+      count = in_bounds first_row place_limit (count_told bytes) p.count;
+      used = in_bounds first_row (count_told bytes) (used_told bytes) p.used;
+    }
+
+-- bytes that begin so begin with these
+begin_magic : (bytes : List ℕ) → starts_with nat_eq bytes magic ≡ true → take 8 bytes ≡ magic
+begin_magic bytes e = sym (same_text magic (take 8 bytes) (sym e))
+
+-- more bytes change nothing of the head
+module _ (xs ys : List ℕ) (long : 24 ≤ length xs) where
+  pub count_front : count_told (xs ++ ys) ≡ count_told xs
+  count_front = number_of_inside 8 xs ys (omega arith)
+
+  pub used_front : used_told (xs ++ ys) ≡ used_told xs
+  used_front = number_of_inside 16 xs ys (omega arith)
+
+-- ---- the length
+
+-- which test of the length names a flaw
+sized : (a b : Bool) → (if a then Some Short else (if b then Some Long else None)) ≡ None
+    → (a ≡ false) × (b ≡ false)
+sized true b e = absurd (cc)
+sized false true e = absurd (cc)
+sized false false e = (refl, refl)
+
+-- the length is that of a dump
+pub good_length : (bytes : List ℕ) → length_flaw bytes ≡ None
+    → length bytes ≡ dump_length (used_told bytes)
+good_length bytes e =
+    let n = dump_length (used_told bytes) in
+    let p = sized (nat_lt (length bytes) n) (nat_lt n (length bytes)) e in
+    let a : nat_lt (length bytes) n ≡ false = p.0 in
+    let b : nat_lt n (length bytes) ≡ false = p.1 in
+    grind (arith, nat_tests)
+
+-- ---- words that are told
+
+-- words below 2^64 with zeros behind them
+fit_zeros : (xs : List ℕ) (n : ℕ) → ((i : ℕ) → get_or xs i 0 < 2 ^ 64)
+    → (i : ℕ) → get_or (xs ++ replicate n 0) i 0 < 2 ^ 64
+fit_zeros [] zero h i = h i
+fit_zeros [] (suc n) h zero = h 0
+fit_zeros [] (suc n) h (suc i) = fit_zeros [] n (λ j. h (suc j)) i
+fit_zeros (x ∷ xs) n h zero = h 0
+fit_zeros (x ∷ xs) n h (suc i) = fit_zeros xs n (λ j. h (suc j)) i
+
+-- nothing is wrong before the rows
+none_before : (bytes : List ℕ) → head_flaw bytes ≡ None → length_flaw bytes ≡ None
+    → word_at (words_told bytes) anchor_status_place ≡ 0 → flaw_before_rows bytes ≡ None
+none_before bytes h l open_anchor =
+    let a : anchor_flaw bytes ≡ None =
+    ap (λ (w : ℕ). if w == 0 then None else Some Anchor) open_anchor in
+    ap (λ f. flaw_or f (flaw_or (length_flaw bytes) (anchor_flaw bytes))) h
+    ∙ ap (λ f. flaw_or f (anchor_flaw bytes)) l
+    ∙ a
+
+-- the words of a dump whose head and length are in good shape
+module _ (bytes : List ℕ) (head : IsGoodHead bytes)
+    (whole : length bytes ≡ dump_length (used_told bytes)) where
+  -- as many as are used
+  pub length_told : length (words_told bytes) ≡ used_told bytes
+  length_told = length_numbers_in (used_told bytes) (drop 16 bytes)
+
+  -- the first of them says so
+  pub first_told : word_at (words_told bytes) next_place ≡ used_told bytes
+  first_told =
+      let some = head.used.0 in
+      get_or_numbers_in (used_told bytes) (drop 16 bytes) 0 (omega arith)
+
+  -- they are in bounds, where the anchor is open
+  pub bounds_told : word_at (words_told bytes) anchor_status_place ≡ 0
+      → HasGoodBounds (words_told bytes)
+  bounds_told open_anchor =
+      let l = length_told in
+      let f = first_told in
+      let u = head.used in
+      let c = head.count in
+      record {
+        least = omega arith;
+        most = omega arith;
+        low = omega arith;
+        high = omega arith;
+        anchor_status = open_anchor;
+        free = λ place from to. absurd (omega arith);
+      }
+
+  -- the whole table has as many words as the dump says
+  pub length_table : length (table_told bytes) ≡ count_told bytes
+  length_table =
+      let l = length_told in
+      let a = length-append (words_told bytes) (replicate (count_told bytes - used_told bytes) 0) in
+      let r = length-replicate (count_told bytes - used_told bytes) zero in
+      let u = head.used in
+      omega arith
+
+  -- the first word of the table
+  pub first_table : word_at (table_told bytes) next_place ≡ used_told bytes
+  first_table =
+      let l = length_told in
+      let u = head.used in
+      get_or_append_left (words_told bytes) (replicate (count_told bytes - used_told bytes) 0) 0 0
+      (omega arith)
+      ∙ first_told
+
+  -- its used words
+  pub used_table : used_words (table_told bytes) ≡ words_told bytes
+  used_table =
+      ap (λ n. take n (table_told bytes)) first_table
+      ∙ take_at (words_told bytes) (replicate (count_told bytes - used_told bytes) 0)
+      (used_told bytes) length_told
+
+  -- the bytes are its dump
+  pub dumped_table : AreBytes bytes → bytes ≡ dump_of (table_told bytes)
+  dumped_table are =
+      let u = head.used in
+      let long = head.long in
+      let l8 = length-drop 8 bytes in
+      let l16 = length-drop 16 bytes in
+      let first : take 8 bytes ≡ magic = begin_magic bytes head.begins in
+      let count : take 8 (drop 8 bytes) ≡ number_bytes (length (table_told bytes)) =
+      sym (number_bytes-number_of (drop 8 bytes) (bytes-drop 8 bytes are) (omega arith))
+      ∙ ap number_bytes (sym length_table) in
+      let words : drop 16 bytes ≡ flat_map number_bytes (used_words (table_told bytes)) =
+      sym (bytes_of_numbers (used_told bytes) (drop 16 bytes) (bytes-drop 16 bytes are) (omega arith))
+      ∙ ap (flat_map number_bytes) (sym used_table) in
+      let rest : drop 8 bytes ≡ take 8 (drop 8 bytes) ++ drop 16 bytes =
+      sym (take-append-drop 8 (drop 8 bytes))
+      ∙ ap (λ xs. take 8 (drop 8 bytes) ++ xs) (drop-drop 8 8 bytes) in
+      sym (take-append-drop 8 bytes)
+      ∙ ap (λ (xs : List ℕ). xs ++ drop 8 bytes) first
+      ∙ ap (λ xs. magic ++ xs) (rest ∙ ap (λ (xs : List ℕ). xs ++ drop 16 bytes) count
+      ∙ ap (λ xs. number_bytes (length (table_told bytes)) ++ xs) words)
+
+  module _ (zeros : ZerosChangeNothing) where
+    -- zeros behind the used words
+    behind : ((pairs : List Pair) → AreLawful (words_told bytes) pairs
+        → AreLawful (table_told bytes) pairs)
+        × ((place : ℕ)
+        → BreaksFirstAt (words_told bytes) [] (first_visit (words_told bytes) ∷ []) place
+        → BreaksFirstAt (table_told bytes) [] (first_visit (table_told bytes) ∷ []) place)
+    behind =
+        let l = length_told in
+        let u = head.used in
+        let c = head.count in
+        zeros (words_told bytes) (count_told bytes - used_told bytes) (omega arith)
+        (first_told ∙ sym length_told) (omega arith)
+
+    -- what is told of bytes whose words are lawful
+    pub told_lawfully : AreBytes bytes
+        → ((place : ℕ) → word_at (words_told bytes) place < 2 ^ 64)
+        → (pairs : List Pair) → AreLawful (words_told bytes) pairs
+        → IsLawfulDump bytes record {
+          words = count_told bytes;
+          used = used_told bytes;
+          pairs = pairs;
+        }
+    told_lawfully are fit pairs lawful =
+        record {
+          table = table_told bytes;
+          fit = fit_zeros (words_told bytes) (count_told bytes - used_told bytes) fit;
+          lawful = behind.0 pairs lawful;
+          dumped = dumped_table are;
+          words = sym length_table;
+          used = sym first_table;
+        }
+
+    -- where the words of the table break
+    pub told_broken : word_at (words_told bytes) anchor_status_place ≡ 0
+        → head_flaw bytes ≡ None → length_flaw bytes ≡ None → (place : ℕ)
+        → BreaksFirstAt (words_told bytes) [] (first_visit (words_told bytes) ∷ []) place
+        → BreaksAtRow bytes place
+    told_broken open_anchor h l place first =
+        record {
+          before = none_before bytes h l open_anchor;
+          breaks = behind.1 place first;
+        }
+
+-- what is read of the bytes is what they tell
+pub told_is : (bytes now : List ℕ) (used : ℕ) (words : List ℕ) → now ≡ bytes
+    → used ≡ number_of (drop 16 now) → words ≡ numbers_in used (drop 16 bytes)
+    → words ≡ words_told bytes
+told_is bytes now used words e f g =
+    g ∙ ap (λ n. numbers_in n (drop 16 bytes)) (f ∙ ap (λ xs. number_of (drop 16 xs)) e)
+
+module _ (bytes words : List ℕ) (head : head_flaw bytes ≡ None)
+    (whole : length_flaw bytes ≡ None) (is : words ≡ words_told bytes) where
+  good : IsGoodHead bytes
+  good = good_head bytes head
+
+  exact : length bytes ≡ dump_length (used_told bytes)
+  exact = good_length bytes whole
+
+  pub read_long : 2 < length words
+  read_long =
+      let l = length_told bytes good exact in
+      let e = ap (λ (xs : List ℕ). length xs) is in
+      let u = good.used.0 in
+      omega arith
+
+  pub read_bounds : word_at words anchor_status_place ≡ 0 → HasGoodBounds words
+  read_bounds open_anchor =
+      subst HasGoodBounds (sym is)
+      (bounds_told bytes good exact (subst (λ xs. word_at xs anchor_status_place ≡ 0) is open_anchor))
+
+  pub read_lawfully : ZerosChangeNothing → AreBytes bytes
+      → ((place : ℕ) → word_at words place < 2 ^ 64)
+      → (count used : ℕ) (pairs : List Pair) → count ≡ count_told bytes → used ≡ used_told bytes
+      → AreLawful words pairs
+      → IsLawfulDump bytes record { words = count; used = used; pairs = pairs }
+  read_lawfully zeros are fit count used pairs c u lawful =
+      subst (λ n. IsLawfulDump bytes record { words = n; used = used; pairs = pairs }) (sym c)
+      (subst (λ n. IsLawfulDump bytes record { words = count_told bytes; used = n; pairs = pairs })
+      (sym u)
+      (told_lawfully bytes good exact zeros are
+      (subst (λ xs. (place : ℕ) → word_at xs place < 2 ^ 64) is fit) pairs
+      (subst (λ xs. AreLawful xs pairs) is lawful)))
+
+  pub read_broken : ZerosChangeNothing → word_at words anchor_status_place ≡ 0 → (place : ℕ)
+      → BreaksFirstAt words [] (first_visit words ∷ []) place → BreaksAtRow bytes place
+  read_broken zeros open_anchor place first =
+      told_broken bytes good exact zeros
+      (subst (λ xs. word_at xs anchor_status_place ≡ 0) is open_anchor) head whole place
+      (subst (λ xs. BreaksFirstAt xs [] (first_visit xs ∷ []) place) is first)

@@ -1,0 +1,264 @@
+-- What the bytes that were taken from a source say of all that it had. Serves `audits.audit`.
+use Rattle.std.proofs.Common.{◌≡◌, ℕ, ◌+◌, ◌*◌, ◌≤◌, nat_eq, nat_lt, Bool, true}
+use Rattle.std.proofs.Common.{false, if◌then◌else◌, List, [], ◌++◌, length, drop, Option, Some}
+use Rattle.std.proofs.Common.{None, IfSome, IfOk, OnOk, Result, Ok, Err, refl, sym, ap, ◌∙◌, subst, arith}
+use Rattle.std.proofs.Common.{⊎_elim}
+use Rattle.std.specs.List.{starts_with}
+use Rattle.std.proofs.lemmas.Bool.Decides.{nat_tests}
+use Rattle.std.proofs.lemmas.List.{take-append-le, length-append, append-nil}
+use Rattle.ist_core.specs.RowLayout.{first_row, place_limit}
+use Rattle.tele_audit.specs.declared.flaws.Flaw.{Flaw}
+use Rattle.tele_audit.specs.declared.flaws.Flaw.TheVariants.{Magic, Short, Size, Used, Long, Anchor, Row}
+use Rattle.tele_audit.specs.Dumps.{magic}
+use Rattle.tele_audit.specs.Flaws.{number_of, count_told, used_told, dump_length, is_out, head_flaw, length_flaw}
+use Rattle.tele_audit.specs.Flaws.{anchor_flaw, flaw_or, flaw_before_rows, IsFirstFlaw}
+use Rattle.tele_audit.specs.Taking.{Takes, AreEnough, Extends}
+use Rattle.tele_audit.proofs.DumpLemmas.{count_front, used_front, good_head, good_length}
+
+-- ---- flaws before the rows
+
+-- the flaw names no row
+abbrev pub IsPlain : Flaw → Type 0
+IsPlain (Row place) = ⊥
+IsPlain Magic = Unit {0}
+IsPlain Short = Unit {0}
+IsPlain Size = Unit {0}
+IsPlain Used = Unit {0}
+IsPlain Long = Unit {0}
+IsPlain Anchor = Unit {0}
+
+-- a flaw that some flaw is
+plain_is : (flaw other : Flaw) → IsPlain flaw → Some flaw ≡ Some other → IsPlain other
+plain_is flaw other p e = let same : flaw ≡ other = cc in subst IsPlain same p
+
+-- what the tests of the head name
+abbrev head_by : Bool → Bool → Bool → Bool → Bool → Option Flaw
+head_by m s z t u =
+    if m then (if s then Some Short else (if z then Some Size else (if t then Some Short else
+    (if u then Some Used else None)))) else Some Magic
+
+plain_head : (m s z t u : Bool) (flaw : Flaw) → head_by m s z t u ≡ Some flaw → IsPlain flaw
+plain_head false s z t u flaw e = plain_is Magic flaw tt e
+plain_head true true z t u flaw e = plain_is Short flaw tt e
+plain_head true false true t u flaw e = plain_is Size flaw tt e
+plain_head true false false true u flaw e = plain_is Short flaw tt e
+plain_head true false false false true flaw e = plain_is Used flaw tt e
+plain_head true false false false false flaw e = absurd (cc)
+
+-- what the tests of the length name
+abbrev length_by : Bool → Bool → Option Flaw
+length_by a b = if a then Some Short else (if b then Some Long else None)
+
+plain_length : (a b : Bool) (flaw : Flaw) → length_by a b ≡ Some flaw → IsPlain flaw
+plain_length true b flaw e = plain_is Short flaw tt e
+plain_length false true flaw e = plain_is Long flaw tt e
+plain_length false false flaw e = absurd (cc)
+
+-- a flaw before the rows is the first
+first_is : (bytes : List ℕ) (flaw : Flaw) → IsPlain flaw → flaw_before_rows bytes ≡ Some flaw
+    → IsFirstFlaw bytes flaw
+first_is bytes Magic p e = e
+first_is bytes Short p e = e
+first_is bytes Size p e = e
+first_is bytes Used p e = e
+first_is bytes Long p e = e
+first_is bytes Anchor p e = e
+first_is bytes (Row place) p e = absurd p
+
+first_of_head : (bytes : List ℕ) (flaw : Flaw) → head_flaw bytes ≡ Some flaw
+    → IsFirstFlaw bytes flaw
+first_of_head bytes flaw e =
+    first_is bytes flaw
+    (plain_head (starts_with nat_eq bytes magic) (nat_lt (length bytes) 16)
+    (is_out first_row place_limit (count_told bytes)) (nat_lt (length bytes) 24)
+    (is_out first_row (count_told bytes) (used_told bytes)) flaw e)
+    (ap (λ f. flaw_or f (flaw_or (length_flaw bytes) (anchor_flaw bytes))) e)
+
+first_of_length : (bytes : List ℕ) (flaw : Flaw) → head_flaw bytes ≡ None
+    → length_flaw bytes ≡ Some flaw → IsFirstFlaw bytes flaw
+first_of_length bytes flaw h e =
+    first_is bytes flaw
+    (plain_length (nat_lt (length bytes) (dump_length (used_told bytes)))
+    (nat_lt (dump_length (used_told bytes)) (length bytes)) flaw e)
+    (ap (λ f. flaw_or f (flaw_or (length_flaw bytes) (anchor_flaw bytes))) h
+    ∙ ap (λ f. flaw_or f (anchor_flaw bytes)) e)
+
+-- ---- more bytes
+
+-- a number of a list and of a longer one are on one side of a bound
+same_side : (n m bound : ℕ) → bound ≤ n → n ≤ m → nat_lt m bound ≡ nat_lt n bound
+same_side n m bound a b = grind (arith, nat_tests)
+
+-- the head is told by its first 24 bytes
+pub head_front : (xs ys : List ℕ) → 24 ≤ length xs → head_flaw (xs ++ ys) ≡ head_flaw xs
+head_front xs ys long =
+    let l = length-append xs ys in
+    let m : starts_with nat_eq (xs ++ ys) magic ≡ starts_with nat_eq xs magic =
+    rw (take-append-le 8 xs ys (omega arith)) refl in
+    let s : nat_lt (length (xs ++ ys)) 16 ≡ nat_lt (length xs) 16 =
+    same_side (length xs) (length (xs ++ ys)) 16 (omega arith) (omega arith) in
+    let t : nat_lt (length (xs ++ ys)) 24 ≡ nat_lt (length xs) 24 =
+    same_side (length xs) (length (xs ++ ys)) 24 (omega arith) (omega arith) in
+    let c = count_front xs ys long in
+    let u = used_front xs ys long in
+    let z : is_out first_row place_limit (count_told (xs ++ ys))
+    ≡ is_out first_row place_limit (count_told xs) = ap (is_out first_row place_limit) c in
+    let o : is_out first_row (count_told (xs ++ ys)) (used_told (xs ++ ys))
+    ≡ is_out first_row (count_told xs) (used_told xs) =
+    ap (λ n. is_out first_row n (used_told (xs ++ ys))) c
+    ∙ ap (λ n. is_out first_row (count_told xs) n) u in
+    same_head m s z t o
+  where
+    same_head : {a b c d e f g h i j : Bool} → a ≡ b → c ≡ d → e ≡ f → g ≡ h → i ≡ j
+        → head_by a c e g i ≡ head_by b d f h j
+    same_head {a} {b} {c} {d} {e} {f} {g} {h} {i} {j} p q r s t =
+        ap (λ x. head_by x c e g i) p ∙ ap (λ x. head_by b x e g i) q
+        ∙ ap (λ x. head_by b d x g i) r ∙ ap (λ x. head_by b d f x i) s
+        ∙ ap (λ x. head_by b d f h x) t
+
+-- bytes past the end are too many, however many follow
+long_front : (xs ys : List ℕ) → 24 ≤ length xs → dump_length (used_told xs) + 1 ≤ length xs
+    → (length_flaw xs ≡ Some Long) × (length_flaw (xs ++ ys) ≡ Some Long)
+long_front xs ys long more =
+    let l = length-append xs ys in
+    let u = used_front xs ys long in (
+      too_long (length xs) (dump_length (used_told xs)) (omega arith),
+      too_long (length (xs ++ ys)) (dump_length (used_told (xs ++ ys))) (omega arith),
+    )
+  where
+    too_long : (n d : ℕ) → d + 1 ≤ n → length_by (nat_lt n d) (nat_lt d n) ≡ Some Long
+    too_long n d h =
+        let a : nat_lt n d ≡ false = grind (arith, nat_tests) in
+        let b : nat_lt d n ≡ true = grind (arith, nat_tests) in
+        ap (λ x. length_by x (nat_lt d n)) a ∙ ap (λ x. length_by false x) b
+
+-- ---- from what was taken to all bytes
+
+-- where nothing is left, all was taken
+all_taken : (rest taken bytes : List ℕ) (now : Option (List ℕ)) → now ≡ Some rest
+    → taken ++ rest ≡ bytes → now ≡ Some [] → taken ≡ bytes
+all_taken rest taken bytes now is same end =
+    let none : rest ≡ [] = cc in
+    sym (append-nil taken) ∙ ap (λ xs. taken ++ xs) (sym none) ∙ same
+
+-- what is said of the bytes that were taken first and of those that were left then
+pub from_taken : (P : List ℕ → Type 0) (start mid : Option (List ℕ)) (taken : List ℕ)
+    → Takes start mid [] taken → IfSome mid (λ left. P (taken ++ left)) → IfSome start P
+from_taken P None mid taken h k = tt
+from_taken P (Some bytes) mid taken h k =
+    let here : P (taken ++ h.0) = subst (λ o. IfSome o (λ left. P (taken ++ left))) h.1 k in
+    subst P h.2 here
+
+-- a flaw of the head of what was taken is the first flaw
+pub head_flaw_of_all : (start now : Option (List ℕ)) (taken : List ℕ) (flaw : Flaw)
+    → Takes start now [] taken → IfSome start (λ _. AreEnough now 24 taken)
+    → head_flaw taken ≡ Some flaw → IfSome start (λ bytes. IsFirstFlaw bytes flaw)
+head_flaw_of_all None now taken flaw h enough e = tt
+head_flaw_of_all (Some bytes) now taken flaw h enough e =
+    ⊎_elim
+    (λ long. subst (λ xs. IsFirstFlaw xs flaw) h.2
+    (first_of_head (taken ++ h.0) flaw (head_front taken h.0 long ∙ e)))
+    (λ end. subst (λ xs. IsFirstFlaw xs flaw) (all_taken h.0 taken bytes now h.1 h.2 end)
+    (first_of_head taken flaw e))
+    enough
+
+-- a flaw of the length of what was taken is the first flaw
+pub length_flaw_of_all : (mid now : Option (List ℕ)) (taken more : List ℕ) (flaw : Flaw)
+    → Takes mid now taken more
+    → IfSome mid (λ _. AreEnough now (dump_length (used_told more) + 1) more)
+    → head_flaw more ≡ None → length_flaw more ≡ Some flaw
+    → IfSome mid (λ left. IsFirstFlaw (taken ++ left) flaw)
+length_flaw_of_all None now taken more flaw k enough head e = tt
+length_flaw_of_all (Some left) now taken more flaw k enough head e =
+    let long = (good_head more head).long in
+    ⊎_elim
+    (λ past.
+    let both = long_front more k.0 long past in
+    let which : Some Long ≡ Some flaw = sym both.0 ∙ e in
+    subst (λ xs. IsFirstFlaw xs flaw) k.2
+    (first_of_length (more ++ k.0) flaw (head_front more k.0 long ∙ head)
+    (both.1 ∙ which)))
+    (λ end. subst (λ xs. IsFirstFlaw xs flaw)
+    (all_taken k.0 more (taken ++ left) now k.1 k.2 end) (first_of_length more flaw head e))
+    enough
+
+-- bytes of the right length are all bytes
+pub all_of_length : (mid now : Option (List ℕ)) (taken more : List ℕ)
+    → Takes mid now taken more
+    → IfSome mid (λ _. AreEnough now (dump_length (used_told more) + 1) more)
+    → length_flaw more ≡ None
+    → IfSome mid (λ left. (more ≡ taken ++ left) × (now ≡ Some []))
+all_of_length None now taken more k enough e = tt
+all_of_length (Some left) now taken more k enough e =
+    let exact = good_length more e in
+    ⊎_elim
+    (λ past. absurd (omega arith))
+    (λ end. (all_taken k.0 more (taken ++ left) now k.1 k.2 end, end))
+    enough
+
+-- what holds of a good answer
+pub ok_so : {A E : Type 0} (P Q : A → Type 0) (r : Result A E) → ((a : A) → P a → Q a)
+    → IfOk r P → IfOk r Q
+ok_so P Q (Ok a) f h = f a h
+ok_so P Q (Err e) f h = tt
+
+-- what holds of all bytes
+pub some_so : {A : Type 0} (P Q : A → Type 0) (o : Option A) → ((a : A) → P a → Q a)
+    → IfSome o P → IfSome o Q
+some_so P Q None f h = tt
+some_so P Q (Some a) f h = f a h
+
+-- what holds at a good answer
+pub on_ok : {A E P : Type 0} (r : Result A E) → P → OnOk r P
+on_ok (Ok a) p = p
+on_ok (Err e) p = tt
+
+-- more bytes behind a good head
+module _ (taken more : List ℕ) (extends : Extends taken more) (head : head_flaw taken ≡ None) where
+  pub extended_head : head_flaw more ≡ None
+  extended_head =
+      ap head_flaw extends.1 ∙ head_front taken extends.0 (good_head taken head).long ∙ head
+
+  pub extended_used : used_told more ≡ used_told taken
+  extended_used = ap used_told extends.1 ∙ used_front taken extends.0 (good_head taken head).long
+
+-- ---- the second step of an audit
+
+-- what is known of bytes that were taken behind a good head: the used words are read of the first
+-- bytes, and the flaw of the length is named by all that were taken
+pub record Reaches (mid now : Option (List ℕ)) (taken more first second : List ℕ) (used : ℕ)
+    (found : Option Flaw) : Type 0 where
+  pub head : head_flaw taken ≡ None
+  pub takes : Takes mid now taken more
+  pub extends : Extends taken more
+  pub enough : IfSome mid (λ _. AreEnough now (16 + 8 * used + 1) more)
+  pub first_is : first ≡ taken
+  pub used_is : used ≡ number_of (drop 16 first)
+  pub second_is : second ≡ more
+  pub found_is : found ≡ length_flaw second
+
+module _ (mid now : Option (List ℕ)) (taken more first second : List ℕ) (used : ℕ)
+    (found : Option Flaw) (h : Reaches mid now taken more first second used found) where
+  head_more : head_flaw more ≡ None
+  head_more = extended_head taken more h.extends h.head
+
+  used_more : used ≡ used_told more
+  used_more =
+      h.used_is ∙ ap (λ xs. number_of (drop 16 xs)) h.first_is
+      ∙ sym (extended_used taken more h.extends h.head)
+
+  enough_more : IfSome mid (λ _. AreEnough now (dump_length (used_told more) + 1) more)
+  enough_more =
+      subst (λ n. IfSome mid (λ _. AreEnough now (16 + 8 * n + 1) more)) used_more h.enough
+
+  pub reached_flaw : (flaw : Flaw) → found ≡ Some flaw
+      → IfSome mid (λ left. IsFirstFlaw (taken ++ left) flaw)
+  reached_flaw flaw is =
+      length_flaw_of_all mid now taken more flaw h.takes enough_more head_more
+      (ap length_flaw (sym h.second_is) ∙ sym h.found_is ∙ is)
+
+  pub reached_all : found ≡ None
+      → IfSome mid (λ left. (more ≡ taken ++ left) × (now ≡ Some []))
+  reached_all is =
+      all_of_length mid now taken more h.takes enough_more
+      (ap length_flaw (sym h.second_is) ∙ sym h.found_is ∙ is)

@@ -1,0 +1,261 @@
+-- What the dump of lawful words tells. Serves `laws`.
+use Rattle.std.proofs.Common.{◌≡◌, ℕ, suc, ◌+◌, ◌-◌, ◌<◌, ◌≤◌, ◌^◌, nat_eq, nat_lt, Bool}
+use Rattle.std.proofs.Common.{true, false, ◌||◌, if◌then◌else◌, List, [], ◌∷◌, ◌++◌, length, take}
+use Rattle.std.proofs.Common.{drop, get_or, replicate, Some, None, refl, sym, ap, ◌∙◌, subst}
+use Rattle.std.proofs.Common.{arith}
+use Rattle.std.specs.List.{flat_map}
+use Rattle.std.proofs.lemmas.Bool.Decides.{nat_tests}
+use Rattle.std.proofs.lemmas.List.{take-append-drop, length-drop, length-append, length-take-le}
+use Rattle.std.proofs.lemmas.List.{drop_at, drop-drop, append-nil, get_or-drop, get_or-take}
+use Rattle.ist_core.specs.declared.pairs.Pair.{Pair}
+use Rattle.ist_core.specs.Map.{pairs_between}
+use Rattle.ist_core.specs.RowLayout.{first_row, place_limit, next_place, anchor_status_place}
+use Rattle.ist_words.specs.WordRows.{word_at}
+use Rattle.ist_words.specs.Laws.{PairsAreOne, LawfulWordsBreakNowhere, BreaksAreOne}
+use Rattle.ist_words.specs.RestingWords.{HasGoodBounds, AreLawful, AreListed, BreaksFirstAt}
+use Rattle.ist_words.specs.Walks.{first_visit}
+use Rattle.tele_audit.specs.declared.flaws.Flaw.{Flaw}
+use Rattle.tele_audit.specs.declared.flaws.Flaw.TheVariants.{Magic, Short, Size, Used, Long, Anchor, Row}
+use Rattle.tele_audit.specs.Dumps.{magic, number_bytes, used_words, dump_of, Told, IsLawfulDump}
+use Rattle.tele_audit.specs.Flaws.{number_of, numbers_in, count_told, used_told, dump_length}
+use Rattle.tele_audit.specs.Flaws.{words_told, table_told, is_out, head_flaw, length_flaw}
+use Rattle.tele_audit.specs.Flaws.{anchor_flaw, flaw_or, flaw_before_rows, BreaksAtRow, IsFirstFlaw}
+use Rattle.tele_audit.proofs.NumberLemmas.{length-number_bytes, number_of-number_bytes}
+use Rattle.tele_audit.proofs.NumberLemmas.{get_or_numbers_in, numbers_of_bytes, length-flat_bytes}
+use Rattle.tele_audit.proofs.NumberLemmas.{below-take}
+
+-- zeros are zeros
+zeros_are : (xs : List ℕ) → ((i : ℕ) → i < length xs → get_or xs i 0 ≡ 0)
+    → xs ≡ replicate (length xs) 0
+zeros_are [] h = refl
+zeros_are (x ∷ xs) h =
+    ap (λ (y : ℕ). y ∷ xs) (h 0 (omega arith))
+    ∙ ap (λ (ys : List ℕ). 0 ∷ ys) (zeros_are xs (λ i less. h (suc i) (omega arith)))
+
+-- a test that a number within bounds passes
+not_out : (low high n : ℕ) → low ≤ n → n ≤ high → is_out low high n ≡ false
+not_out low high n a b =
+    let x : nat_lt n low ≡ false = grind (arith, nat_tests) in
+    let y : nat_lt high n ≡ false = grind (arith, nat_tests) in
+    ap (λ t. t || nat_lt high n) x ∙ y
+
+not_less : (n m : ℕ) → m ≤ n → nat_lt n m ≡ false
+not_less n m h = grind (arith, nat_tests)
+
+-- ---- what a dump tells
+
+module _ (table : List ℕ) (bounds : HasGoodBounds table)
+    (fit : (place : ℕ) → word_at table place < 2 ^ 64) where
+  u : ℕ
+  u = word_at table next_place
+
+  ws : List ℕ
+  ws = take (word_at table next_place) table
+
+  body : List ℕ
+  body = flat_map number_bytes (take (word_at table next_place) table)
+
+  length_ws : length (used_words table) ≡ word_at table next_place
+  length_ws =
+      let high = bounds.high in length-take-le (word_at table next_place) table (omega arith)
+
+  behind_magic : drop 8 (dump_of table)
+      ≡ number_bytes (length table) ++ flat_map number_bytes (used_words table)
+  behind_magic =
+      drop_at magic (number_bytes (length table) ++ flat_map number_bytes (used_words table)) 8 refl
+
+  behind_count : drop 16 (dump_of table) ≡ flat_map number_bytes (used_words table)
+  behind_count =
+      sym (drop-drop 8 8 (dump_of table)) ∙ ap (drop 8) behind_magic
+      ∙ drop_at (number_bytes (length table)) (flat_map number_bytes (used_words table)) 8
+      (length-number_bytes (length table))
+
+  pub count_back : count_told (dump_of table) ≡ length table
+  count_back =
+      let most = bounds.most in
+      ap number_of behind_magic
+      ∙ number_of-number_bytes (length table) (flat_map number_bytes (used_words table)) (omega arith)
+
+  fit_used : (i : ℕ) → get_or (used_words table) i 0 < 2 ^ 64
+  fit_used = below-take (2 ^ 64) (word_at table next_place) table (omega arith) fit
+
+  numbers_back : numbers_in (length (used_words table)) (flat_map number_bytes (used_words table))
+      ≡ used_words table
+  numbers_back =
+      ap (numbers_in (length (used_words table)))
+      (sym (append-nil (flat_map number_bytes (used_words table))))
+      ∙ numbers_of_bytes (used_words table) [] fit_used
+
+  pub used_back : used_told (dump_of table) ≡ word_at table next_place
+  used_back =
+      let low = bounds.low in
+      let l = length_ws in
+      ap number_of behind_count
+      ∙ sym (get_or_numbers_in (length (used_words table)) (flat_map number_bytes (used_words table))
+      0 (omega arith))
+      ∙ ap (λ xs. get_or xs 0 0) numbers_back
+      ∙ get_or-take (word_at table next_place) table 0 0 (omega arith)
+
+  pub words_back : words_told (dump_of table) ≡ used_words table
+  words_back =
+      ap (λ n. numbers_in n (drop 16 (dump_of table))) (used_back ∙ sym length_ws)
+      ∙ ap (numbers_in (length (used_words table))) behind_count
+      ∙ numbers_back
+
+  rest_back : drop (word_at table next_place) table
+      ≡ replicate (length table - word_at table next_place) 0
+  rest_back =
+      let n = word_at table next_place in
+      let l = length-drop n table in
+      zeros_are (drop n table)
+      (λ i less. get_or-drop n table i 0 ∙ bounds.free (n + i) (omega arith) (omega arith))
+      ∙ ap (λ m. replicate m 0) l
+
+  pub table_back : table_told (dump_of table) ≡ table
+  table_back =
+      ap (λ xs. xs ++ replicate (count_told (dump_of table) - used_told (dump_of table)) 0) words_back
+      ∙ ap (λ n. used_words table ++ replicate (n - used_told (dump_of table)) 0) count_back
+      ∙ ap (λ n. used_words table ++ replicate (length table - n) 0) used_back
+      ∙ ap (λ xs. used_words table ++ xs) (sym rest_back)
+      ∙ take-append-drop (word_at table next_place) table
+
+  length_back : length (dump_of table) ≡ dump_length (used_told (dump_of table))
+  length_back =
+      let a = length-append (number_bytes (length table)) (flat_map number_bytes (used_words table)) in
+      let b = length-number_bytes (length table) in
+      let c = length-flat_bytes (used_words table) in
+      let d = length_ws in
+      let e = used_back in
+      let f = length-append magic (number_bytes (length table) ++ flat_map number_bytes
+      (used_words table)) in
+      let g : length magic ≡ 8 = refl in
+      omega arith
+
+  head_back : head_flaw (dump_of table) ≡ None
+  head_back =
+      let low = bounds.low in
+      let l = length_back in
+      let e = used_back in
+      let c = count_back in
+      let least = bounds.least in
+      let most = bounds.most in
+      let high = bounds.high in
+      let s = not_less (length (dump_of table)) 16 (omega arith) in
+      let z = not_out first_row place_limit (count_told (dump_of table)) (omega arith) (omega arith) in
+      let t = not_less (length (dump_of table)) 24 (omega arith) in
+      let o = not_out first_row (count_told (dump_of table)) (used_told (dump_of table)) (omega arith)
+      (omega arith) in
+      unnamed _ _ _ _ s z t o
+    where
+      unnamed : (s z t u : Bool) → s ≡ false → z ≡ false → t ≡ false → u ≡ false
+          → (if s then Some Short else (if z then Some Size else (if t then Some Short else
+          (if u then Some Used else None)))) ≡ None
+      unnamed false false false false p q r w = refl
+      unnamed true z t u p q r w = absurd (cc)
+      unnamed false true t u p q r w = absurd (cc)
+      unnamed false false true u p q r w = absurd (cc)
+      unnamed false false false true p q r w = absurd (cc)
+
+  pub none_back : flaw_before_rows (dump_of table) ≡ None
+  none_back =
+      let l = length_back in
+      let n = dump_length (used_told (dump_of table)) in
+      let a = not_less (length (dump_of table)) n (omega arith) in
+      let b = not_less n (length (dump_of table)) (omega arith) in
+      let whole : length_flaw (dump_of table) ≡ None =
+      ap (λ (x : Bool). if x then Some Short else (if nat_lt n (length (dump_of table)) then Some Long
+      else None)) a
+      ∙ ap (λ (x : Bool). if x then Some Long else None) b in
+      let low = bounds.low in
+      let open_word : word_at (words_told (dump_of table)) anchor_status_place ≡ 0 =
+      ap (λ xs. word_at xs anchor_status_place) words_back
+      ∙ get_or-take (word_at table next_place) table anchor_status_place 0 (omega arith)
+      ∙ bounds.anchor_status in
+      let anchored : anchor_flaw (dump_of table) ≡ None =
+      ap (λ (w : ℕ). if nat_eq w 0 then None else Some Anchor) open_word in
+      ap (λ f. flaw_or f (flaw_or (length_flaw (dump_of table)) (anchor_flaw (dump_of table))))
+      head_back
+      ∙ ap (λ f. flaw_or f (anchor_flaw (dump_of table))) whole
+      ∙ anchored
+
+-- ---- the laws
+
+-- where nothing is wrong before the rows, a flaw is a broken row
+named_row : (bytes : List ℕ) (flaw : Flaw) → flaw_before_rows bytes ≡ None → IsFirstFlaw bytes flaw
+    → (place : ℕ) × (flaw ≡ Row place) × BreaksAtRow bytes place
+named_row bytes (Row place) none h = (place, refl, h)
+named_row bytes Magic none h = absurd (cc)
+named_row bytes Short none h = absurd (cc)
+named_row bytes Size none h = absurd (cc)
+named_row bytes Used none h = absurd (cc)
+named_row bytes Long none h = absurd (cc)
+named_row bytes Anchor none h = absurd (cc)
+
+-- where something is wrong before them, the flaw is that
+named_before : (bytes : List ℕ) (flaw other : Flaw) → flaw_before_rows bytes ≡ Some flaw
+    → IsFirstFlaw bytes other → flaw ≡ other
+named_before bytes flaw (Row place) some h = absurd (let none = h.before in cc)
+named_before bytes flaw Magic some h = cc
+named_before bytes flaw Short some h = cc
+named_before bytes flaw Size some h = cc
+named_before bytes flaw Used some h = cc
+named_before bytes flaw Long some h = cc
+named_before bytes flaw Anchor some h = cc
+
+-- bytes have one first flaw
+pub one_flaw : BreaksAreOne → (bytes : List ℕ) (flaw other : Flaw) → IsFirstFlaw bytes flaw
+    → IsFirstFlaw bytes other → flaw ≡ other
+one_flaw one bytes (Row place) other h k =
+    let row = named_row bytes other h.before k in
+    ap Row (one (table_told bytes) place row.0 h.breaks row.2.breaks) ∙ sym row.1
+one_flaw one bytes Magic other h k = named_before bytes Magic other h k
+one_flaw one bytes Short other h k = named_before bytes Short other h k
+one_flaw one bytes Size other h k = named_before bytes Size other h k
+one_flaw one bytes Used other h k = named_before bytes Used other h k
+one_flaw one bytes Long other h k = named_before bytes Long other h k
+one_flaw one bytes Anchor other h k = named_before bytes Anchor other h k
+
+module _ (bytes : List ℕ) (told : Told) (h : IsLawfulDump bytes told) where
+  -- a dump tells its table
+  pub table_is : table_told bytes ≡ h.table
+  table_is = ap table_told h.dumped ∙ table_back h.table h.lawful.holds.bounds h.fit
+
+  -- and has no flaw
+  pub no_flaw : LawfulWordsBreakNowhere → (flaw : Flaw) → IsFirstFlaw bytes flaw → ⊥
+  no_flaw nowhere flaw f =
+      let none : flaw_before_rows bytes ≡ None =
+      ap flaw_before_rows h.dumped ∙ none_back h.table h.lawful.holds.bounds h.fit in
+      let row = named_row bytes flaw none f in
+      nowhere h.table told.pairs h.lawful row.0
+      (subst (λ xs. BreaksFirstAt xs [] (first_visit xs ∷ []) row.0) table_is row.2.breaks)
+
+-- what is told is told by its parts
+same_told : (a b : Told) → a.words ≡ b.words → a.used ≡ b.used → a.pairs ≡ b.pairs → a ≡ b
+same_told a b e f g =
+    ap (λ n. record { words = n; used = a.used; pairs = a.pairs }) e
+    ∙ ap (λ n. record { words = b.words; used = n; pairs = a.pairs }) f
+    ∙ ap (λ ps. record { words = b.words; used = b.used; pairs = ps }) g
+
+-- of a dump one thing is told
+pub one_told : PairsAreOne → (bytes : List ℕ) (told other : Told) → IsLawfulDump bytes told
+    → IsLawfulDump bytes other → told ≡ other
+one_told one bytes told other h k =
+    let same : h.table ≡ k.table = sym (table_is bytes told h) ∙ table_is bytes other k in
+    same_told told other
+    (h.words ∙ ap (λ (xs : List ℕ). length xs) same ∙ sym k.words)
+    (h.used ∙ ap (λ xs. word_at xs next_place) same ∙ sym k.used)
+    (one k.table told.pairs other.pairs
+    (subst (λ xs. AreLawful xs told.pairs) same h.lawful).holds k.lawful.holds)
+
+-- of an interval the dump of some words tells what they hold of it
+pub listed_is : PairsAreOne → (words : List ℕ) (told : Told) (first last : ℕ) (found : List Pair)
+    → ((place : ℕ) → word_at words place < 2 ^ 64)
+    → IsLawfulDump (dump_of words) told → AreListed words first last found
+    → found ≡ pairs_between first last told.pairs
+listed_is one words told first last found fit h listed =
+    let same : h.table ≡ words =
+    sym (table_is (dump_of words) told h) ∙ table_back words listed.1.bounds fit in
+    listed.2
+    ∙ ap (pairs_between first last)
+    (one words listed.0 told.pairs listed.1
+    (subst (λ xs. AreLawful xs told.pairs) same h.lawful).holds)

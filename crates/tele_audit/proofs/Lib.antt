@@ -1,0 +1,6 @@
+pub mod NumberLemmas
+pub mod PairLemmas
+pub mod DumpLemmas
+pub mod FrontLemmas
+pub mod PieceLemmas
+pub mod LawLemmas

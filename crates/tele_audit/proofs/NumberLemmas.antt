@@ -1,0 +1,136 @@
+-- Numbers as eight bytes, and words as numbers one behind another. Serves `numbers`, `tables` and
+-- the laws.
+use Rattle.std.proofs.Common.{◌≡◌, ℕ, zero, suc, ◌+◌, ◌*◌, ◌<◌, ◌≤◌, ◌^◌, List, [], ◌∷◌}
+use Rattle.std.proofs.Common.{◌++◌, length, take, drop, get_or, refl, sym, ap, ◌∙◌, arith}
+use Rattle.std.specs.Int.{w64, from_le_bytes, to_le_bytes}
+use Rattle.std.specs.List.{flat_map}
+use Rattle.std.proofs.lemmas.Nat.{le_bytes_8, from_le_bytes-to_le_bytes_8}
+use Rattle.std.proofs.lemmas.List.{drop-drop, take-append-le, drop-append-le, length-take-le}
+use Rattle.std.proofs.lemmas.List.{length-drop, length-append, get_or-drop, take-append-drop}
+use Rattle.std.proofs.lemmas.List.{append_assoc, take_at, drop_at}
+use Rattle.tele_audit.specs.Dumps.{number_bytes}
+use Rattle.tele_audit.specs.Flaws.{number_of, numbers_in}
+use Rattle.tele_audit.specs.Taking.{AreBytes}
+
+-- ---- bytes
+
+-- numbers below a bound, of which some first are taken
+pub below-take : (bound n : ℕ) (xs : List ℕ) → 0 < bound → ((i : ℕ) → get_or xs i 0 < bound)
+    → (i : ℕ) → get_or (take n xs) i 0 < bound
+below-take bound zero xs some h i = some
+below-take bound (suc n) [] some h i = some
+below-take bound (suc n) (x ∷ xs) some h zero = h 0
+below-take bound (suc n) (x ∷ xs) some h (suc i) =
+    below-take bound n xs some (λ j. h (suc j)) i
+
+pub bytes-drop : (n : ℕ) (bytes : List ℕ) → AreBytes bytes → AreBytes (drop n bytes)
+bytes-drop n bytes h i = rw get_or-drop (h (n + i))
+
+-- ---- one number
+
+-- a number is told by its own bytes
+pub number_of_front : (xs ys : List ℕ) → 8 ≤ length xs → number_of (xs ++ ys) ≡ number_of xs
+unfolding number_of
+number_of_front xs ys long = ap (from_le_bytes w64) (take-append-le 8 xs ys long)
+
+pub number_of_inside : (n : ℕ) (xs ys : List ℕ) → n + 8 ≤ length xs
+    → number_of (drop n (xs ++ ys)) ≡ number_of (drop n xs)
+number_of_inside n xs ys long =
+    let l = length-drop n xs in
+    ap number_of (drop-append-le n xs ys (omega arith))
+    ∙ number_of_front (drop n xs) ys (omega arith)
+
+-- eight bytes are those of the number that they are
+pub number_bytes-number_of : (bytes : List ℕ) → AreBytes bytes → 8 ≤ length bytes
+    → number_bytes (number_of bytes) ≡ take 8 bytes
+unfolding number_bytes number_of
+number_bytes-number_of bytes h long =
+    le_bytes_8 (take 8 bytes) (from_le_bytes w64 (take 8 bytes)) (length-take-le 8 bytes long)
+    (below-take 256 8 bytes (omega arith) h) refl
+
+pub length-number_bytes : (n : ℕ) → length (number_bytes n) ≡ 8
+unfolding number_bytes
+length-number_bytes n = refl
+
+-- a number is what its eight bytes say
+pub number_of-number_bytes : (n : ℕ) (rest : List ℕ) → n < 2 ^ 64
+    → number_of (number_bytes n ++ rest) ≡ n
+unfolding number_bytes number_of
+number_of-number_bytes n rest fits =
+    ap (from_le_bytes w64) (take_at (to_le_bytes w64 n) rest 8 refl)
+    ∙ from_le_bytes-to_le_bytes_8 n fits
+
+-- ---- many numbers
+
+pub length_numbers_in : (count : ℕ) (bytes : List ℕ) → length (numbers_in count bytes) ≡ count
+unfolding numbers_in
+length_numbers_in zero bytes = refl
+length_numbers_in (suc count) bytes = ap suc (length_numbers_in count (drop 8 bytes))
+
+pub get_or_numbers_in : (count : ℕ) (bytes : List ℕ) (i : ℕ) → i < count
+    → get_or (numbers_in count bytes) i 0 ≡ number_of (drop (8 * i) bytes)
+unfolding numbers_in
+get_or_numbers_in zero bytes i less = absurd (omega arith)
+get_or_numbers_in (suc count) bytes zero less = refl
+get_or_numbers_in (suc count) bytes (suc i) less =
+    let e : 8 + 8 * i ≡ 8 * suc i = omega arith in
+    get_or_numbers_in count (drop 8 bytes) i (omega arith)
+    ∙ ap number_of (drop-drop (8 * i) 8 bytes ∙ ap (λ n. drop n bytes) e)
+
+-- the bytes of the numbers that some bytes are
+pub bytes_of_numbers : (count : ℕ) (bytes : List ℕ) → AreBytes bytes → length bytes ≡ 8 * count
+    → flat_map number_bytes (numbers_in count bytes) ≡ bytes
+unfolding numbers_in
+bytes_of_numbers zero [] h e = refl
+bytes_of_numbers zero (x ∷ xs) h e = absurd (omega arith)
+bytes_of_numbers (suc count) bytes h e =
+    let l = length-drop 8 bytes in
+    let rest = numbers_in count (drop 8 bytes) in
+    ap (λ (xs : List ℕ). xs ++ flat_map number_bytes rest)
+    (number_bytes-number_of bytes h (omega arith))
+    ∙ ap (λ xs. take 8 bytes ++ xs)
+    (bytes_of_numbers count (drop 8 bytes) (bytes-drop 8 bytes h) (omega arith))
+    ∙ take-append-drop 8 bytes
+
+-- the numbers that the bytes of some numbers are
+pub numbers_of_bytes : (numbers rest : List ℕ) → ((i : ℕ) → get_or numbers i 0 < 2 ^ 64)
+    → numbers_in (length numbers) (flat_map number_bytes numbers ++ rest) ≡ numbers
+unfolding numbers_in
+numbers_of_bytes [] rest fit = refl
+numbers_of_bytes (n ∷ numbers) rest fit =
+    let more = flat_map number_bytes numbers in
+    let e = append_assoc (number_bytes n) more rest in
+    let first : number_of ((number_bytes n ++ more) ++ rest) ≡ n =
+    ap number_of e ∙ number_of-number_bytes n (more ++ rest) (fit 0) in
+    let others : drop 8 ((number_bytes n ++ more) ++ rest) ≡ more ++ rest =
+    ap (drop 8) e ∙ drop_at (number_bytes n) (more ++ rest) 8 (length-number_bytes n) in
+    ap (λ (x : ℕ). x ∷ numbers_in (length numbers) (drop 8 ((number_bytes n ++ more) ++ rest))) first
+    ∙ ap (λ xs. n ∷ numbers_in (length numbers) xs) others
+    ∙ ap (λ (xs : List ℕ). n ∷ xs) (numbers_of_bytes numbers rest (λ i. fit (suc i)))
+
+pub length-flat_bytes : (numbers : List ℕ)
+    → length (flat_map number_bytes numbers) ≡ 8 * length numbers
+length-flat_bytes [] = refl
+length-flat_bytes (n ∷ numbers) =
+    let a = length-append (number_bytes n) (flat_map number_bytes numbers) in
+    let b = length-number_bytes n in
+    let c = length-flat_bytes numbers in
+    omega arith
+
+-- ---- the words of a dump
+
+module _ (used : ℕ) (bytes words : List ℕ) (place : ℕ) (is : numbers_in used (drop 16 bytes) ≡ words)
+    (within : place < length words) where
+  -- a word that is told is one of the used ones
+  pub place_told : place < used
+  place_told =
+      let n = length_numbers_in used (drop 16 bytes) in
+      let e = ap (λ (xs : List ℕ). length xs) is in
+      omega arith
+
+  -- it stands behind the first 16 bytes
+  pub word_told : get_or words place 0 ≡ number_of (drop (16 + 8 * place) bytes)
+  word_told =
+      ap (λ xs. get_or xs place 0) (sym is)
+      ∙ get_or_numbers_in used (drop 16 bytes) place place_told
+      ∙ ap number_of (drop-drop (8 * place) 16 bytes)

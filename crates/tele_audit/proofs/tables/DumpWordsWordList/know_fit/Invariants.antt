@@ -1,0 +1,7 @@
+use Rattle.std.proofs.Common.{◌<◌, ◌^◌, ℕ}
+use Rattle.ist_words.specs.WordRows.{word_at}
+use Rattle.tele_audit.proofs.tables.DumpWordsWordList.know_fit.Given as goal
+
+-- the words so far are below 2^64
+abbrev pub invariant-loop-place : goal.invariant-loop-place
+invariant-loop-place l = (k : ℕ) → k < l.place → word_at l.self k < 2 ^ 64

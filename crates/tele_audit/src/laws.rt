@@ -1,0 +1,21 @@
+//! Laws on dumps. The functions take no steps and answer nothing: contracts are laws.
+ghost use Rattle.tele_audit.specs.Laws.{LawfulDumpsHaveNoFlaw, FirstFlawsAreOne};
+ghost use Rattle.tele_audit.specs.Laws.{DumpsTellOneThing, DumpsTellTheList};
+
+use ist_words::laws::{lawful_words_break_nowhere, pairs_are_one};
+
+/// A dump of lawful words has no flaw, and other bytes have one first flaw.
+pub fn lawful_dumps_have_no_flaw()
+    ensures none { LawfulDumpsHaveNoFlaw }
+    ensures one { FirstFlawsAreOne }
+{
+    lawful_words_break_nowhere();
+}
+
+/// Of a dump one thing is told, and of an interval what the words hold.
+pub fn dumps_tell_the_words()
+    ensures one { DumpsTellOneThing }
+    ensures listed { DumpsTellTheList }
+{
+    pairs_are_one();
+}

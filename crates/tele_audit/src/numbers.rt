@@ -1,0 +1,20 @@
+//! Numbers as eight bytes, the lowest first.
+ghost use Rattle.std.specs.Prelude.{◌≡◌, ◌+◌, ◌≤◌, length, drop};
+ghost use Rattle.tele_audit.specs.Flaws.{number_of};
+ghost use Rattle.tele_audit.specs.Taking.{AreBytes};
+
+/// The number that eight bytes are, from a place on.
+#[tactic(auto, unfolding(crate::specs::Flaws::number_of))]
+pub(crate) fn number_at(bytes: &[u8], from: usize) -> u64
+    requires within { from + 8 ≤ length bytes.now }
+    ensures value { result ≡ number_of (drop from bytes.now) }
+{
+    let mut eight = [0u8; 8];
+    eight.copy_from_slice(&bytes[from..from + 8]);
+    u64::from_le_bytes(eight)
+}
+
+/// Each is a byte. It costs nothing.
+pub(crate) fn know_bytes(bytes: &[u8])
+    ensures bytes { AreBytes bytes.now }
+{}
