@@ -1,9 +1,10 @@
 #!/usr/bin/env python3
-"""Large lawful logs for `log_check`, in three shapes.
+"""Large lawful logs for `log_check`, in four shapes.
 
     python3 bench/logs.py chain N       N puts of rising keys, so that pair rows hang one below the other
     python3 bench/logs.py root N        the same, and a rebuild at the anchor: all rows are marked, passed and finished, and its Root
     python3 bench/logs.py callers N     N callers that each hold a row
+    python3 bench/logs.py crowd N       the same, and N puts of rising keys of one caller among them
 """
 import math
 import sys
@@ -42,7 +43,6 @@ class Log:
 
 def chain(log, puts):
     """Answers the pair rows from the top on, each with its base and the words in its slots."""
-    log.say("Enter 0")
     _, _, leaf = log.put(2, 0, 0, 1, False)
     node, index, rows = 2, 0, []
     for key in range(2, puts + 1):
@@ -72,8 +72,8 @@ def rebuild(log, rows):
         log.say(f"Root 0 {row} {root * 8 + 2} {root}={','.join(map(str, words))}")
 
 
-def callers(log, number):
-    for caller in range(number):
+def callers(log, number, first=0):
+    for caller in range(first, number):
         log.say(f"Enter {caller}")
         log.reserve(caller, 2)
 
@@ -83,6 +83,9 @@ def main():
     if shape == "callers":
         callers(log, number)
     else:
+        log.say("Enter 0")
+        if shape == "crowd":
+            callers(log, number, 1)
         rows = chain(log, number)
         if shape == "root":
             rebuild(log, rows)

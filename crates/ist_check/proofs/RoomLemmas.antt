@@ -7,12 +7,16 @@ use Rattle.std.proofs.Common.{
   ◌^◌,
   ℕ,
   List,
+  [],
   ◌∷◌,
   Some,
   length,
   refl,
+  sym,
   ap,
   subst,
+  inl,
+  inr,
   arith,
   option_map,
 }
@@ -21,6 +25,7 @@ use Rattle.std.specs.BTreeMap as tree
 use Rattle.ist_core.specs.declared.pairs.Pair.{Pair}
 use Rattle.ist_core.specs.declared.states.InnerRow.{InnerRow}
 use Rattle.ist_core.specs.declared.states.RebuildRow.{RebuildRow}
+use Rattle.ist_core.specs.declared.lists.HeldRow.{HeldRow}
 use Rattle.ist_core.specs.declared.lists.Row.{Row}
 use Rattle.ist_core.specs.declared.events.Event.{Event}
 use Rattle.ist_core.specs.declared.events.Event.TheVariants.{
@@ -31,7 +36,7 @@ use Rattle.ist_core.specs.declared.events.Event.TheVariants.{
   Finish,
   Draw,
 }
-use Rattle.ist_core.specs.Elements.{Each}
+use Rattle.ist_core.specs.Elements.{Among, Each}
 use Rattle.ist_core.specs.Pieces.{with_status, row_at, Change}
 use Rattle.ist_core.specs.Snapshots.{HoldsRow}
 use Rattle.ist_core.specs.Statuses.{finished_word}
@@ -41,13 +46,22 @@ use Rattle.ist_core.specs.Installing.{CanInstall}
 use Rattle.ist_core.specs.Lawful.{Lawful, state_of}
 use Rattle.ist_core.proofs.RoomLemmas.{words_same, held_good}
 use Rattle.ist_core.proofs.RowLemmas.{changed_at-same}
+use Rattle.ist_core.proofs.SoundLemmas.{sound}
+use Rattle.ist_core.proofs.StartLemmas.{sound_start}
 use Rattle.ist_core.proofs.YesLemmas.{count_low}
 use Rattle.ist_rebuilds.proofs.FinishedLeafLemmas.{finished_few}
 use Rattle.ist_rebuilds.proofs.LowLemmas.{draw_low}
 use Rattle.ist_check_events.specs.declared.replicas.Replica.{Replica}
+use Rattle.ist_check_events.specs.Holding.{by_base, LiesBelow}
 use Rattle.ist_check_events.specs.Mirroring.{Mirrors}
 use Rattle.ist_check_events.proofs.MirrorLemmas.{inner_stands, rebuild_stands}
 use Rattle.ist_check_state.specs.Room.{HasRoom}
+
+-- rows that lie below a base do so by their bases too
+each_below : (base : ℕ) (held : List HeldRow) → ((h : HeldRow) → Among h held → h.base < base)
+    → Each (λ e. e.0 < base) (by_base held)
+each_below base [] below = tt
+each_below base (h ∷ hs) below = (below h (inl refl), each_below base hs (λ g i. below g (inr i)))
 
 module _ (pairs : List Pair) (words : ℕ) (log : Log) (replica : Replica)
     (mirrors : Mirrors replica (state_of pairs words log)) where
@@ -72,6 +86,16 @@ module _ (pairs : List Pair) (words : ℕ) (log : Log) (replica : Replica)
       let room = can.room in
       let is = can.base_is in
       omega arith
+
+  -- and above all that is held
+  reserve_above : (caller base size : ℕ) → Lawful pairs words (Reserve caller base size ∷ log)
+      → LiesBelow replica.held base
+  reserve_above caller base size lawful =
+      let rows = sound (start pairs words) log (sound_start pairs words) lawful.enabled.0 in
+      let is = lawful.enabled.1.base_is in
+      subst (Each (λ e. e.0 < base)) (sym mirrors.held.rows)
+      (each_below base (state_of pairs words log).held
+      (λ h i. let low = rows.held_below h i in omega arith))
 
   -- a caller's number is low
   enter_low : (caller : ℕ) → Lawful pairs words (Enter caller ∷ log) → replica.callers + 1 < 2 ^ 64
@@ -116,7 +140,10 @@ module _ (pairs : List Pair) (words : ℕ) (log : Log) (replica : Replica)
   -- the numbers behind the event fit into words
   pub has_room : (event : Event) → Lawful pairs words (event ∷ log) → HasRoom replica event
   has_room (Enter caller) lawful = enter_low caller lawful
-  has_room (Reserve caller base size) lawful = reserve_low caller base size lawful
+  has_room (Reserve caller base size) lawful = (
+    reserve_low caller base size lawful,
+    reserve_above caller base size lawful,
+  )
   has_room (Install caller change rows) lawful = install_low caller change rows lawful
   has_room (Count caller node) lawful = count_room caller node lawful
   has_room (Finish caller node keys) lawful = finish_low caller node keys lawful

@@ -4,7 +4,7 @@ ghost use Rattle.std.specs.List.Sorted.{IsStrictlyIncreasing};
 ghost use Rattle.ist_core.specs.Snapshots.{Snapshot, Shows};
 ghost use Rattle.ist_check_events.specs.Mirroring.{Mirrors};
 
-use ist_check_events::Replica;
+use ist_check_events::{Replica, rows_held};
 use ist_core::{Changes, HeldRows, Inners, Leaves, Rebuilds, State};
 use std::alloc::{AllocError, Global};
 use std::collections::BTreeMap;
@@ -22,7 +22,7 @@ pub(crate) fn state_of(alloc: Global, replica: Replica) -> Result<State, AllocEr
         inners: Inners::from_vec(entries_of(alloc, replica.inners)?),
         changes: Changes::from_vec(entries_of(alloc, replica.changes)?),
         rebuilds: Rebuilds::from_vec(entries_of(alloc, replica.rebuilds)?),
-        held: HeldRows::from_vec(replica.held),
+        held: HeldRows::from_vec(rows_held(alloc, replica.held)?),
     })
 }
 

@@ -8,6 +8,7 @@ pub mod CountLemmas
 pub mod KindLemmas
 pub mod RebuildKindLemmas
 pub mod RowLemmas
+pub mod HeldLemmas
 pub mod InstallLemmas
 pub mod SpareLemmas
 pub mod FairLemmas

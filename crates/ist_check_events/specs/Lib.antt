@@ -1,5 +1,6 @@
 -- what the public contracts rest on, in the order to read them
 pub mod Answers
+pub mod Holding
 pub mod Mirroring
 pub mod Remembering
 -- what the functions inside this crate promise each other

@@ -1,5 +1,6 @@
 //! The checker's own copy of a table's state.
-use ist_core::{ChangeRow, HeldRow, InnerRow, LeafRow, RebuildRow};
+use crate::held::HeldTable;
+use ist_core::{ChangeRow, InnerRow, LeafRow, RebuildRow};
 use std::collections::BTreeMap;
 
 /// The state of a table, as far as the events so far have brought it. It says the same as a
@@ -14,5 +15,5 @@ pub struct Replica {
     pub inners: BTreeMap<u64, InnerRow>,
     pub changes: BTreeMap<u64, ChangeRow>,
     pub rebuilds: BTreeMap<u64, RebuildRow>,
-    pub held: Vec<HeldRow>,
+    pub held: HeldTable,
 }

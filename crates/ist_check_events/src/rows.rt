@@ -1,12 +1,12 @@
 //! Whether rows of an event have the words that they should, and are held by its caller.
 ghost use Rattle.std.specs.Prelude.{◌≡◌, ◌↔◌, ◌∷◌, [], ℕ, IsTrue, length};
-ghost use Rattle.ist_core.specs.declared.lists.HeldRow.{HeldRow};
 ghost use Rattle.ist_core.specs.declared.lists.Row.{Row};
 ghost use Rattle.ist_core.specs.Elements.{Among};
 ghost use Rattle.ist_core.specs.Pieces as pieces;
 ghost use Rattle.ist_core.specs.Snapshots.{Snapshot, HoldsRow, HoldsRows};
 ghost use Rattle.ist_check_events.specs.Mirroring.{Mirrors};
 
+use crate::held::has_row;
 use crate::replicas::Replica;
 use ist_core::{ChangeRow, HeldRow, Row};
 
@@ -32,20 +32,7 @@ pub fn holds_row(replica: &Replica, caller: u64, base: u64, size: u64) -> bool
     ensures exact { (t : Snapshot) → Mirrors replica.now t
         → (IsTrue result ↔ HoldsRow t caller base size) }
 {
-    for row in replica.held.as_slice() {
-        if is_held_as(row, caller, base, size) {
-            return true;
-        }
-    }
-    false
-}
-
-/// Is this the held row of the caller, with this base and size?
-fn is_held_as(row: &HeldRow, caller: u64, base: u64, size: u64) -> bool
-    ensures exact { IsTrue result
-        ↔ (record { caller = caller; base = base; size = size } ≡ row.now) }
-{
-    row.caller == caller && row.base == base && row.size == size
+    has_row(&replica.held, HeldRow { caller, base, size })
 }
 
 /// Does the caller hold each of these rows?

@@ -5,6 +5,7 @@ ghost use Rattle.ist_core.specs.Snapshots as snapshots;
 ghost use Rattle.ist_core.specs.After as after;
 ghost use Rattle.ist_core.specs.Pieces.{as_change, as_rebuild};
 ghost use Rattle.ist_core.specs.Pieces as pieces;
+ghost use Rattle.ist_check_events.specs.Holding.{LiesBelow};
 ghost use Rattle.ist_check_events.specs.Mirroring.{Mirrors};
 ghost use Rattle.ist_check_state.specs.Room.{HasRoom};
 ghost use Rattle.ist_check_state.specs.Advancing.{TakesNoRows};
@@ -13,7 +14,7 @@ use crate::holding::{give_up, give_up_rows};
 use crate::installing::install;
 use crate::publishing::put_inners;
 use crate::writes::{count_at, decide, draw, set_root, set_row_slot, set_slot, set_status};
-use ist_check_events::{Replica, inner_of_word};
+use ist_check_events::{Replica, hold, inner_of_word};
 use ist_core::{Event, HeldRow, RebuildRow, Row};
 use ist_layout::{DECIDED_NO, DECIDED_YES};
 use std::alloc::{AllocError, Global};
@@ -28,7 +29,7 @@ pub fn advance(alloc: Global, replica: &mut Replica, event: &Event) -> Result<()
         → Mirrors replica.new (after.after t event.now)) }
 {
     match event {
-        Event::Reserve { caller, base, size } => reserve(replica, *caller, *base, *size),
+        Event::Reserve { caller, base, size } => { reserve(alloc, replica, *caller, *base, *size) }
         Event::Install { change, rows, .. } => {
             install(alloc, replica, *change, rows.as_slice())?;
             give_up_rows(alloc, replica, rows.as_slice())
@@ -82,8 +83,15 @@ fn write_word(replica: &mut Replica, event: &Event)
 }
 
 /// Takes so many words from the free ones, for the caller to hold.
-fn reserve(replica: &mut Replica, caller: u64, base: u64, size: u64) -> Result<(), AllocError>
+fn reserve(
+    alloc: Global,
+    replica: &mut Replica,
+    caller: u64,
+    base: u64,
+    size: u64,
+) -> Result<(), AllocError>
     requires room { base + size < 2 ^ 64 }
+    requires above { LiesBelow replica.old.held base }
     ensures exact { OnOk result ((t : Snapshot) → Mirrors replica.old t
         → Mirrors replica.new (record t {
           next = base + size;
@@ -91,8 +99,7 @@ fn reserve(replica: &mut Replica, caller: u64, base: u64, size: u64) -> Result<(
         })) }
 {
     replica.next = base + size;
-    replica.held.push(HeldRow { caller, base, size })?;
-    Ok(())
+    hold(alloc, &mut replica.held, HeldRow { caller, base, size })
 }
 
 /// Takes the change at the base, if there is one, out of its slot.

@@ -1,10 +1,9 @@
 //! Held rows that an event takes away.
-ghost use Rattle.std.specs.Prelude.{◌≡◌, ◌==◌, not, OnOk};
-ghost use Rattle.std.specs.List.{list_any};
+ghost use Rattle.std.specs.Prelude.{OnOk};
 ghost use Rattle.ist_core.specs.Snapshots.{Snapshot, without, bases_of};
 ghost use Rattle.ist_check_events.specs.Mirroring.{Mirrors};
 
-use ist_check_events::Replica;
+use ist_check_events::{Replica, let_go};
 use ist_core::Row;
 use std::alloc::{AllocError, Global};
 
@@ -13,14 +12,7 @@ pub fn give_up(replica: &mut Replica, bases: &[u64])
     ensures exact { (t : Snapshot) → Mirrors replica.old t
         → Mirrors replica.new (record t { held = without bases.now t.held }) }
 {
-    replica.held.retain(|row| lies_outside(bases, row.base));
-}
-
-/// Is the base none of these?
-fn lies_outside(bases: &[u64], base: u64) -> bool
-    ensures value { result ≡ not (list_any (λ other. other == base) bases.now) }
-{
-    !bases.contains(&base)
+    let_go(&mut replica.held, bases);
 }
 
 /// Takes the held rows at the bases of these rows away.

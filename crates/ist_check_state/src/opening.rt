@@ -12,7 +12,7 @@ ghost use Rattle.ist_image.specs.Placing.{rows_behind, FitsAt};
 ghost use Rattle.ist_check_state.specs.Laying.{Publishes};
 
 use crate::publishing::{put_inner, put_leaf};
-use ist_check_events::Replica;
+use ist_check_events::{Replica, no_rows};
 use ist_core::{InnerRow, LeafRow, Pair, Words};
 use ist_layout::{FIRST_ROW, Ref, inner_words};
 use ist_math::{degree, ideal_words, part};
@@ -39,7 +39,7 @@ pub fn open_replica(alloc: Global, pairs: &[Pair], words: u64) -> Result<Replica
         inners: BTreeMap::new(alloc),
         changes: BTreeMap::new(alloc),
         rebuilds: BTreeMap::new(alloc),
-        held: Vec::new(alloc),
+        held: no_rows(alloc),
     };
     put_tree(alloc, &mut replica, first, pairs)?;
     Ok(replica)

@@ -22,6 +22,7 @@ returns c =
             rebuilds = λ base. found c.from_vec-4.result c.args.replica.rebuilds base
                 (c.from_vec-4.ensures.value ∙ c.in_ok-entries_of-4.ensures.value) ∙ mirrors.rebuilds
                 base;
-            held = c.from_vec-5.ensures.value ∙ mirrors.held;
+            held = c.from_vec-5.ensures.value
+                ∙ c.in_ok-rows_held.ensures.value (t.held) mirrors.held;
           };
     }

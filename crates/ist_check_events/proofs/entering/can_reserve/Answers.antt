@@ -13,15 +13,15 @@ returns-then-are_all_spare c =
           let words = h.words in
           let next = h.next in
           let callers = h.callers in
-          let held = c.as_slice.ensures.value ∙ h.held in
-          let sizes : c.as_slice-2.result.now ≡ sizes_held t c.args.caller ++ c.args.size ∷ [] =
-          c.as_slice-2.ensures.value ∙ c.in_ok-push.ensures.items
+          let held = h.held.callers c.args.caller in
+          let sizes : c.as_slice.result.now ≡ sizes_held t c.args.caller ++ c.args.size ∷ [] =
+          c.as_slice.ensures.value ∙ c.in_ok-push.ensures.items
           ∙ ap (λ (xs : List ℕ). xs ++ c.args.size ∷ []) (c.in_ok-sizes.ensures.value
-          ∙ ap (λ hs. map (λ x. x.size) (filter (λ x. x.caller == c.args.caller) hs)) held) in
+          ∙ ap (map (λ x. x.size)) held) in
           let spare = c.are_all_spare.ensures.exact.0 c.if-are_all_spare.true in
-          reserves t c.args.caller c.args.base c.args.size c.as_slice-2.result.now _ (omega arith)
+          reserves t c.args.caller c.args.base c.args.size c.as_slice.result.now _ (omega arith)
           (omega arith) (omega arith) sizes
-          ((λ _. spare_is_fair t c.as_slice-2.result.now spare), (λ _. refl));
+          ((λ _. spare_is_fair t c.as_slice.result.now spare), (λ _. refl));
     }
 
 pub returns : goal.returns
@@ -35,13 +35,13 @@ returns c =
           let room : t.words ≡ t.next + (c.args.replica.now.words - c.args.replica.now.next) = omega
           arith in
           let lists = subst (λ xs. AreBuilding t (map (λ v. v.items) xs))
-          (sym c.as_slice-3.ensures.value) (c.in_ok-lists.ensures.exact t h k) in
-          let held = c.as_slice.ensures.value ∙ h.held in
-          let sizes : c.as_slice-4.result.now ≡ sizes_held t c.args.caller ++ c.args.size ∷ [] =
-          c.as_slice-4.ensures.value ∙ c.in_ok-push.ensures.items
+          (sym c.as_slice-2.ensures.value) (c.in_ok-lists.ensures.exact t h k) in
+          let held = h.held.callers c.args.caller in
+          let sizes : c.as_slice-3.result.now ≡ sizes_held t c.args.caller ++ c.args.size ∷ [] =
+          c.as_slice-3.ensures.value ∙ c.in_ok-push.ensures.items
           ∙ ap (λ (xs : List ℕ). xs ++ c.args.size ∷ []) (c.in_ok-sizes.ensures.value
-          ∙ ap (λ hs. map (λ x. x.size) (filter (λ x. x.caller == c.args.caller) hs)) held) in
-          reserves t c.args.caller c.args.base c.args.size c.as_slice-4.result.now b (omega arith)
+          ∙ ap (map (λ x. x.size)) held) in
+          reserves t c.args.caller c.args.base c.args.size c.as_slice-3.result.now b (omega arith)
           (omega arith) (omega arith) sizes (f t lists room))
           c.is_fair.ensures.exact;
     }

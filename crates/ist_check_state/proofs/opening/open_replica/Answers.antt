@@ -35,6 +35,6 @@ returns c =
             inners = λ base. none_found c.new-2.result base c.new-2.ensures.empty;
             changes = λ base. none_found c.new-3.result base c.new-3.ensures.empty;
             rebuilds = λ base. none_found c.new-4.result base c.new-4.ensures.empty;
-            held = c.new-5.ensures.items;
+            held = c.no_rows.ensures.none;
           });
     }
