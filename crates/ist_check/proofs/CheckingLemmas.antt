@@ -16,7 +16,12 @@ use Rattle.std.proofs.Common.{
   drop,
   reverse,
   Result,
+  Option,
+  Some,
+  None,
+  IfSome,
   Err,
+  subst,
   sym,
   ap,
   arith,
@@ -39,8 +44,12 @@ use Rattle.ist_core.specs.Logs.{Log}
 use Rattle.ist_check_events.specs.declared.pasts.Past.{Past}
 use Rattle.ist_check_events.specs.declared.pasts.Slot.{Slot}
 use Rattle.ist_check_events.specs.declared.pasts.Way.{Way}
+use Rattle.ist_check.specs.declared.explaining.Refusal.{Refusal}
+use Rattle.ist_check_reasons.specs.declared.conditions.Condition.{Condition}
+use Rattle.ist_check_reasons.specs.Conditions.{says_of}
+use Rattle.ist_check_reasons.specs.Failing.{Tells}
 use Rattle.ist_check.specs.Knowing.{Knows, Remembers}
-use Rattle.ist_check.specs.Verdicts.{IsFirstUnlawful}
+use Rattle.ist_check.specs.Verdicts.{IsFirstUnlawful, FailsAt}
 
 -- the answer is the fault that names this event
 abbrev IsFault : ℕ → Result State CheckFault → Type 0
@@ -58,6 +67,11 @@ module _ (events : List Event) (at : ℕ) (event : Event) (below : at < length e
       ap reverse (take_more events at event below ∙ ap (λ e. take at events ++ e ∷ []) (sym is))
       ∙ reverse-append (take at events) (event ∷ [])
 
+  -- the event stands in front of those behind it
+  rest : drop at events ≡ event ∷ drop (at + 1) events
+  rest = drop-cons events at event below ∙ ap (λ e. e ∷ drop (suc at) events) (sym is)
+      ∙ (let next : suc at ≡ at + 1 = omega arith in ap (λ n. event ∷ drop n events) next)
+
   -- an event that may not come behind a lawful log of those before it is the first such
   pub first_unlawful : (pairs : List Pair) (words : ℕ) → Lawful pairs words
       (reverse (take at events))
@@ -73,10 +87,32 @@ module _ (events : List Event) (at : ℕ) (event : Event) (below : at < length e
         lawful = lawful;
         refused = refused;
       }
-    where
-      rest : drop at events ≡ event ∷ drop (at + 1) events
-      rest = drop-cons events at event below ∙ ap (λ e. e ∷ drop (suc at) events) (sym is)
-          ∙ (let next : suc at ≡ at + 1 = omega arith in ap (λ n. event ∷ drop n events) next)
+
+  -- where a condition of it is the first that is false, it fails so
+  pub fails_at : (pairs : List Pair) (words : ℕ) (condition : Condition) → Lawful pairs words
+      (reverse (take at events))
+      → Tells (says_of (start pairs words) (reverse (take at events)) event) (Some condition)
+      → FailsAt pairs words events at condition
+  fails_at pairs words condition lawful tells =
+      record {
+        before = take at events;
+        event = event;
+        after_it = drop (at + 1) events;
+        events_are = sym (take-append-drop at events) ∙ ap (λ es. take at events ++ es) rest;
+        at_is = sym (length-take-le at events (omega arith));
+        lawful = lawful;
+        fails = tells;
+      }
+
+  -- and so it is told, where one is named
+  pub found_fails : (pairs : List Pair) (words : ℕ) → Lawful pairs words (reverse (take at events))
+      → (found : Option Refusal) → IfSome found (λ r. (r.at ≡ at)
+      × Tells (says_of (start pairs words) (reverse (take at events)) event) (Some r.condition))
+      → IfSome found (λ r. FailsAt pairs words events r.at r.condition)
+  found_fails pairs words lawful None f = tt
+  found_fails pairs words lawful (Some r) f =
+      subst (λ n. FailsAt pairs words events n r.condition) (sym f.0)
+      (fails_at pairs words r.condition lawful f.1)
 
 -- what the other tables hold doesn't depend on those of the slots and the ways
 slots_apart : (past : Past) (slots : BTreeMap ℕ Slot) (ways : BTreeMap ℕ Way) (pairs : List Pair) (words : ℕ) (log : Log)

@@ -1,10 +1,13 @@
 -- What is said of a list of events, the oldest first: the state behind it, or the first that may not come.
-use Rattle.std.specs.Prelude.{◌≡◌, ℕ, List, ◌∷◌, ◌++◌, length, reverse}
+use Rattle.std.specs.Prelude.{◌≡◌, ℕ, List, ◌∷◌, ◌++◌, length, reverse, Some}
 use Rattle.ist_core.specs.declared.pairs.Pair.{Pair}
 use Rattle.ist_core.specs.declared.events.Event.{Event}
 use Rattle.ist_core.specs.StartLayout.{start}
 use Rattle.ist_core.specs.Enabled.{Enabled}
 use Rattle.ist_core.specs.Lawful.{Lawful}
+use Rattle.ist_check_reasons.specs.declared.conditions.Condition.{Condition}
+use Rattle.ist_check_reasons.specs.Conditions.{says_of}
+use Rattle.ist_check_reasons.specs.Failing.{Tells}
 
 -- event number `at`, from 0, is the first that may not come: those before it are a lawful log, and it isn't enabled behind it
 pub record IsFirstUnlawful (pairs : List Pair) (words : ℕ) (events : List Event) (at : ℕ) : Type 0 where
@@ -15,3 +18,13 @@ pub record IsFirstUnlawful (pairs : List Pair) (words : ℕ) (events : List Even
   pub at_is : at ≡ length before
   pub lawful : Lawful pairs words (reverse before)
   pub refused : ¬ (Enabled (start pairs words) (reverse before) event)
+
+-- behind those before it, which are a lawful log, the condition of event number `at` is false, and all before it hold
+pub record FailsAt (pairs : List Pair) (words : ℕ) (events : List Event) (at : ℕ) (condition : Condition) : Type 0 where
+  pub before : List Event
+  pub event : Event
+  pub after_it : List Event
+  pub events_are : events ≡ before ++ event ∷ after_it
+  pub at_is : at ≡ length before
+  pub lawful : Lawful pairs words (reverse before)
+  pub fails : Tells (says_of (start pairs words) (reverse before) event) (Some condition)

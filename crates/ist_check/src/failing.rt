@@ -1,0 +1,114 @@
+//! Which condition of an event fails first behind the events so far.
+ghost use Rattle.std.specs.Prelude.{ℕ, List, IfOk};
+ghost use Rattle.ist_core.specs.declared.pairs.Pair.{Pair as APair};
+ghost use Rattle.ist_core.specs.StartLayout.{start};
+ghost use Rattle.ist_core.specs.Logs.{Log};
+ghost use Rattle.ist_check_reasons.specs.Conditions.{says_of};
+ghost use Rattle.ist_check_reasons.specs.Failing.{Tells};
+ghost use Rattle.ist_check.specs.Knowing.{Knows, IsOfBuild};
+
+use ist_check_events::{Past, Replica};
+use ist_check_reasons::{
+    Condition, count_fails, decide_fails, draw_fails, enter_fails, finish_fails, install_fails,
+    lose_fails, mark_fails, okay_fails, pass_fails, place_fails, reserve_fails, resolve_fails,
+    root_fails,
+};
+use ist_core::Event;
+use std::alloc::{AllocError, Global};
+
+/// Which condition of the event fails first, if one does?
+pub(crate) fn fails(
+    alloc: Global,
+    replica: &Replica,
+    past: &Past,
+    event: &Event,
+) -> Result<Option<Condition>, AllocError>
+    ensures exact { IfOk result (λ fails. (pairs : List APair) → (words : ℕ) → (log : Log)
+        → Knows replica.now past.now pairs words log
+        → Tells (says_of (start pairs words) log event.now) fails) }
+{
+    match event {
+        Event::Enter { caller } => Ok(enter_fails(replica, *caller)),
+        Event::Reserve { caller, base, size } => {
+            reserve_fails(alloc, replica, past, *caller, *base, *size)
+        }
+        Event::Install {
+            caller,
+            change,
+            rows,
+        } => Ok(install_fails(replica, past, *caller, *change, rows.as_slice())),
+        Event::Okay { caller, change } => Ok(okay_fails(replica, *caller, *change)),
+        Event::Decide {
+            caller,
+            change,
+            yes,
+        } => Ok(decide_fails(replica, past, *caller, *change, *yes)),
+        Event::Resolve { caller, change } => Ok(resolve_fails(replica, *caller, *change)),
+        Event::Count { caller, node } => Ok(count_fails(replica, past, *caller, *node)),
+        Event::Mark { caller, node } => Ok(mark_fails(replica, past, *caller, *node)),
+        Event::Pass {
+            caller,
+            node,
+            index,
+            word,
+        } => Ok(pass_fails(replica, *caller, *node, *index, *word)),
+        Event::Finish { caller, node, keys } => {
+            Ok(finish_fails(replica, past, *caller, *node, *keys))
+        }
+        Event::Root { .. } => build_fails(alloc, replica, past, event),
+        Event::Draw {
+            caller,
+            rebuild,
+            part,
+        } => Ok(draw_fails(replica, past, *caller, *rebuild, *part)),
+        Event::Place { .. } => build_fails(alloc, replica, past, event),
+        Event::Lose { caller, bases } => {
+            lose_fails(alloc, replica, past, *caller, bases.as_slice())
+        }
+    }
+}
+
+/// The same of a root or a part.
+fn build_fails(
+    alloc: Global,
+    replica: &Replica,
+    past: &Past,
+    event: &Event,
+) -> Result<Option<Condition>, AllocError>
+    ensures exact { IfOk result (λ fails. (pairs : List APair) → (words : ℕ) → (log : Log)
+        → Knows replica.now past.now pairs words log → IsOfBuild event.now
+        → Tells (says_of (start pairs words) log event.now) fails) }
+{
+    match event {
+        Event::Root {
+            caller,
+            rebuild,
+            word,
+            rows,
+        } => root_fails(
+            alloc,
+            replica,
+            past,
+            *caller,
+            *rebuild,
+            *word,
+            rows.as_slice(),
+        ),
+        Event::Place {
+            caller,
+            rebuild,
+            part,
+            word,
+            rows,
+        } => place_fails(
+            alloc,
+            replica,
+            *caller,
+            *rebuild,
+            *part,
+            *word,
+            rows.as_slice(),
+        ),
+        _ => Ok(None),
+    }
+}

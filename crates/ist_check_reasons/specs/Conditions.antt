@@ -1,0 +1,225 @@
+-- The conditions of each kind of event, in order, each with what it says. Together they are the event's enabling condition.
+use Rattle.std.specs.Prelude.{◌≡◌, ◌≢◌, ◌==◌, ◌+◌, ◌<◌, ◌≤◌, if◌then◌else◌, ℕ, Bool, List, [], ◌∷◌, slice_get, Option, Some, None}
+use Rattle.ist_core.specs.declared.events.Event.{Event}
+use Rattle.ist_core.specs.declared.events.Event.TheVariants.{Enter, Reserve, Install, Okay, Decide, Resolve, Count, Mark, Pass, Finish, Root as RootEvent, Draw, Place, Lose}
+use Rattle.ist_core.specs.declared.states.ChangeRow.{ChangeRow}
+use Rattle.ist_core.specs.declared.states.InnerRow.{InnerRow}
+use Rattle.ist_core.specs.declared.states.RebuildRow.{RebuildRow}
+use Rattle.ist_core.specs.declared.lists.Row.{Row}
+use Rattle.ist_core.specs.References.{ChangeAt, InnerAt, ref_of, unset_word}
+use Rattle.ist_core.specs.Statuses.{open_word, marked_word, undecided}
+use Rattle.ist_core.specs.Shapes.{share_from}
+use Rattle.ist_core.specs.Pieces.{Inner, Change, Rebuild, change_of}
+use Rattle.ist_core.specs.Snapshots.{Snapshot, HoldsRows}
+use Rattle.ist_core.specs.Logs.{Log, state}
+use Rattle.ist_core.specs.Slots.{SlotHolds}
+use Rattle.ist_core.specs.Links.{WasLinked}
+use Rattle.ist_core.specs.Rebuilding.{IsStarted, IsFinishedWith}
+use Rattle.ist_core.specs.Enabled.{CanEnter, CanReserve}
+use Rattle.ist_core.specs.Installing.{CanInstall, IsUnrefused}
+use Rattle.ist_core.specs.Deciding.{IsPending, CanOkay, CanDecide, CanResolve, CanCount}
+use Rattle.ist_core.specs.Marking.{CanMark, CanPass, CanFinish}
+use Rattle.ist_core.specs.Building.{CanRoot, CanDraw, CanPlace, CanLose}
+use Rattle.ist_check_events.specs.Mirroring.{RowHolds}
+use Rattle.ist_check_events.specs.Remembering.{IsUncounted}
+use Rattle.ist_check_reasons.specs.declared.conditions.Condition.TheVariants as c
+use Rattle.ist_check_reasons.specs.Failing.{Stated, states}
+
+-- ---- single conditions
+
+-- a change with P is published at the base
+pub record HasChange (t : Snapshot) (base : ℕ) (P : ChangeRow → Type 0) : Type 0 where
+  pub change : ChangeRow
+  pub published : t.pieces base ≡ Some (Change change)
+  pub says : P change
+
+-- an inner row with P is published at the base
+pub record HasInner (t : Snapshot) (base : ℕ) (P : InnerRow → Type 0) : Type 0 where
+  pub row : InnerRow
+  pub published : t.pieces base ≡ Some (Inner row)
+  pub says : P row
+
+-- a rebuild with P is published at the base
+pub record HasRebuild (t : Snapshot) (base : ℕ) (P : RebuildRow → Type 0) : Type 0 where
+  pub row : RebuildRow
+  pub published : t.pieces base ≡ Some (Rebuild row)
+  pub says : P row
+
+-- whatever it is
+abbrev pub Any : {A : Type 0} → A → Type 0
+Any x = Unit {0}
+
+-- the change that the first of the rows is, where it lies at the base
+abbrev pub first_change : List Row → ℕ → Option ChangeRow
+first_change [] base = None
+first_change (row ∷ fresh) base = if row.base == base then change_of row.words else None
+
+-- there is a change, and it has P
+abbrev pub IsWith : (ChangeRow → Type 0) → Option ChangeRow → Type 0
+IsWith P None = ⊥
+IsWith P (Some change) = P change
+
+-- the target of the rebuild is finished, with so many keys that Q holds of them
+abbrev pub IsFinishedSo : Snapshot → RebuildRow → (ℕ → Type 0) → Type 0
+IsFinishedSo t row Q = (k : ℕ) × IsFinishedWith t row.target k × Q k
+
+-- ---- the kinds
+
+-- of an Enter
+abbrev pub enter_says : Snapshot → ℕ → List Stated
+enter_says t caller =
+    states c.Number (caller ≡ t.callers)
+    ∷ states c.BelowLimit (CanEnter t caller)
+    ∷ []
+
+-- of a Reserve
+abbrev pub reserve_says : Snapshot → ℕ → ℕ → ℕ → List Stated
+reserve_says t caller base size =
+    states c.Known (caller < t.callers)
+    ∷ states c.BaseIs (base ≡ t.next)
+    ∷ states c.Room (t.next + size ≤ t.words)
+    ∷ states c.Fair (CanReserve t caller base size)
+    ∷ []
+
+-- of an Install, where the first of its rows is this change
+abbrev pub says_of_change : Snapshot → Log → ℕ → ℕ → List Row → Option ChangeRow → List Stated
+says_of_change first log caller base rows named =
+    let t = state first log in
+    states c.Known (caller < t.callers)
+    ∷ states c.RowsAre (IsWith Any named)
+    ∷ states c.Held (HoldsRows t caller rows)
+    ∷ states c.Owned (IsWith (λ change. change.owner ≡ caller) named)
+    ∷ states c.Unset (IsWith (λ change. change.decision ≡ undecided) named)
+    ∷ states c.InSlot (IsWith (λ change. SlotHolds t change.node change.index change.from) named)
+    ∷ states c.Linked (IsWith (λ change. WasLinked first log change.node) named)
+    ∷ states c.Unrefused (IsWith (λ change. IsUnrefused t caller change.node) named)
+    ∷ states c.Fits (CanInstall first log caller base rows)
+    ∷ []
+
+-- of an Install
+abbrev pub install_says : Snapshot → Log → ℕ → ℕ → List Row → List Stated
+install_says first log caller base rows = says_of_change first log caller base rows (first_change rows base)
+
+-- of an Okay
+abbrev pub okay_says : Snapshot → ℕ → ℕ → List Stated
+okay_says t caller base =
+    states c.Known (caller < t.callers)
+    ∷ states c.Published (HasChange t base Any)
+    ∷ states c.Unset (HasChange t base (λ change. change.decision ≡ undecided))
+    ∷ states c.NodeOpen (CanOkay t caller base)
+    ∷ []
+
+-- of a Decide
+abbrev pub decide_says : Snapshot → Log → ℕ → ℕ → Bool → List Stated
+decide_says t log caller base said =
+    states c.Known (caller < t.callers)
+    ∷ states c.Published (HasChange t base Any)
+    ∷ states c.Unset (HasChange t base (λ change. change.decision ≡ undecided))
+    ∷ states c.Outcome (CanDecide t log caller base said)
+    ∷ []
+
+-- of a Resolve
+abbrev pub resolve_says : Snapshot → ℕ → ℕ → List Stated
+resolve_says t caller base =
+    states c.Known (caller < t.callers)
+    ∷ states c.Published (HasChange t base Any)
+    ∷ states c.Decided (HasChange t base (λ change. change.decision ≢ undecided))
+    ∷ states c.InSlot (CanResolve t caller base)
+    ∷ []
+
+-- of a Count
+abbrev pub count_says : Snapshot → Log → ℕ → ℕ → List Stated
+count_says first log caller node =
+    states c.Known (caller < (state first log).callers)
+    ∷ states c.Uncounted ((base : ℕ) × IsUncounted (state first log) log caller node base)
+    ∷ states c.OnChain (CanCount first log caller node)
+    ∷ []
+
+-- of a Mark
+abbrev pub mark_says : Snapshot → Log → ℕ → ℕ → List Stated
+mark_says t log caller node =
+    states c.Known (caller < t.callers)
+    ∷ states c.Published (HasInner t node Any)
+    ∷ states c.RowOpen (HasInner t node (λ row. row.status ≡ open_word))
+    ∷ states c.Called (CanMark t log caller node)
+    ∷ []
+
+-- of a Pass
+abbrev pub pass_says : Snapshot → ℕ → ℕ → ℕ → ℕ → List Stated
+pass_says t caller node i word =
+    states c.Known (caller < t.callers)
+    ∷ states c.Published (HasInner t node Any)
+    ∷ states c.Marked (HasInner t node (λ row. row.status ≡ marked_word))
+    ∷ states c.InSlot (HasInner t node (λ row. slice_get row.slots i ≡ Some word))
+    ∷ states c.NoChange ((base : ℕ) → ref_of word ≢ Some (ChangeAt base))
+    ∷ states c.Set (CanPass t caller node i word)
+    ∷ []
+
+-- of a Finish
+abbrev pub finish_says : Snapshot → Log → ℕ → ℕ → ℕ → List Stated
+finish_says t log caller node k =
+    states c.Known (caller < t.callers)
+    ∷ states c.Published (HasInner t node Any)
+    ∷ states c.Marked (HasInner t node (λ row. row.status ≡ marked_word))
+    ∷ states c.Passed (CanFinish t log caller node k)
+    ∷ []
+
+-- of a Root
+abbrev pub root_says : Snapshot → ℕ → ℕ → ℕ → List Row → List Stated
+root_says t caller rebuild word rows =
+    states c.Known (caller < t.callers)
+    ∷ states c.Published (HasRebuild t rebuild Any)
+    ∷ states c.Started (IsStarted t rebuild)
+    ∷ states c.Rootless (HasRebuild t rebuild (λ row. row.root ≡ unset_word))
+    ∷ states c.Finished (HasRebuild t rebuild (λ row. IsFinishedSo t row Any))
+    ∷ states c.Held (HoldsRows t caller rows)
+    ∷ states c.Root (CanRoot t caller rebuild word rows)
+    ∷ []
+
+-- of a Draw
+abbrev pub draw_says : Snapshot → Log → ℕ → ℕ → ℕ → List Stated
+draw_says t log caller rebuild part =
+    states c.Known (caller < t.callers)
+    ∷ states c.Published (HasRebuild t rebuild Any)
+    ∷ states c.Rooted (HasRebuild t rebuild (λ row. row.root ≢ unset_word))
+    ∷ states c.Finished (HasRebuild t rebuild (λ row. IsFinishedSo t row Any))
+    ∷ states c.Shared (HasRebuild t rebuild (λ row. IsFinishedSo t row (λ k. share_from ≤ k)))
+    ∷ states c.PartIs (HasRebuild t rebuild (λ row. part ≡ row.draw))
+    ∷ states c.NotPast (CanDraw t log caller rebuild part)
+    ∷ []
+
+-- of a Place
+abbrev pub place_says : Snapshot → ℕ → ℕ → ℕ → ℕ → List Row → List Stated
+place_says t caller rebuild i word rows =
+    states c.Known (caller < t.callers)
+    ∷ states c.Published (HasRebuild t rebuild Any)
+    ∷ states c.Rooted (HasRebuild t rebuild (λ row. (root : ℕ) × (ref_of row.root ≡ Some (InnerAt root))))
+    ∷ states c.Free (HasRebuild t rebuild (λ row. (root : ℕ) × (ref_of row.root ≡ Some (InnerAt root))
+    × RowHolds t root i unset_word))
+    ∷ states c.Held (HoldsRows t caller rows)
+    ∷ states c.Ideal (CanPlace t caller rebuild i word rows)
+    ∷ []
+
+-- of a Lose
+abbrev pub lose_says : Snapshot → Log → ℕ → List ℕ → List Stated
+lose_says t log caller bases =
+    states c.Known (caller < t.callers)
+    ∷ states c.Cause (CanLose t log caller bases)
+    ∷ []
+
+-- the conditions of the event, in order, behind the log
+abbrev pub says_of : Snapshot → Log → Event → List Stated
+says_of first log (Enter caller) = enter_says (state first log) caller
+says_of first log (Reserve caller base size) = reserve_says (state first log) caller base size
+says_of first log (Install caller change rows) = install_says first log caller change rows
+says_of first log (Okay caller change) = okay_says (state first log) caller change
+says_of first log (Decide caller change said) = decide_says (state first log) log caller change said
+says_of first log (Resolve caller change) = resolve_says (state first log) caller change
+says_of first log (Count caller node) = count_says first log caller node
+says_of first log (Mark caller node) = mark_says (state first log) log caller node
+says_of first log (Pass caller node i word) = pass_says (state first log) caller node i word
+says_of first log (Finish caller node keys) = finish_says (state first log) log caller node keys
+says_of first log (RootEvent caller rebuild word rows) = root_says (state first log) caller rebuild word rows
+says_of first log (Draw caller rebuild part) = draw_says (state first log) log caller rebuild part
+says_of first log (Place caller rebuild part word rows) = place_says (state first log) caller rebuild part word rows
+says_of first log (Lose caller bases) = lose_says (state first log) log caller bases

@@ -1,0 +1,3 @@
+-- what the public contracts rest on, in the order to read them
+pub mod Failing
+pub mod Conditions
