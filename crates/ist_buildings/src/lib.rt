@@ -7,6 +7,8 @@
 #[cfg(test)]
 mod callers;
 #[cfg(test)]
+mod few;
+#[cfg(test)]
 mod frozen;
 #[cfg(test)]
 mod late;
