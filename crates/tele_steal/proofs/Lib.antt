@@ -2,4 +2,5 @@ pub mod RunLemmas
 pub mod ShuffleLemmas
 pub mod ViewLemmas
 pub mod TallyLemmas
+pub mod OwnerLemmas
 pub mod OrderLemmas

@@ -14,7 +14,8 @@ module _ {P T : Type 0} (tie : P → T) where
   -- lanes with the same numbers, tasks and ties have the same tickets
   pub same_tickets : (xs ys : List (Lane P T)) → map (λ l. l.number) ys ≡ map (λ l. l.number) xs
       → map (λ l. l.tasks) ys ≡ map (λ l. l.tasks) xs
-      → map (λ l. tie l.port) ys ≡ map (λ l. tie l.port) xs → map (ticket tie) ys ≡ map (ticket tie) xs
+      → map (λ l. tie l.port) ys ≡ map (λ l. tie l.port) xs
+      → map (ticket tie) ys ≡ map (ticket tie) xs
   same_tickets [] [] a b c = refl
   same_tickets [] (y ∷ ys) a b c = absurd (let n = ap length a in omega (arith, n))
   same_tickets (x ∷ xs) [] a b c = absurd (let n = ap length a in omega (arith, n))
@@ -27,8 +28,10 @@ module _ {P T : Type 0} (tie : P → T) where
       λ i. record { number = number i; tasks = tasks i; tie = tied i } in
       (λ i. first i ∷ rest i)
 
--- a list of which the part before a place stayed, and the part behind it came to fit, in the place of the old one
-pub put_back : {X : Type 0} (Fits : X → Type 0) (before : List X) (x : X) (old new : List X) (at n : ℕ)
+-- a list of which the part before a place stayed, and the part behind it came to fit, in the place
+-- of the old one
+pub put_back : {X : Type 0} (Fits : X → Type 0) (before : List X) (x : X) (old new : List X)
+    (at n : ℕ)
     → at ≡ length before → old ≡ before ++ x ∷ [] → length new ≡ length old → n ≡ length old
     → take at new ≡ take at old → All Fits before → All Fits (drop at new)
     → All Fits (take n (new ++ drop (length new) old))
@@ -45,34 +48,39 @@ put_back Fits before x old new at n from is long size kept fit rest =
     subst (All Fits) (sym whole) all
 
 -- what is true of all is true of all but the last
-pub All-rest : {X : Type 0} (Fits : X → Type 0) (xs ys zs : List X) → xs ≡ ys ++ zs → All Fits xs → All Fits ys
+pub All-rest : {X : Type 0} (Fits : X → Type 0) (xs ys zs : List X) → xs ≡ ys ++ zs → All Fits xs
+    → All Fits ys
 All-rest Fits xs ys zs is all =
-    subst (All Fits) (take-append_seam ys zs) (All-take Fits (length ys) (ys ++ zs) (subst (All Fits) is all))
+    subst (All Fits) (take-append_seam ys zs) (All-take Fits (length ys) (ys ++ zs)
+    (subst (All Fits) is all))
 
 -- what is true of all is true of the last
-pub All-last : {X : Type 0} (Fits : X → Type 0) (xs ys : List X) (x : X) → xs ≡ ys ++ x ∷ [] → All Fits xs → Fits x
+pub All-last : {X : Type 0} (Fits : X → Type 0) (xs ys : List X) (x : X) → xs ≡ ys ++ x ∷ []
+    → All Fits xs → Fits x
 All-last Fits xs ys x is all =
     All-head Fits x [] (subst (All Fits) (drop-append_seam ys (x ∷ []))
     (All-drop Fits (length ys) (ys ++ x ∷ []) (subst (All Fits) is all)))
 
 -- what is true of all and of one more is true of all with it
-pub All-more : {X : Type 0} (Fits : X → Type 0) (xs ys : List X) (x : X) → ys ≡ xs ++ x ∷ [] → All Fits xs → Fits x
-    → All Fits ys
+pub All-more : {X : Type 0} (Fits : X → Type 0) (xs ys : List X) (x : X) → ys ≡ xs ++ x ∷ []
+    → All Fits xs → Fits x → All Fits ys
 All-more Fits xs ys x is all one = subst (All Fits) (sym is) (All-push Fits xs x all one)
 
 -- one more element
-pub length_more : {X : Type 0} (xs ys : List X) (x : X) → ys ≡ xs ++ x ∷ [] → length ys ≡ length xs + 1
+pub length_more : {X : Type 0} (xs ys : List X) (x : X) → ys ≡ xs ++ x ∷ []
+    → length ys ≡ length xs + 1
 length_more xs ys x is = ap length is ∙ length-append xs (x ∷ [])
 
 -- lists of which f makes as many elements are as long
-pub same_length : {X Y : Type 0} (f : X → Y) (xs ys : List X) (more : List Y) → map f ys ≡ map f xs ++ more
-    → length ys ≡ length xs + length more
+pub same_length : {X Y : Type 0} (f : X → Y) (xs ys : List X) (more : List Y)
+    → map f ys ≡ map f xs ++ more → length ys ≡ length xs + length more
 same_length f xs ys more is =
     sym (length-map ys f) ∙ ap length is ∙ length-append (map f xs) more
     ∙ ap (λ n. n + length more) (length-map xs f)
 
 -- what f makes of a list and of some more, behind what it made of the list before
-pub behind : {X Y Z : Type 0} (f : X → Y) (g : Z → Y) (xs ys : List X) (front : List Y) (old more new : List Z)
+pub behind : {X Y Z : Type 0} (f : X → Y) (g : Z → Y) (xs ys : List X) (front : List Y)
+    (old more new : List Z)
     → map f ys ≡ map f xs ++ map g more → map f xs ≡ front ++ map g old → new ≡ old ++ more
     → map f ys ≡ front ++ map g new
 behind f g xs ys front old more new now before is =

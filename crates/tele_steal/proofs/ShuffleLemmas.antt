@@ -30,7 +30,8 @@ module _ {X : Type 0} where
       (IsPermutation-trans (x ++ (a ++ (b ++ c))) (a ++ (x ++ (b ++ c))) (a ++ ((b ++ x) ++ c))
       (second_first x a (b ++ c))
       (IsPermutation-append_right a (x ++ (b ++ c)) ((b ++ x) ++ c)
-      (subst (λ z. IsPermutation (x ++ (b ++ c)) z) (sym (append_assoc b x c)) (second_first x b c)))))
+      (subst (λ z. IsPermutation (x ++ (b ++ c)) z) (sym (append_assoc b x c))
+      (second_first x b c)))))
 
   -- what leads the first of three parts goes before the third
   pub joins_third : (put x a b c d : List X) → IsPermutation (x ++ c) d
@@ -56,7 +57,8 @@ module _ {X : Type 0} where
   moves took xs before after rest was is =
       IsPermutation-trans (xs ++ before) (xs ++ (took ++ rest)) after
       (IsPermutation-append_right xs before (took ++ rest) was)
-      (IsPermutation-trans (xs ++ (took ++ rest)) (took ++ (xs ++ rest)) after (second_first xs took rest)
+      (IsPermutation-trans (xs ++ (took ++ rest)) (took ++ (xs ++ rest)) after
+      (second_first xs took rest)
       (subst (λ z. IsPermutation z after) (append_assoc took xs rest)
       (IsPermutation-sym after ((took ++ xs) ++ rest) is)))
 

@@ -18,17 +18,20 @@ use Rattle.tele_steal.proofs.ViewLemmas.{seat_within, sum_by-seat, flat_map-seat
 module _ {X : Type 0} (Fits : X → Type 0) where
   -- the rule, and the owner where its pass is known
   pub owned : (port : ℕ) (v : Tally X) (items : List X) (views : List (Tally X)) → IsOwners v
-      → Balances Fits items views → get_elem? views port ≡ some v → BalancesAt Fits port v items views
+      → Balances Fits items views → get_elem? views port ≡ some v
+      → BalancesAt Fits port v items views
   owned port v items views is b at =
       let same_port : port ≡ b.port = b.kept.alone port v at (ap (λ (z : Tally X). z.owner) is) in
-      let there : get_elem? views port ≡ some b.own = ap (λ p. get_elem? views p) same_port ∙ b.kept.seated in
+      let there : get_elem? views port ≡ some b.own =
+      ap (λ p. get_elem? views p) same_port ∙ b.kept.seated in
       let own : b.own ≡ v = some-injective b.own v (sym there ∙ at) in
       subst (λ p. BalancesAt Fits p v items views) (sym same_port)
       (subst (λ z. BalancesAt Fits b.port z items views) own b.kept)
 
   -- what was put in is as much as what is in the deque, what came back and what workers took
-  pub counted : (port : ℕ) (v : Tally X) (items : List X) (views : List (Tally X)) → BalancesAt Fits port v items views
-      → length v.put ≡ length items + (length v.back + length (flat_map taken_by views))
+  pub counted : (port : ℕ) (v : Tally X) (items : List X) (views : List (Tally X))
+      → BalancesAt Fits port v items views → length v.put
+      ≡ length items + (length v.back + length (flat_map taken_by views))
   counted port v items views b =
       let F = flat_map taken_by views in
       sym (length_permutation v.put (items ++ (v.back ++ F)) b.same)
@@ -37,8 +40,8 @@ module _ {X : Type 0} (Fits : X → Type 0) where
   -- the owner's tally changes, and with it what is in the deque
   pub restated : (port : ℕ) (v w : Tally X) (items more : List X) (views : List (Tally X))
       → BalancesAt Fits port v items views → IsOwners w → w.out ≡ v.out
-      → IsPermutation w.put (more ++ (w.back ++ flat_map taken_by views)) → length w.put ≤ 64 → All Fits more
-      → BalancesAt Fits port w more (set views port w)
+      → IsPermutation w.put (more ++ (w.back ++ flat_map taken_by views)) → length w.put ≤ 64
+      → All Fits more → BalancesAt Fits port w more (set views port w)
   restated port v w items more views b is out same few fit =
       let unbusy : busy_of v ≡ 0 = ap (λ (z : Tally X). z.busy) b.owners in
       let unbusy' : busy_of w ≡ 0 = ap (λ (z : Tally X). z.busy) is in
@@ -50,7 +53,8 @@ module _ {X : Type 0} (Fits : X → Type 0) where
       record {
         seated = set_here views port w (seat_within views port v b.seated);
         owners = is;
-        alone = λ j u e boss. ⊎_elim (λ x. x.0) (λ x. b.alone j u x.1 boss) (at_set views port j w u e);
+        alone = λ j u e boss. ⊎_elim (λ x. x.0) (λ x. b.alone j u x.1 boss)
+            (at_set views port j w u e);
         workers = let kept = b.workers in let s = out in omega arith;
         idle = All-set IdleTookNothing views port w (λ _. took') b.idle;
         same = subst (λ z. IsPermutation w.put (more ++ (w.back ++ z))) (sym flat) same;
@@ -68,7 +72,8 @@ module _ {X : Type 0} (Fits : X → Type 0) where
       owners = refl;
       alone = λ j u e boss. seat_last (of_owner 0 [] []) u j e;
       workers = refl;
-      idle = All-cons IdleTookNothing (of_owner 0 [] []) [] (λ _. refl) (λ k d h. absurd (omega arith));
+      idle = All-cons IdleTookNothing (of_owner 0 [] []) [] (λ _. refl)
+          (λ k d h. absurd (omega arith));
       same = IsPermutation-refl [];
       few = omega arith;
       fit = λ k d h. absurd (omega arith);
@@ -81,7 +86,8 @@ module _ {X : Type 0} (Fits : X → Type 0) where
   puts port v x is few fit items views b at =
       let w : Tally X = of_owner v.out (v.put ++ x ∷ []) v.back in
       let o = owned port v items views is b at in
-      let more : length (v.put ++ x ∷ []) ≤ 64 = let l = length-append v.put (x ∷ []) in omega arith in (
+      let more : length (v.put ++ x ∷ []) ≤ 64 = let l =
+      length-append v.put (x ∷ []) in omega arith in (
         w,
         record {
           port = port;
@@ -95,13 +101,16 @@ module _ {X : Type 0} (Fits : X → Type 0) where
 
   -- all of two lists fit, so do those of each
   fit_left : (xs ys : List X) → All Fits (xs ++ ys) → All Fits xs
-  fit_left xs ys h = subst (All Fits) (take-append_seam xs ys) (All-take Fits (length xs) (xs ++ ys) h)
+  fit_left xs ys h = subst (All Fits) (take-append_seam xs ys)
+      (All-take Fits (length xs) (xs ++ ys) h)
 
   fit_right : (xs ys : List X) → All Fits (xs ++ ys) → All Fits ys
-  fit_right xs ys h = subst (All Fits) (drop-append_seam xs ys) (All-drop Fits (length xs) (xs ++ ys) h)
+  fit_right xs ys h = subst (All Fits) (drop-append_seam xs ys)
+      (All-drop Fits (length xs) (xs ++ ys) h)
 
   -- the owner takes some back
-  pub draws : (port : ℕ) (v : Tally X) → IsOwners v → Takes (Balances Fits) port v 1 (HasDrawn Fits v)
+  pub draws : (port : ℕ) (v : Tally X) → IsOwners v
+      → Takes (Balances Fits) port v 1 (HasDrawn Fits v)
   draws port v is xs items views _ _ b at =
       let w : Tally X = of_owner v.out v.put (v.back ++ xs) in
       let o = owned port v (xs ++ items) views is b at in
@@ -136,15 +145,17 @@ module _ {X : Type 0} (Fits : X → Type 0) where
       let n = counted port v items views (owned port v items views is b at) in omega arith
 
   -- the pass of a worker isn't the owner's
-  owner_apart : (port : ℕ) (v : Tally X) (items : List X) (views : List (Tally X)) → v ≡ of_worker v.taken
-      → (b : Balances Fits items views) → get_elem? views port ≡ some v → b.port ≢ port
+  owner_apart : (port : ℕ) (v : Tally X) (items : List X) (views : List (Tally X))
+      → v ≡ of_worker v.taken → (b : Balances Fits items views) → get_elem? views port ≡ some v
+      → b.port ≢ port
   owner_apart port v items views is b at e =
       let same : b.own ≡ v = some-injective b.own v
       (sym b.kept.seated ∙ ap (λ p. get_elem? views p) e ∙ at) in
       true≢false (ap (λ (z : Tally X). z.owner) (sym b.kept.owners ∙ same ∙ is))
 
   -- a worker takes some
-  pub takes : (port : ℕ) (v : Tally X) → v ≡ of_worker v.taken → Takes (Balances Fits) port v 1 (HasTaken Fits v)
+  pub takes : (port : ℕ) (v : Tally X) → v ≡ of_worker v.taken
+      → Takes (Balances Fits) port v 1 (HasTaken Fits v)
   takes port v is xs items views _ _ b at =
       let w : Tally X = of_worker (v.taken ++ xs) in
       let o = b.kept in
@@ -152,7 +163,8 @@ module _ {X : Type 0} (Fits : X → Type 0) where
       let F = flat_map taken_by views in
       let F' = flat_map taken_by (set views port w) in
       let apart : b.port ≢ port = owner_apart port v (xs ++ items) views is b at in
-      let moved : IsPermutation (xs ++ F) F' = moves v.taken xs F F' mine.rest mine.before (mine.after w) in
+      let moved : IsPermutation (xs ++ F) F' =
+      moves v.taken xs F F' mine.rest mine.before (mine.after w) in
       let sums = sum_by-seat busy_of views port v w at in
       let busy : busy_of v ≡ 1 = ap (λ (z : Tally X). z.busy) is in
       let all = o.workers in
@@ -223,7 +235,8 @@ module _ {X : Type 0} (Fits : X → Type 0) where
           workers = omega (arith, unbusy, sums, one, all);
           idle = All-push IdleTookNothing vs (of_worker [])
               (All-set IdleTookNothing views port w (λ _. refl) o.idle) (λ _. refl);
-          same = subst (λ z. IsPermutation [] (z ++ ([] ++ flat_map taken_by (vs ++ of_worker [] ∷ [])))) (sym none.0)
+          same = subst (λ z. IsPermutation [] (z
+              ++ ([] ++ flat_map taken_by (vs ++ of_worker [] ∷ [])))) (sym none.0)
               (subst (λ z. IsPermutation [] z) (sym flat) (IsPermutation-refl []));
           few = omega arith;
           fit = o.fit;
@@ -231,8 +244,9 @@ module _ {X : Type 0} (Fits : X → Type 0) where
       }
 
   -- the owner takes back the pass of a worker
-  pub dismisses : (port : ℕ) (v : Tally X) (other : ℕ) (u : Tally X) → IsOwners v → u ≡ of_worker u.taken
-      → Merges (Balances Fits) port v other u (of_owner (v.out - 1) v.put (v.back ++ u.taken)) of_none
+  pub dismisses : (port : ℕ) (v : Tally X) (other : ℕ) (u : Tally X) → IsOwners v
+      → u ≡ of_worker u.taken → Merges (Balances Fits) port v other u
+      (of_owner (v.out - 1) v.put (v.back ++ u.taken)) of_none
   dismisses port v other u is worker items views b at apart at' =
       let o = owned port v items views is b at in
       let w : Tally X = of_owner (v.out - 1) v.put (v.back ++ u.taken) in
@@ -252,7 +266,8 @@ module _ {X : Type 0} (Fits : X → Type 0) where
       let parts : IsPermutation F (u.taken ++ F') =
       subst (λ z. IsPermutation z (u.taken ++ F')) flat
       (IsPermutation-trans (flat_map taken_by vs) (u.taken ++ mine.rest) (u.taken ++ F') mine.before
-      (IsPermutation-append_right u.taken mine.rest F' (IsPermutation-sym F' mine.rest (mine.after of_none)))) in
+      (IsPermutation-append_right u.taken mine.rest F'
+      (IsPermutation-sym F' mine.rest (mine.after of_none)))) in
       record {
         port = port;
         own = w;
@@ -271,23 +286,3 @@ module _ {X : Type 0} (Fits : X → Type 0) where
           fit = o.fit;
         };
       }
-
--- a tally that is written as an owner's is one
-pub is_owners : {X : Type 0} (v : Tally X) (out : ℕ) (put back : List X) → v ≡ of_owner out put back → IsOwners v
-is_owners v out put back e = subst IsOwners (sym e) refl
-
--- the owner takes back what a worker took, and there is one worker less
-pub owner_step : {X : Type 0} (v w : Tally X) (n k : ℕ) (put more : List X) → v ≡ of_owner n put v.back
-    → w ≡ of_owner (v.out - 1) v.put (v.back ++ more) → n ≡ k + 1 → w ≡ of_owner k put w.back
-owner_step v w n k put more old new less =
-    let count : v.out - 1 ≡ k = let out = ap (λ z. z.out) old in omega (arith, out, less) in
-    let same : v.put ≡ put = ap (λ z. z.put) old in
-    let back : v.back ++ more ≡ w.back = sym (ap (λ z. z.back) new) in
-    new ∙ (λ i. of_owner (count i) (same i) (back i))
-
--- the owner takes back some, and the workers stay
-pub draw_step : {X : Type 0} (v w : Tally X) (put more : List X) → v ≡ of_owner 0 put v.back
-    → w ≡ of_owner v.out v.put (v.back ++ more) → w ≡ of_owner 0 put w.back
-draw_step v w put more old new =
-    let back : v.back ++ more ≡ w.back = sym (ap (λ z. z.back) new) in
-    new ∙ (λ i. of_owner ((ap (λ z. z.out) old) i) ((ap (λ z. z.put) old) i) (back i))

@@ -16,7 +16,8 @@ module _ {X : Type 0} where
   seat_within (x ∷ xs) (suc i) u e = let h = seat_within xs i u e in omega arith
 
   -- what is true of all is true of the element at a place
-  pub seat_fits : (P : X → Type 0) (l : List X) (i : ℕ) (u : X) → get_elem? l i ≡ some u → All P l → P u
+  pub seat_fits : (P : X → Type 0) (l : List X) (i : ℕ) (u : X) → get_elem? l i ≡ some u → All P l
+      → P u
   seat_fits P [] i u e all = absurd (some-ne-none u (sym e))
   seat_fits P (x ∷ xs) zero u e all = subst P (some-injective x u e) (All-head P x xs all)
   seat_fits P (x ∷ xs) (suc i) u e all = seat_fits P xs i u e (All-tail P x xs all)
@@ -30,11 +31,12 @@ module _ {X : Type 0} where
       let old = sum_by-cons f x xs in let new = sum_by-cons f w xs in omega (arith, h, old, new)
   sum_by-seat f (x ∷ xs) (suc i) u w e =
       let h = sum_by-seat f xs i u w e in
-      let old = sum_by-cons f x xs in let new = sum_by-cons f x (set xs i w) in omega (arith, h, old, new)
+      let old = sum_by-cons f x xs in let new =
+      sum_by-cons f x (set xs i w) in omega (arith, h, old, new)
 
   -- an element is replaced by one of which f makes the same
-  pub flat_map-seat : {Y : Type 0} (f : X → List Y) (l : List X) (i : ℕ) (u w : X) → get_elem? l i ≡ some u
-      → f w ≡ f u → flat_map f (set l i w) ≡ flat_map f l
+  pub flat_map-seat : {Y : Type 0} (f : X → List Y) (l : List X) (i : ℕ) (u w : X)
+      → get_elem? l i ≡ some u → f w ≡ f u → flat_map f (set l i w) ≡ flat_map f l
   flat_map-seat f [] i u w e same = absurd (some-ne-none u (sym e))
   flat_map-seat f (x ∷ xs) zero u w e same =
       ap (λ z. z ++ flat_map f xs) (same ∙ ap f (sym (some-injective x u e)))
@@ -47,20 +49,24 @@ module _ {X : Type 0} where
     pub after : (w : X) → IsPermutation (flat_map f (set l i w)) (f w ++ rest)
 
   -- each element has such others
-  pub others : {Y : Type 0} (f : X → List Y) (l : List X) (i : ℕ) (u : X) → get_elem? l i ≡ some u → Others f l i u
+  pub others : {Y : Type 0} (f : X → List Y) (l : List X) (i : ℕ) (u : X) → get_elem? l i ≡ some u
+      → Others f l i u
   others f [] i u e = absurd (some-ne-none u (sym e))
   others f (x ∷ xs) zero u e = record {
     rest = flat_map f xs;
-    before = subst (λ z. IsPermutation (f x ++ flat_map f xs) (f z ++ flat_map f xs)) (some-injective x u e)
+    before = subst (λ z. IsPermutation (f x ++ flat_map f xs) (f z ++ flat_map f xs))
+        (some-injective x u e)
         (IsPermutation-refl (f x ++ flat_map f xs));
     after = λ w. IsPermutation-refl (f w ++ flat_map f xs);
   }
   others f (x ∷ xs) (suc i) u e = let o = others f xs i u e in record {
     rest = f x ++ o.rest;
-    before = IsPermutation-trans (f x ++ flat_map f xs) (f x ++ (f u ++ o.rest)) (f u ++ (f x ++ o.rest))
+    before = IsPermutation-trans (f x ++ flat_map f xs) (f x ++ (f u ++ o.rest))
+        (f u ++ (f x ++ o.rest))
         (IsPermutation-append_right (f x) (flat_map f xs) (f u ++ o.rest) o.before)
         (second_first (f x) (f u) o.rest);
-    after = λ w. IsPermutation-trans (f x ++ flat_map f (set xs i w)) (f x ++ (f w ++ o.rest)) (f w ++ (f x ++ o.rest))
+    after = λ w. IsPermutation-trans (f x ++ flat_map f (set xs i w)) (f x ++ (f w ++ o.rest))
+        (f w ++ (f x ++ o.rest))
         (IsPermutation-append_right (f x) (flat_map f (set xs i w)) (f w ++ o.rest) (o.after w))
         (second_first (f x) (f w) o.rest);
   }
@@ -82,5 +88,6 @@ module _ {X : Type 0} where
   flat_map-none f n (x ∷ xs) none idle =
       let sum = sum_by-cons n x xs in
       let head = All-head (λ u. n u ≡ 0 → f u ≡ []) x xs idle (omega (arith, sum, none)) in
-      let tail = flat_map-none f n xs (omega (arith, sum, none)) (All-tail (λ u. n u ≡ 0 → f u ≡ []) x xs idle) in
+      let tail = flat_map-none f n xs (omega (arith, sum, none))
+      (All-tail (λ u. n u ≡ 0 → f u ≡ []) x xs idle) in
       ap (λ z. z ++ flat_map f xs) head ∙ tail

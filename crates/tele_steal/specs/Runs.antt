@@ -23,8 +23,8 @@ pub record IsFresh {P T : Type 0} (calls_of : P → List Answered) (refusal_of :
   pub no_calls : calls_of l.port ≡ []
   pub unrefused : refusal_of l.port ≡ None
 
--- the lane was run: its port made the calls of its first tasks and has an answer to each, and it stopped where
--- its port refused the next
+-- the lane was run: its port made the calls of its first tasks and has an answer to each, and it
+-- stopped where its port refused the next
 pub record HasRun {P T : Type 0} (calls_of : P → List Answered) (refusal_of : P → Option Refused)
     (l : Lane P T) : Type 0 where
   pub calls : CallInOrder l.tasks (calls_of l.port)

@@ -9,7 +9,14 @@ use Rattle.tele_steal.specs.declared.tallies.Tally.{Tally}
 module _ {X : Type 0} where
   -- the tally of the owner: how many workers have passes, what was put in, and what came back
   abbrev pub of_owner : ℕ → List X → List X → Tally X
-  of_owner out put back = record { owner = true; out = out; busy = 0; put = put; back = back; taken = [] }
+  of_owner out put back = record {
+    owner = true;
+    out = out;
+    busy = 0;
+    put = put;
+    back = back;
+    taken = [];
+  }
 
   -- the tally of a worker that took these
   abbrev pub of_worker : List X → Tally X
@@ -36,9 +43,11 @@ module _ {X : Type 0} where
   IsOwners v = v ≡ of_owner v.out v.put v.back
 
   module _ (Fits : X → Type 0) where
-    -- what was put in is what is in the deque, what came back and what workers took, in some order; there is
-    -- one owner, at this port, who knows how many workers have passes; and all that is in the deque fits
-    pub record BalancesAt (port : ℕ) (own : Tally X) (items : List X) (views : List (Tally X)) : Type 0 where
+    -- what was put in is what is in the deque, what came back and what workers took, in some order;
+    -- there is one owner, at this port, who knows how many workers have passes; and all that is in
+    -- the deque fits
+    pub record BalancesAt (port : ℕ) (own : Tally X) (items : List X)
+        (views : List (Tally X)) : Type 0 where
       pub seated : get_elem? views port ≡ some own
       pub owners : IsOwners own
       pub alone : (j : ℕ) (u : Tally X) → get_elem? views j ≡ some u → u.owner ≡ true → j ≡ port

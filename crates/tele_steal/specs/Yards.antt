@@ -14,7 +14,8 @@ pub record YardRoom : Type 0 where
   pub lanes : ℕ
 
 -- no lane is in it, no worker has a pass, and there is room for 64 lanes in each bag
-pub record IsReady {X V H : Type 0} (owner : Worker X Global (Tally X) V) (thief : Stealer X Global (Tally X) V)
+pub record IsReady {X V H : Type 0} (owner : Worker X Global (Tally X) V)
+    (thief : Stealer X Global (Tally X) V)
     (bags : List (Vec X Global)) (hands : Vec H Global) (kept : Vec X Global) : Type 0 where
   pub same : stealer_deque thief ≡ worker_deque owner
   pub owner_first : worker_flavor owner ≡ 0

@@ -1,4 +1,5 @@
-//! What the owner of the deque does: it makes the passes of the workers, puts the lanes in, and gets all of them back.
+//! What the owner of the deque does: it makes the passes of the workers, puts the lanes in, and
+//! gets all of them back.
 ghost use Rattle.std.specs.Prelude.{◌≡◌, ◌+◌, ◌-◌, ◌<◌, ◌≤◌, List, [], ◌∷◌, ◌++◌, map, All, length, vec_capacity};
 ghost use Rattle.std.specs.List.Sorted.{IsPermutation};
 ghost use Rattle.crossbeam_deque.specs.Handles.{view, IsPassOf, SameWorker, worker_deque, worker_flavor, worker_view};
@@ -13,7 +14,8 @@ use std::sync::Wait;
 use std::thread::Threads;
 use tele_lanes::{Gate, Lane};
 
-/// Makes a pass for each bag. What was put in before has all come back, so that the count begins anew.
+/// Makes a pass for each bag. What was put in before has all come back, so that the count begins
+/// anew.
 pub(crate) fn hire_all<P: Port>(
     owner: &mut Owner<P>,
     bags: &mut Vec<Vec<Lane<P>>>,
@@ -51,8 +53,8 @@ fn put_or_keep<P: Port>(owner: &mut Owner<P>, lane: Lane<P>, kept: &mut Vec<Lane
     requires few { length (worker_view owner.old).put < 64 }
     requires room { length kept.old.items < vec_capacity kept.old }
     ensures same { SameWorker owner.old owner.new }
-    ensures owner { worker_view owner.new
-        ≡ of_owner (worker_view owner.old).out (worker_view owner.new).put (worker_view owner.old).back }
+    ensures owner { worker_view owner.new ≡ of_owner (worker_view owner.old).out
+        (worker_view owner.new).put (worker_view owner.old).back }
     ensures shared { IsPermutation (((worker_view owner.old).put ++ kept.old.items) ++ lane ∷ [])
         ((worker_view owner.new).put ++ kept.new.items) }
     ensures fresh { All (IsFresh P.calls P.refused) kept.old.items
@@ -79,8 +81,8 @@ pub(crate) fn put_in<P: Port>(
     requires none_kept { kept.old.items ≡ [] }
     requires room { length lanes.old.items ≤ vec_capacity kept.old }
     ensures same { SameWorker owner.old owner.new }
-    ensures owner { worker_view owner.new
-        ≡ of_owner (worker_view owner.old).out (worker_view owner.new).put (worker_view owner.old).back }
+    ensures owner { worker_view owner.new ≡ of_owner (worker_view owner.old).out
+        (worker_view owner.new).put (worker_view owner.old).back }
     ensures shared { IsPermutation ((worker_view owner.old).put ++ lanes.old.items)
         ((worker_view owner.new).put ++ kept.new.items) }
     ensures fresh { All (IsFresh P.calls P.refused) kept.new.items }
@@ -120,7 +122,8 @@ fn take_hand<P: Port>(owner: &mut Owner<P>, hand: Hand<P>, lanes: &mut Vec<Lane<
     requires owner { IsOwners (worker_view owner.old) }
     requires table { IsPassOf (worker_deque owner.old) hand.pass }
     requires worker { view hand.pass ≡ of_worker (view hand.pass).taken }
-    requires tickets { map (ticket P.tie) hand.bag.items ≡ map (ticket P.tie) (view hand.pass).taken }
+    requires tickets { map (ticket P.tie) hand.bag.items
+        ≡ map (ticket P.tie) (view hand.pass).taken }
     requires ran { All (HasRun P.calls P.refused) hand.bag.items }
     requires room { length lanes.old.items + length (worker_view owner.old).put
         ≤ vec_capacity lanes.old + length (worker_view owner.old).back }
@@ -185,7 +188,8 @@ pub(crate) fn take_back<P: Port>(
     }
 }
 
-/// Runs the lanes that are in the deque still, on this thread, until it is empty: all came back then.
+/// Runs the lanes that are in the deque still, on this thread, until it is empty: all came back
+/// then.
 ///
 /// A worker ends where the deque was empty at one moment, but none of its answers can say so
 /// later. So the owner looks itself.

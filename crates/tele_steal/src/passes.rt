@@ -58,8 +58,8 @@ pub(crate) fn draw<P: Port>(owner: &mut Owner<P>) -> Option<Lane<P>>
     requires owner { IsOwners (worker_view owner.old) }
     requires first_in { worker_flavor owner.old ≡ 0 }
     ensures same { SameWorker owner.old owner.new }
-    ensures drawn { IfSome result (λ l.
-        HasDrawn (IsFresh P.calls P.refused) (worker_view owner.old) (l ∷ []) (worker_view owner.new)) }
+    ensures drawn { IfSome result (λ l. HasDrawn (IsFresh P.calls P.refused)
+        (worker_view owner.old) (l ∷ []) (worker_view owner.new)) }
     ensures unchanged { IfNone result (worker_view owner.new ≡ worker_view owner.old) }
     ensures settled { IfNone result ((worker_view owner.old).out ≡ 0
         → IsPermutation (worker_view owner.old).put (worker_view owner.old).back) }

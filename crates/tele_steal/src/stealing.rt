@@ -16,9 +16,10 @@ use tele_lanes::{Gate, Lane};
 
 /// Runs the lanes by the workers of the yard, and hands them back in the order of their numbers.
 ///
-/// Each worker has a thread of its own where one can be started. It takes the first lane that no other took, runs it
-/// as `tele_lanes::run_lanes` does, and so on until there is none. A lane that the deque has no memory for
-/// is run by the caller first. Takes no other memory, and is never refused.
+/// Each worker has a thread of its own where one can be started. It takes the first lane that no
+/// other took, runs it as `tele_lanes::run_lanes` does, and so on until there is none. A lane that
+/// the deque has no memory for is run by the caller first. Takes no other memory, and is never
+/// refused.
 pub fn run_stolen<R: Threads + Wait + Sync, P: Port + Send, G: Gate + Sync>(
     rt: &R,
     gate: &G,
@@ -43,7 +44,8 @@ pub fn run_stolen<R: Threads + Wait + Sync, P: Port + Send, G: Gate + Sync>(
     ensures replies { All (λ l. TellReplies (P.calls l.port) l.answers.list) result.items }
 
     // A lane stops where its port refuses the first task without an answer, and nowhere else.
-    ensures stopped { All (λ l. l.stopped ≡ option_map (λ r. r.full) (P.refused l.port)) result.items }
+    ensures stopped { All (λ l.
+        l.stopped ≡ option_map (λ r. r.full) (P.refused l.port)) result.items }
     ensures refused { All (λ l. IfSome (P.refused l.port) (λ r.
         slice_get (commands_of l.tasks) (length (P.calls l.port)) ≡ Some r.command)) result.items }
     ensures whole { All (λ l. IfNone l.stopped
@@ -94,7 +96,8 @@ fn run_ordered<R: Threads + Wait + Sync, P: Port + Send, G: Gate + Sync>(
     ensures replies { All (λ l. TellReplies (P.calls l.port) l.answers.list) result.items }
 
     // A lane stops where its port refuses the first task without an answer, and nowhere else.
-    ensures stopped { All (λ l. l.stopped ≡ option_map (λ r. r.full) (P.refused l.port)) result.items }
+    ensures stopped { All (λ l.
+        l.stopped ≡ option_map (λ r. r.full) (P.refused l.port)) result.items }
     ensures refused { All (λ l. IfSome (P.refused l.port) (λ r.
         slice_get (commands_of l.tasks) (length (P.calls l.port)) ≡ Some r.command)) result.items }
     ensures whole { All (λ l. IfNone l.stopped

@@ -1,4 +1,5 @@
-//! What each pass of the deque has put in and taken out, the rule over all of them, and what each call tells.
+//! What each pass of the deque has put in and taken out, the rule over all of them, and what each
+//! call tells.
 
 use crossbeam_deque::protocol::{Join, Lesson, Outcome, Protocol, Split};
 use crossbeam_deque::{Pass, Stealer, Worker};

@@ -36,7 +36,8 @@ impl<P: Port> Model for Yard<P> {
 }
 
 impl<P: Port + Drop> Yard<P> {
-    /// A yard for so many workers and, at a time, so many lanes. It takes all memory that its runs need.
+    /// A yard for so many workers and, at a time, so many lanes. It takes all memory that its runs
+    /// need.
     pub fn with_room(alloc: Global, workers: u32, lanes: u32) -> Result<Yard<P>, AllocError>
         requires some_workers { 1 ≤ workers }
         requires workers_at_most { workers ≤ 64 }

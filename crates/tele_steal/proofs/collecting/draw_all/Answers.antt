@@ -1,7 +1,7 @@
 use Rattle.std.proofs.Common.{[], ◌∷◌, length, ap, ◌∙◌, arith, rules, length-append}
 use Rattle.std.proofs.lemmas.List.Elements.{All-head}
 use Rattle.tele_steal.specs.Runs.{IsFresh, ticket}
-use Rattle.tele_steal.proofs.TallyLemmas.{is_owners, draw_step}
+use Rattle.tele_steal.proofs.OwnerLemmas.{is_owners, draw_step}
 use Rattle.tele_steal.proofs.RunLemmas.{behind, same_length}
 use Rattle.tele_steal.proofs.collecting.draw_all.Goals as goal
 
@@ -31,11 +31,13 @@ loop-preserved g c =
     let t = ticket g.P.Port.tie in
     let back = ap (λ v. v.back) drawn.tally in
     let sum = ap length back ∙ length-append _ (c.in-Some-draw.lane ∷ []) in
-    let grown = same_length t c.loop.lanes.items c.run_into.new.bag.items (t c.in-Some-draw.lane ∷ []) now.tickets in
+    let grown = same_length t c.loop.lanes.items c.run_into.new.bag.items
+    (t c.in-Some-draw.lane ∷ []) now.tickets in
     record {
       same = search (arith, rules);
       owner = draw_step _ _ _ _ old.owner drawn.tally;
-      tickets = λ kept before. behind t t _ _ kept _ (c.in-Some-draw.lane ∷ []) _ now.tickets (old.tickets kept before) back;
+      tickets = λ kept before. behind t t _ _ kept _ (c.in-Some-draw.lane ∷ []) _ now.tickets
+          (old.tickets kept before) back;
       ran = now.ran old.ran;
       room = omega (arith, sum, grown, old.room, now.room);
     }

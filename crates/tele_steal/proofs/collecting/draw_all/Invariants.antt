@@ -7,8 +7,10 @@ use Rattle.tele_steal.proofs.collecting.draw_all.Given as goal
 abbrev pub invariant-loop : goal.invariant-loop
 invariant-loop g l = record {
   same : SameWorker l.initial.owner l.owner;
-  owner : worker_view l.owner ≡ of_owner 0 (worker_view l.initial.owner).put (worker_view l.owner).back;
-  tickets : (kept : List (Ticket g.row.P-Tie.Denot)) → map (ticket g.P.Port.tie) l.initial.lanes.items
+  owner : worker_view l.owner ≡ of_owner 0 (worker_view l.initial.owner).put
+      (worker_view l.owner).back;
+  tickets : (kept : List (Ticket g.row.P-Tie.Denot))
+      → map (ticket g.P.Port.tie) l.initial.lanes.items
       ≡ kept ++ map (ticket g.P.Port.tie) (worker_view l.initial.owner).back
       → map (ticket g.P.Port.tie) l.lanes.items
       ≡ kept ++ map (ticket g.P.Port.tie) (worker_view l.owner).back;

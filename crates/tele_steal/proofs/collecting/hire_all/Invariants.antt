@@ -9,7 +9,8 @@ invariant-loop-bag g l = record {
   owner : IsOwners (worker_view l.owner);
   out : (worker_view l.owner).out ≡ length l.hands.items;
   settled : IsPermutation (worker_view l.owner).put (worker_view l.owner).back;
-  anew : 0 < length l.hands.items → ((worker_view l.owner).put ≡ []) × ((worker_view l.owner).back ≡ []);
+  anew : 0 < length l.hands.items → ((worker_view l.owner).put ≡ [])
+      × ((worker_view l.owner).back ≡ []);
   count : length l.hands.items + length l.bags.items ≡ length l.initial.bags.items;
   bags_empty : All (λ b. b.items ≡ []) l.bags.items;
   bags_wide : All (λ b. 64 ≤ vec_capacity b) l.bags.items;

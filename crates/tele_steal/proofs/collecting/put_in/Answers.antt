@@ -7,7 +7,8 @@ use Rattle.tele_steal.proofs.collecting.put_in.Goals as goal
 -- the last lane wasn't run
 pub put_or_keep-requires-clause-fresh : goal.put_or_keep-requires-clause-fresh
 put_or_keep-requires-clause-fresh g c =
-    All-last (IsFresh g.P.Port.calls g.P.Port.refused) _ _ _ c.in-Some.ensures.items c.loop-lane.invariant.fresh
+    All-last (IsFresh g.P.Port.calls g.P.Port.refused) _ _ _ c.in-Some.ensures.items
+    c.loop-lane.invariant.fresh
 
 -- one lane more is in the deque, or kept
 pub loop-lane-preserved : goal.loop-lane-preserved

@@ -10,5 +10,6 @@ returns-in-None-clause-shared g c =
     let put = (worker_view c.args.owner.now).put in
     let kept = c.args.kept.now.items in
     let one = c.args.lane ∷ [] in
-    subst (λ z. IsPermutation ((put ++ kept) ++ one) (z ++ kept)) (sym (ap (λ v. v.put) c.in-None.ensures.put))
+    subst (λ z. IsPermutation ((put ++ kept) ++ one) (z ++ kept))
+    (sym (ap (λ v. v.put) c.in-None.ensures.put))
     (joins_first (put ++ kept) put kept one (IsPermutation-refl (put ++ kept)))

@@ -6,7 +6,7 @@ use Rattle.tele_steal.specs.declared.tallies.Hand.{Hand}
 use Rattle.tele_steal.specs.Runs.{HasRun, ticket}
 use Rattle.tele_steal.specs.Tallies.{of_worker, taken_by}
 use Rattle.tele_steal.proofs.RunLemmas.{All-rest, All-last, All-more, length_more, same_length, behind}
-use Rattle.tele_steal.proofs.TallyLemmas.{is_owners, owner_step}
+use Rattle.tele_steal.proofs.OwnerLemmas.{is_owners, owner_step}
 use Rattle.tele_steal.proofs.collecting.take_back.Goals as goal
 
 -- the owner's tally
@@ -17,26 +17,30 @@ take_hand-bag-requires-clause-owner g c = is_owners _ _ _ _ c.loop-hand.invarian
 pub take_hand-bag-requires-clause-table : goal.take_hand-bag-requires-clause-table
 take_hand-bag-requires-clause-table g c =
     subst (λ d. IsPassOf d c.in-Some.hand.pass) (sym c.loop-hand.invariant.same.0)
-    (All-last (λ (h : Hand g.row.P.Denot g.row.P-Tie.Denot). IsPassOf (worker_deque c.args.owner.now) h.pass)
+    (All-last (λ (h : Hand g.row.P.Denot g.row.P-Tie.Denot). IsPassOf
+    (worker_deque c.args.owner.now) h.pass)
     _ _ _ c.in-Some.ensures.items c.loop-hand.invariant.tables)
 
 -- its tally is a worker's
 pub take_hand-bag-requires-clause-worker : goal.take_hand-bag-requires-clause-worker
 take_hand-bag-requires-clause-worker g c =
-    All-last (λ (h : Hand g.row.P.Denot g.row.P-Tie.Denot). view h.pass ≡ of_worker (taken_by (view h.pass)))
+    All-last (λ (h : Hand g.row.P.Denot g.row.P-Tie.Denot). view h.pass ≡ of_worker
+    (taken_by (view h.pass)))
     _ _ _ c.in-Some.ensures.items c.loop-hand.invariant.workers
 
 -- its bag has what it took
 pub take_hand-bag-requires-clause-tickets : goal.take_hand-bag-requires-clause-tickets
 take_hand-bag-requires-clause-tickets g c =
     let t = ticket g.P.Port.tie in
-    All-last (λ (h : Hand g.row.P.Denot g.row.P-Tie.Denot). map t h.bag.items ≡ map t (taken_by (view h.pass)))
+    All-last (λ (h : Hand g.row.P.Denot g.row.P-Tie.Denot). map t h.bag.items ≡ map t
+    (taken_by (view h.pass)))
     _ _ _ c.in-Some.ensures.items c.loop-hand.invariant.tickets
 
 -- and ran it
 pub take_hand-bag-requires-clause-ran : goal.take_hand-bag-requires-clause-ran
 take_hand-bag-requires-clause-ran g c =
-    All-last (λ (h : Hand g.row.P.Denot g.row.P-Tie.Denot). All (HasRun g.P.Port.calls g.P.Port.refused) h.bag.items)
+    All-last (λ (h : Hand g.row.P.Denot g.row.P-Tie.Denot). All
+    (HasRun g.P.Port.calls g.P.Port.refused) h.bag.items)
     _ _ _ c.in-Some.ensures.items c.loop-hand.invariant.ran
 
 -- there is room
@@ -58,7 +62,8 @@ loop-hand-preserved g c =
     let longer = length_more _ _ _ pushed in
     let t = ticket g.P.Port.tie in
     let taken = taken_by (view c.in-Some.hand.pass) in
-    let grown = same_length t c.loop-hand.lanes.items c.take_hand-bag.new.lanes.items (map t taken) now.tickets in
+    let grown = same_length t c.loop-hand.lanes.items c.take_hand-bag.new.lanes.items
+    (map t taken) now.tickets in
     let back = ap (λ v. v.back) now.owner in
     let sum = ap length back ∙ length-append _ taken in
     let counted = length-map taken t in
@@ -70,15 +75,20 @@ loop-hand-preserved g c =
       lanes_ran = now.ran old.lanes_ran;
       lane_room = omega (arith, old.lane_room, now.room);
       room = omega (arith, old.room, now.room, grown, sum, counted);
-      tables = All-rest (λ (h : H). IsPassOf (worker_deque c.args.owner.now) h.pass) _ _ _ popped old.tables;
-      workers = All-rest (λ (h : H). view h.pass ≡ of_worker (taken_by (view h.pass))) _ _ _ popped old.workers;
-      tickets = All-rest (λ (h : H). map t h.bag.items ≡ map t (taken_by (view h.pass))) _ _ _ popped old.tickets;
-      ran = All-rest (λ (h : H). All (HasRun g.P.Port.calls g.P.Port.refused) h.bag.items) _ _ _ popped old.ran;
+      tables = All-rest (λ (h : H). IsPassOf (worker_deque c.args.owner.now) h.pass) _ _ _ popped
+          old.tables;
+      workers = All-rest (λ (h : H). view h.pass ≡ of_worker (taken_by (view h.pass))) _ _ _ popped
+          old.workers;
+      tickets = All-rest (λ (h : H). map t h.bag.items ≡ map t (taken_by (view h.pass))) _ _ _
+          popped old.tickets;
+      ran = All-rest (λ (h : H). All (HasRun g.P.Port.calls g.P.Port.refused) h.bag.items) _ _ _
+          popped old.ran;
       wide = All-rest (λ (h : H). 64 ≤ vec_capacity h.bag) _ _ _ popped old.wide;
       hand_room = c.pop.ensures.capacity ∙ old.hand_room;
       count = omega (arith, shorter, longer, old.count);
       bag_room = c.push_reserved.ensures.capacity ∙ old.bag_room;
-      bags_empty = All-more (λ (b : Vec L Global). b.items ≡ []) _ _ _ pushed old.bags_empty now.empty;
+      bags_empty = All-more (λ (b : Vec L Global). b.items ≡ []) _ _ _ pushed old.bags_empty
+          now.empty;
       bags_wide = All-more (λ (b : Vec L Global). 64 ≤ vec_capacity b) _ _ _ pushed old.bags_wide
           (omega (arith, now.wide, last));
     }

@@ -9,7 +9,8 @@ invariant-loop-hand g l = record {
   same : SameWorker l.initial.owner l.owner;
   owner : worker_view l.owner ≡ of_owner (length l.hands.items) (worker_view l.initial.owner).put
       (worker_view l.owner).back;
-  lanes_tickets : map (ticket g.P.Port.tie) l.lanes.items ≡ map (ticket g.P.Port.tie) l.initial.lanes.items
+  lanes_tickets : map (ticket g.P.Port.tie) l.lanes.items ≡ map
+      (ticket g.P.Port.tie) l.initial.lanes.items
       ++ map (ticket g.P.Port.tie) (worker_view l.owner).back;
   lanes_ran : All (HasRun g.P.Port.calls g.P.Port.refused) l.lanes.items;
   lane_room : vec_capacity l.initial.lanes ≤ vec_capacity l.lanes;

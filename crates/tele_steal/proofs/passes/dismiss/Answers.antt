@@ -1,5 +1,6 @@
 use Rattle.tele_steal.specs.Runs.{IsFresh}
-use Rattle.tele_steal.proofs.TallyLemmas.{dismisses, counts, is_owners}
+use Rattle.tele_steal.proofs.TallyLemmas.{dismisses, counts}
+use Rattle.tele_steal.proofs.OwnerLemmas.{is_owners}
 use Rattle.tele_steal.proofs.passes.dismiss.Goals as goal
 
 -- the rule is kept

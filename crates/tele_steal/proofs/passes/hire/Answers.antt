@@ -4,4 +4,5 @@ use Rattle.tele_steal.proofs.passes.hire.Goals as goal
 
 -- the rule has room for a pass
 pub another-requires : goal.another-requires
-another-requires g c = hires (IsFresh g.P.Port.calls g.P.Port.refused) _ _ c.requires.owner c.requires.settled
+another-requires g c = hires (IsFresh g.P.Port.calls g.P.Port.refused) _ _ c.requires.owner
+    c.requires.settled

@@ -18,9 +18,11 @@ returns-clause-numbers g c =
     let t = ticket g.P.Port.tie in
     same_on g.P.Port.tie (λ k. k.number) c.args.lanes.items c.in_order.result.items
     (in_place g.P.Port.tie c.args.lanes.items c.in_order.result.items c.requires.numbers
-    (IsPermutation-trans (map t c.args.lanes.items) (map t c.run_shared-shared.result.items) (map t c.in_order.result.items)
+    (IsPermutation-trans (map t c.args.lanes.items) (map t c.run_shared-shared.result.items)
+    (map t c.in_order.result.items)
     c.run_shared-shared.ensures.tickets
-    (IsPermutation-map t c.run_shared-shared.result.items c.in_order.result.items c.in_order.ensures.same))
+    (IsPermutation-map t c.run_shared-shared.result.items c.in_order.result.items
+    c.in_order.ensures.same))
     c.in_order.ensures.rising)
 
 pub returns-clause-tasks : goal.returns-clause-tasks
@@ -28,9 +30,11 @@ returns-clause-tasks g c =
     let t = ticket g.P.Port.tie in
     same_on g.P.Port.tie (λ k. k.tasks) c.args.lanes.items c.in_order.result.items
     (in_place g.P.Port.tie c.args.lanes.items c.in_order.result.items c.requires.numbers
-    (IsPermutation-trans (map t c.args.lanes.items) (map t c.run_shared-shared.result.items) (map t c.in_order.result.items)
+    (IsPermutation-trans (map t c.args.lanes.items) (map t c.run_shared-shared.result.items)
+    (map t c.in_order.result.items)
     c.run_shared-shared.ensures.tickets
-    (IsPermutation-map t c.run_shared-shared.result.items c.in_order.result.items c.in_order.ensures.same))
+    (IsPermutation-map t c.run_shared-shared.result.items c.in_order.result.items
+    c.in_order.ensures.same))
     c.in_order.ensures.rising)
 
 pub returns-clause-ties : goal.returns-clause-ties
@@ -38,9 +42,11 @@ returns-clause-ties g c =
     let t = ticket g.P.Port.tie in
     same_on g.P.Port.tie (λ k. k.tie) c.args.lanes.items c.in_order.result.items
     (in_place g.P.Port.tie c.args.lanes.items c.in_order.result.items c.requires.numbers
-    (IsPermutation-trans (map t c.args.lanes.items) (map t c.run_shared-shared.result.items) (map t c.in_order.result.items)
+    (IsPermutation-trans (map t c.args.lanes.items) (map t c.run_shared-shared.result.items)
+    (map t c.in_order.result.items)
     c.run_shared-shared.ensures.tickets
-    (IsPermutation-map t c.run_shared-shared.result.items c.in_order.result.items c.in_order.ensures.same))
+    (IsPermutation-map t c.run_shared-shared.result.items c.in_order.result.items
+    c.in_order.ensures.same))
     c.in_order.ensures.rising)
 
 pub returns-clause-calls : goal.returns-clause-calls

@@ -4,7 +4,7 @@ use Rattle.std.proofs.lemmas.List.Sorted.{length_permutation}
 use Rattle.crossbeam_deque.specs.Handles.{IsPassOf, worker_view}
 use Rattle.tele_steal.specs.declared.tallies.Hand.{Hand}
 use Rattle.tele_steal.specs.Runs.{ticket}
-use Rattle.tele_steal.proofs.TallyLemmas.{is_owners}
+use Rattle.tele_steal.proofs.OwnerLemmas.{is_owners}
 use Rattle.tele_steal.proofs.RunLemmas.{same_length}
 use Rattle.tele_steal.proofs.OrderLemmas.{all_home, as_many}
 use Rattle.tele_steal.proofs.stealing.run_shared.Goals as goal
@@ -17,45 +17,76 @@ put_in-requires-clause-few g c =
 -- what is kept isn't more than there was
 pub run_kept-requires-clause-room : goal.run_kept-requires-clause-room
 run_kept-requires-clause-room g c =
-    let n = as_many (worker_view c.hire_all.new.owner).put c.args.lanes.items (worker_view c.put_in.new.owner).put
+    let n = as_many (worker_view c.hire_all.new.owner).put c.args.lanes.items
+    (worker_view c.put_in.new.owner).put
     c.put_in.new.kept.items (ap (λ v. v.put) c.hire_all.ensures.owner) c.put_in.ensures.shared in
     omega (arith, n, c.put_in.ensures.lane_room, c.args.lanes.ok)
 
 -- the passes are of this deque
 pub work_hands-requires-clause-tables : goal.work_hands-requires-clause-tables
 work_hands-requires-clause-tables g c κs within =
-    subst (λ d. All (λ (h : Hand g.row.P.Denot g.row.P-Tie.Denot). IsPassOf d h.pass) c.hire_all.new.hands.items)
+    subst (λ d. All (λ (h : Hand g.row.P.Denot g.row.P-Tie.Denot). IsPassOf d h.pass)
+    c.hire_all.new.hands.items)
     (sym c.requires.ready.same) c.hire_all.ensures.tables
 
 pub take_back-requires-clause-tables : goal.take_back-requires-clause-tables
 take_back-requires-clause-tables g c =
-    subst (λ d. All (λ (h : Hand g.row.P.Denot g.row.P-Tie.Denot). IsPassOf d h.pass) c.work_hands.new.hands.items)
-    (c.requires.ready.same ∙ sym (c.put_in.ensures.same.0 ∙ c.hire_all.ensures.same.0)) c.work_hands.ensures.tables
+    subst (λ d. All (λ (h : Hand g.row.P.Denot g.row.P-Tie.Denot). IsPassOf d h.pass)
+    c.work_hands.new.hands.items)
+    (c.requires.ready.same ∙ sym (c.put_in.ensures.same.0 ∙ c.hire_all.ensures.same.0))
+    c.work_hands.ensures.tables
 
 -- there is room for all lanes
 pub take_back-requires-clause-lane_room : goal.take_back-requires-clause-lane_room
 take_back-requires-clause-lane_room g c =
     let t = ticket g.P.Port.tie in
-    let n = as_many (worker_view c.hire_all.new.owner).put c.args.lanes.items (worker_view c.put_in.new.owner).put
+    let n = as_many (worker_view c.hire_all.new.owner).put c.args.lanes.items
+    (worker_view c.put_in.new.owner).put
     c.put_in.new.kept.items (ap (λ v. v.put) c.hire_all.ensures.owner) c.put_in.ensures.shared in
-    let m = length_permutation (map t c.put_in.new.kept.items) (map t c.run_kept.new.lanes.items) c.run_kept.ensures.tickets in
+    let m = length_permutation (map t c.put_in.new.kept.items)
+    (map t c.run_kept.new.lanes.items) c.run_kept.ensures.tickets in
     let a = length-map c.put_in.new.kept.items t in
     let b = length-map c.run_kept.new.lanes.items t in
-    omega (arith, n, m, a, b, c.put_in.ensures.lane_room, c.run_kept.ensures.lane_room, c.args.lanes.ok)
+    omega (
+      arith,
+      n,
+      m,
+      a,
+      b,
+      c.put_in.ensures.lane_room,
+      c.run_kept.ensures.lane_room,
+      c.args.lanes.ok,
+    )
 
 pub draw_all-requires-clause-room : goal.draw_all-requires-clause-room
 draw_all-requires-clause-room g c =
     let t = ticket g.P.Port.tie in
-    let n = as_many (worker_view c.hire_all.new.owner).put c.args.lanes.items (worker_view c.put_in.new.owner).put
+    let n = as_many (worker_view c.hire_all.new.owner).put c.args.lanes.items
+    (worker_view c.put_in.new.owner).put
     c.put_in.new.kept.items (ap (λ v. v.put) c.hire_all.ensures.owner) c.put_in.ensures.shared in
-    let m = length_permutation (map t c.put_in.new.kept.items) (map t c.run_kept.new.lanes.items) c.run_kept.ensures.tickets in
+    let m = length_permutation (map t c.put_in.new.kept.items)
+    (map t c.run_kept.new.lanes.items) c.run_kept.ensures.tickets in
     let a = length-map c.put_in.new.kept.items t in
     let b = length-map c.run_kept.new.lanes.items t in
     let put = ap (λ v. length v.put) c.take_back.ensures.owner in
     let back = (worker_view c.take_back.new.owner).back in
-    let all = same_length t c.run_kept.new.lanes.items c.take_back.new.lanes.items (map t back) c.take_back.ensures.tickets in
+    let all = same_length t c.run_kept.new.lanes.items c.take_back.new.lanes.items
+    (map t back) c.take_back.ensures.tickets in
     let d = length-map back t in
-    omega (arith, n, m, a, b, d, put, all, c.put_in.ensures.lane_room, c.run_kept.ensures.lane_room, c.take_back.ensures.lane_room, c.args.lanes.ok)
+    omega (
+      arith,
+      n,
+      m,
+      a,
+      b,
+      d,
+      put,
+      all,
+      c.put_in.ensures.lane_room,
+      c.run_kept.ensures.lane_room,
+      c.take_back.ensures.lane_room,
+      c.args.lanes.ok,
+    )
 
 -- the yard is ready again
 pub returns-clause-ready : goal.returns-clause-ready
@@ -77,7 +108,16 @@ returns-clause-ready g c =
       empty = took.empty;
       wide = took.wide;
       no_hands = took.no_hands;
-      seats = omega (arith, was.seats, took.hand_room, worked.seats, hired.hand_room, took.bags, worked.count, hired.count);
+      seats = omega (
+        arith,
+        was.seats,
+        took.hand_room,
+        worked.seats,
+        hired.hand_room,
+        took.bags,
+        worked.count,
+        hired.count,
+      );
       no_kept = c.run_kept.ensures.none_kept;
       keeps = omega (arith, was.keeps, c.run_kept.ensures.room, put.room);
     }
@@ -91,9 +131,11 @@ returns-clause-tickets g c =
     let back = (worker_view c.draw_all.new.owner).back in
     let one = c.run_kept.new.lanes.items in
     let none = ap (λ v. v.put) c.hire_all.ensures.owner in
-    let same = ap (λ v. v.put) c.draw_all.ensures.owner ∙ ap (λ v. v.put) c.take_back.ensures.owner in
+    let same = ap (λ v. v.put) c.draw_all.ensures.owner ∙ ap
+    (λ v. v.put) c.take_back.ensures.owner in
     all_home t c.args.lanes.items put kept back one c.draw_all.new.lanes.items
-    (subst (λ z. IsPermutation (z ++ c.args.lanes.items) (put ++ kept)) none c.put_in.ensures.shared)
+    (subst (λ z. IsPermutation (z ++ c.args.lanes.items) (put ++ kept)) none
+    c.put_in.ensures.shared)
     c.run_kept.ensures.tickets
     (subst (λ z. IsPermutation z back) same c.draw_all.ensures.settled)
     (c.draw_all.ensures.tickets (map t one) c.take_back.ensures.tickets)

@@ -34,4 +34,5 @@ returns-clause-ran g c =
     let parts = c.split_at_mut-behind in
     subst (λ n. All (HasRun g.P.Port.calls g.P.Port.refused) (drop n (parts.result.0.now ++ new)))
     parts.ensures.front_len
-    (subst (All (HasRun g.P.Port.calls g.P.Port.refused)) (sym (drop-append_seam parts.result.0.now new)) all)
+    (subst (All (HasRun g.P.Port.calls g.P.Port.refused))
+    (sym (drop-append_seam parts.result.0.now new)) all)

@@ -6,6 +6,8 @@ use Rattle.tele_steal.proofs.workers.run_into.Goals as goal
 -- those before are as they were, and the one behind was run
 pub returns-clause-ran : goal.returns-clause-ran
 returns-clause-ran g c before =
-    put_back (HasRun g.P.Port.calls g.P.Port.refused) c.args.bag.now.items _ c.push_reserved.new.self.items
-    c.run_behind.new.lanes _ _ (search rules) c.push_reserved.ensures.items (search rules) (search rules)
+    put_back (HasRun g.P.Port.calls g.P.Port.refused) c.args.bag.now.items _
+    c.push_reserved.new.self.items
+    c.run_behind.new.lanes _ _ (search rules) c.push_reserved.ensures.items (search rules)
+    (search rules)
     (search rules) before c.run_behind.ensures.ran

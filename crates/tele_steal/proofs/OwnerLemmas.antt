@@ -1,0 +1,26 @@
+-- The owner's tally behind what it takes back. Serves the calls of the owner.
+use Rattle.std.proofs.Common.{◌≡◌, ℕ, ◌+◌, ◌-◌, List, ◌++◌, sym, refl, ap, ◌∙◌, subst, arith}
+use Rattle.tele_steal.specs.declared.tallies.Tally.{Tally}
+use Rattle.tele_steal.specs.Tallies.{of_owner, IsOwners}
+
+-- a tally that is written as an owner's is one
+pub is_owners : {X : Type 0} (v : Tally X) (out : ℕ) (put back : List X) → v ≡ of_owner out put back
+    → IsOwners v
+is_owners v out put back e = subst IsOwners (sym e) refl
+
+-- the owner takes back what a worker took, and there is one worker less
+pub owner_step : {X : Type 0} (v w : Tally X) (n k : ℕ) (put more : List X)
+    → v ≡ of_owner n put v.back → w ≡ of_owner (v.out - 1) v.put (v.back ++ more) → n ≡ k + 1
+    → w ≡ of_owner k put w.back
+owner_step v w n k put more old new less =
+    let count : v.out - 1 ≡ k = let out = ap (λ z. z.out) old in omega (arith, out, less) in
+    let same : v.put ≡ put = ap (λ z. z.put) old in
+    let back : v.back ++ more ≡ w.back = sym (ap (λ z. z.back) new) in
+    new ∙ (λ i. of_owner (count i) (same i) (back i))
+
+-- the owner takes back some, and the workers stay
+pub draw_step : {X : Type 0} (v w : Tally X) (put more : List X) → v ≡ of_owner 0 put v.back
+    → w ≡ of_owner v.out v.put (v.back ++ more) → w ≡ of_owner 0 put w.back
+draw_step v w put more old new =
+    let back : v.back ++ more ≡ w.back = sym (ap (λ z. z.back) new) in
+    new ∙ (λ i. of_owner ((ap (λ z. z.out) old) i) ((ap (λ z. z.put) old) i) (back i))
