@@ -1,7 +1,8 @@
-//! Lanes that idle workers steal: more lanes than workers, each taken from a deque by whoever has nothing to do.
+//! Lanes that idle workers steal: more lanes than workers, each taken from a deque by whoever has
+//! nothing to do.
 //!
-//! Read `specs/Runs.antt`, then `stealing.rt`, `yards.rt` and `specs/Tallies.antt`. Stands on `tele_lanes`, `ist_core` and
-//! `crossbeam_deque`.
+//! Read `specs/Runs.antt`, then `stealing.rt`, `yards.rt` and `specs/Tallies.antt`. Stands on
+//! `tele_lanes`, `ist_core` and `crossbeam_deque`.
 #![tactic(auto)]
 
 mod collecting;
@@ -13,3 +14,6 @@ mod yards;
 
 pub use stealing::run_stolen;
 pub use yards::Yard;
+
+#[cfg(test)]
+mod tests;
