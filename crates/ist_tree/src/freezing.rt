@@ -367,9 +367,8 @@ impl Tree {
     }
 
     /// The pair number `i` of a frozen tree, counted from 0 in the order of the keys, whatever
-    /// happened since. Never waits, takes no memory, and always answers.
-    ///
-    /// It goes down from the frozen root once. The calls of the pass are as before.
+    /// happened since. Never waits, takes no memory, and always answers: it goes down from the
+    /// frozen root once. The calls of the pass are as before.
     pub fn frozen_pair(&self, pass: &mut Pass, frozen: &Frozen, i: u64) -> Pair
         requires same_tree { pass.old.tree ≡ self.now }
         requires frozen { IsFrozenFor pass.old frozen.now }

@@ -11,7 +11,8 @@ use std::test::Fail;
 // The keys below `end`, each with itself as the value.
 fn numbered(alloc: Global, end: u64) -> Result<Vec<Pair>, AllocError>
     requires few { end ≤ 100000 }
-    ensures rising { IfOk result (λ pairs. IsStrictlyIncreasing (map (λ pair. pair.key) pairs.items)) }
+    ensures rising { IfOk result (λ pairs.
+        IsStrictlyIncreasing (map (λ pair. pair.key) pairs.items)) }
     ensures many { IfOk result (λ pairs. length pairs.items ≡ end) }
 {
     let mut pairs = Vec::new(alloc);
