@@ -1,8 +1,10 @@
 //! What is said of a text, and the status.
+ghost use Rattle.log_check.specs.Opening.{LogOpens};
 
 use crate::kinds::kind_of;
 use crate::logs::{Log, Reading, read_log};
 use crate::verdicts::{Verdict, judge};
+use ist_check::explain;
 use std::alloc::{AllocError, Global};
 
 /// The status where the log is lawful.
@@ -27,8 +29,11 @@ pub fn answer_to(alloc: Global, text: &[u8]) -> Result<(String, u8), AllocError>
     }
 }
 
-/// What is said of event number `at`, which may not come: its number, its kind and its line.
-fn unlawful(alloc: Global, log: &Log, at: u64) -> Result<String, AllocError> {
+/// What is said of event number `at`, which may not come: its number, its kind, its line, and the first
+/// condition that fails.
+fn unlawful(alloc: Global, log: &Log, at: u64) -> Result<String, AllocError>
+    requires opens { LogOpens log.now }
+{
     let verdict = Verdict::Unlawful { at };
     if at >= log.events.len() as u64 {
         return format!(in alloc; "{verdict}");
@@ -38,5 +43,16 @@ fn unlawful(alloc: Global, log: &Log, at: u64) -> Result<String, AllocError> {
         return format!(in alloc; "{verdict}: {kind}");
     }
     let line = log.lines[at as usize];
-    format!(in alloc; "{verdict}: {kind}, line {line}")
+    match explain(
+        alloc,
+        log.pairs.as_slice(),
+        log.words,
+        log.events.as_slice(),
+    )? {
+        None => format!(in alloc; "{verdict}: {kind}, line {line}"),
+        Some(refusal) => {
+            let condition = refusal.condition;
+            format!(in alloc; "{verdict}: {kind}, line {line}, as this is false: {condition}")
+        }
+    }
 }

@@ -29,7 +29,7 @@ fn command<'a>(alloc: Global) -> Result<Command<'a>, AllocError> {
         .action(ArgAction::Set);
     let progress = Arg::new(alloc, "progress")
         .long("progress")
-        .help("Say on standard error how far it is")
+        .help("Say on standard error how far it is, as of a long log on a terminal")
         .action(ArgAction::SetTrue);
     Command::new(alloc, "log_check")
         .version("1.0")

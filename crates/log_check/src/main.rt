@@ -1,7 +1,7 @@
 //! The program `log_check`: it reads a log of events, and says whether it is lawful.
 //!
 //! Read `logs.rt`, which says the form of the text, and `verdicts.rt`. Stands on `ist_core`,
-//! `ist_math`, `ist_layout`, `ist_check` and `clap`.
+//! `ist_math`, `ist_layout`, `ist_check_reasons`, `ist_check` and `clap`.
 #![tactic(auto)]
 
 mod answers;
@@ -12,6 +12,8 @@ mod fields;
 mod kinds;
 mod logs;
 #[cfg(test)]
+mod refusal_tests;
+#[cfg(test)]
 mod samples;
 #[cfg(test)]
 mod tests;
@@ -19,12 +21,15 @@ mod verdicts;
 
 use answers::answer_to;
 use command::{Job, read_words};
-use std::io::Read;
+use std::io::{IsTerminal, Read};
 use std::process::ExitCode;
 use std::{env, fs, io};
 
 /// The status where reading, writing or memory failed.
 const FAILED: u8 = 4;
+
+/// How many bytes make a log long.
+const LONG: usize = 16_777_216;
 
 fn main(rt: HostRuntime) -> ExitCode {
     match run(&rt) {
@@ -43,9 +48,9 @@ fn run(rt: &HostRuntime) -> io::Result<u8> {
         Job::Done { status } => Ok(status),
         Job::Check { path, progress } => {
             let text = read_text(rt, path)?;
-            if progress {
+            if progress || (text.len() >= LONG && rt.stderr().is_terminal()) {
                 let size = text.len();
-                eprintln!(rt; "{size} bytes read")?;
+                eprintln!(rt; "log_check: {size} bytes read")?;
             }
             let (answer, status) = answer_to(rt.alloc(), text.as_slice())?;
             println!(rt; "{answer}")?;
