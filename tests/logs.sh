@@ -1,0 +1,47 @@
+#!/bin/bash
+# Tests of log_check on logs of a million events with a stack of 256 KB: a chain of pair rows, also with an event too many, a
+# rebuild of all of it up to its Root, puts of one caller beside many that each hold a row, and such callers alone. Each may
+# take 60 seconds. The last line is 'N passed, M failed'.
+set -u
+here=$(cd -P -- "$(dirname -- "$0")/.." && pwd)
+program=$here/crates/log_check/out/log_check
+all=$(mktemp -d "${TMPDIR:-/tmp}/logs.XXXXXX")
+trap 'rm -rf "$all"' EXIT
+passed=0 failed=0
+
+# The shape of the log to check and its size.
+make_log() {
+    name="$1 $2"
+    python3 "$here/bench/logs.py" "$1" "$2" >"$all/log"
+}
+
+# What is said of the log.
+check() {
+    local said
+    said=$(ulimit -s 256 && timeout 60 "$program" "$all/log" 2>&1)
+    if [ "$said" = "$1" ]; then
+        passed=$((passed + 1))
+    else
+        echo "$name: wanted '$1', and it said '$said'"
+        failed=$((failed + 1))
+    fi
+}
+
+# `rt ci` leaves the program; elsewhere it is built where a source is newer.
+if [ ! -x "$program" ] || [ -n "$(find "$here"/crates/*/src -newer "$program" -print -quit)" ]; then
+    (cd "$here/crates/log_check" && rt run -- --version) >"$all/built" 2>&1 || cat "$all/built"
+fi
+# A first put takes 11 words and each other 18, the rebuild 14 and its root 603, and each caller's row 2. The word in the
+# anchor's slot is 8 times the base of the first pair row, and 2 more, or of the rebuild, and 4 more.
+make_log chain 143000
+check "ok next 2573997 callers 1 anchor 138"
+echo "Mark 0 17" >>"$all/log"
+check "unlawful 1001000: Mark, line 1001002, as this is false: there is a cause to mark the row"
+make_log root 90000
+check "ok next 1620614 callers 1 anchor 12959980"
+make_log crowd 111000
+check "ok next 2219995 callers 111000 anchor 1776122"
+make_log callers 500000
+check "ok next 1000004 callers 500000 anchor 0"
+echo "$passed passed, $failed failed"
+[ "$failed" = 0 ]
