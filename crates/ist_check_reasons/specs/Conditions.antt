@@ -1,69 +1,27 @@
 -- The conditions of each kind of event, in order, each with what it says. Together they are the event's enabling condition.
-use Rattle.std.specs.Prelude.{◌≡◌, ◌≢◌, ◌==◌, ◌+◌, ◌<◌, ◌≤◌, if◌then◌else◌, ℕ, Bool, List, [], ◌∷◌, slice_get, Option, Some, None}
+use Rattle.std.specs.Prelude.{◌≡◌, ◌≢◌, ◌+◌, ◌<◌, ◌≤◌, ℕ, Bool, List, [], ◌∷◌, slice_get, Option, Some}
 use Rattle.ist_core.specs.declared.events.Event.{Event}
 use Rattle.ist_core.specs.declared.events.Event.TheVariants.{Enter, Reserve, Install, Okay, Decide, Resolve, Count, Mark, Pass, Finish, Root as RootEvent, Draw, Place, Lose}
 use Rattle.ist_core.specs.declared.states.ChangeRow.{ChangeRow}
-use Rattle.ist_core.specs.declared.states.InnerRow.{InnerRow}
-use Rattle.ist_core.specs.declared.states.RebuildRow.{RebuildRow}
 use Rattle.ist_core.specs.declared.lists.Row.{Row}
 use Rattle.ist_core.specs.References.{ChangeAt, InnerAt, ref_of, unset_word}
 use Rattle.ist_core.specs.Statuses.{open_word, marked_word, undecided}
 use Rattle.ist_core.specs.Shapes.{share_from}
-use Rattle.ist_core.specs.Pieces.{Inner, Change, Rebuild, change_of}
 use Rattle.ist_core.specs.Snapshots.{Snapshot, HoldsRows}
 use Rattle.ist_core.specs.Logs.{Log, state}
 use Rattle.ist_core.specs.Slots.{SlotHolds}
 use Rattle.ist_core.specs.Links.{WasLinked}
-use Rattle.ist_core.specs.Rebuilding.{IsStarted, IsFinishedWith}
+use Rattle.ist_core.specs.Rebuilding.{IsStarted}
 use Rattle.ist_core.specs.Enabled.{CanEnter, CanReserve}
 use Rattle.ist_core.specs.Installing.{CanInstall, IsUnrefused}
-use Rattle.ist_core.specs.Deciding.{IsPending, CanOkay, CanDecide, CanResolve, CanCount}
+use Rattle.ist_core.specs.Deciding.{CanOkay, CanDecide, CanResolve, CanCount}
 use Rattle.ist_core.specs.Marking.{CanMark, CanPass, CanFinish}
 use Rattle.ist_core.specs.Building.{CanRoot, CanDraw, CanPlace, CanLose}
 use Rattle.ist_check_events.specs.Mirroring.{RowHolds}
 use Rattle.ist_check_events.specs.Remembering.{IsUncounted}
 use Rattle.ist_check_reasons.specs.declared.conditions.Condition.TheVariants as c
 use Rattle.ist_check_reasons.specs.Failing.{Stated, states}
-
--- ---- single conditions
-
--- a change with P is published at the base
-pub record HasChange (t : Snapshot) (base : ℕ) (P : ChangeRow → Type 0) : Type 0 where
-  pub change : ChangeRow
-  pub published : t.pieces base ≡ Some (Change change)
-  pub says : P change
-
--- an inner row with P is published at the base
-pub record HasInner (t : Snapshot) (base : ℕ) (P : InnerRow → Type 0) : Type 0 where
-  pub row : InnerRow
-  pub published : t.pieces base ≡ Some (Inner row)
-  pub says : P row
-
--- a rebuild with P is published at the base
-pub record HasRebuild (t : Snapshot) (base : ℕ) (P : RebuildRow → Type 0) : Type 0 where
-  pub row : RebuildRow
-  pub published : t.pieces base ≡ Some (Rebuild row)
-  pub says : P row
-
--- whatever it is
-abbrev pub Any : {A : Type 0} → A → Type 0
-Any x = Unit {0}
-
--- the change that the first of the rows is, where it lies at the base
-abbrev pub first_change : List Row → ℕ → Option ChangeRow
-first_change [] base = None
-first_change (row ∷ fresh) base = if row.base == base then change_of row.words else None
-
--- there is a change, and it has P
-abbrev pub IsWith : (ChangeRow → Type 0) → Option ChangeRow → Type 0
-IsWith P None = ⊥
-IsWith P (Some change) = P change
-
--- the target of the rebuild is finished, with so many keys that Q holds of them
-abbrev pub IsFinishedSo : Snapshot → RebuildRow → (ℕ → Type 0) → Type 0
-IsFinishedSo t row Q = (k : ℕ) × IsFinishedWith t row.target k × Q k
-
--- ---- the kinds
+use Rattle.ist_check_reasons.specs.Published.{HasChange, HasInner, HasRebuild, Any, first_change, IsWith, IsFinishedSo}
 
 -- of an Enter
 abbrev pub enter_says : Snapshot → ℕ → List Stated

@@ -1,3 +1,4 @@
 -- what the public contracts rest on, in the order to read them
 pub mod Failing
+pub mod Published
 pub mod Conditions

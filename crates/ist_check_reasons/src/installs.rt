@@ -10,8 +10,9 @@ ghost use Rattle.ist_check_events.specs.Mirroring.{Mirrors};
 ghost use Rattle.ist_check_events.specs.Remembering.{KnowsSlots, KnowsWays, KnowsRefusals, KnowsStarts};
 ghost use Rattle.ist_check_events.specs.Ways.{KeysStay};
 ghost use Rattle.ist_check_reasons.specs.Failing.{Tells};
-ghost use Rattle.ist_check_reasons.specs.Conditions as conditions;
-ghost use Rattle.ist_check_reasons.specs.Conditions.{Any, IsWith, install_says};
+ghost use Rattle.ist_check_reasons.specs.Published as published;
+ghost use Rattle.ist_check_reasons.specs.Published.{Any, IsWith};
+ghost use Rattle.ist_check_reasons.specs.Conditions.{install_says};
 
 use crate::conditions::Condition;
 use crate::failing::{first_failing, test_of};
@@ -55,7 +56,7 @@ pub fn install_fails(
 
 /// The change that the first of the rows is, where it lies at the base.
 fn first_change(rows: &[Row], base: u64) -> Option<ChangeRow>
-    ensures value { result ≡ conditions.first_change rows.now base }
+    ensures value { result ≡ published.first_change rows.now base }
 {
     match rows {
         [] => None,

@@ -8,7 +8,7 @@ ghost use Rattle.ist_core.specs.Shapes.{share_from};
 ghost use Rattle.ist_core.specs.Statuses.{undecided};
 ghost use Rattle.ist_check_events.specs.Mirroring.{Mirrors, RowHolds};
 ghost use Rattle.ist_check_events.specs.Remembering.{KnowsStarts, KnowsUpdates, IsUncounted};
-ghost use Rattle.ist_check_reasons.specs.Conditions.{HasChange, HasInner, HasRebuild, Any, IsFinishedSo};
+ghost use Rattle.ist_check_reasons.specs.Published.{HasChange, HasInner, HasRebuild, Any, IsFinishedSo};
 
 use ist_check_events::{Past, Replica, finished_keys, holds_at, inner_of_word};
 use ist_layout::{Ref, UNDECIDED};

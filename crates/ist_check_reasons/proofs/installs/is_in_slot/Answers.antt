@@ -1,6 +1,6 @@
 use Rattle.std.proofs.Common.{◌↔◌, IsTrue, sym, subst}
 use Rattle.ist_core.specs.Slots.{SlotHolds}
-use Rattle.ist_check_reasons.specs.Conditions.{IsWith}
+use Rattle.ist_check_reasons.specs.Published.{IsWith}
 use Rattle.ist_check_reasons.proofs.installs.is_in_slot.Goals as goal
 
 pub returns-in-Some : goal.returns-in-Some
