@@ -30,7 +30,8 @@ pub fn no_rows(alloc: Global) -> HeldTable
 
 /// Is the row held?
 pub fn has_row(table: &HeldTable, row: HeldRow) -> bool
-    ensures exact { (held : List AHeldRow) → Keeps table.now held → (IsTrue result ↔ Among row held) }
+    ensures exact { (held : List AHeldRow) → Keeps table.now held
+        → (IsTrue result ↔ Among row held) }
 {
     match table.rows.get(&row.base) {
         None => false,
@@ -47,7 +48,8 @@ fn is_same(one: &HeldRow, other: HeldRow) -> bool
 
 /// The sizes of the rows that the caller holds, in the order of reserving.
 pub fn sizes_held(alloc: Global, table: &HeldTable, caller: u64) -> Result<Vec<u64>, AllocError>
-    ensures value { IfOk result (λ sizes. sizes.items ≡ map (λ h. h.size) (listed table.now.of caller)) }
+    ensures value { IfOk result (λ sizes.
+        sizes.items ≡ map (λ h. h.size) (listed table.now.of caller)) }
 {
     match table.of.get(&caller) {
         None => Ok(Vec::new(alloc)),
@@ -131,7 +133,8 @@ fn unlist(of: &mut BTreeMap<u64, Vec<HeldRow>>, caller: u64, base: u64)
 
 /// The rows, in the order of reserving.
 pub fn rows_held(alloc: Global, table: HeldTable) -> Result<Vec<HeldRow>, AllocError>
-    ensures value { IfOk result (λ rows. (held : List AHeldRow) → Keeps table held → rows.items ≡ held) }
+    ensures value { IfOk result (λ rows. (held : List AHeldRow)
+        → Keeps table held → rows.items ≡ held) }
 {
     rows_in_order(alloc, table.rows)
 }

@@ -51,7 +51,8 @@ pub fn reserve_fails(
 
 /// Which condition of an Okay fails first?
 pub fn okay_fails(replica: &Replica, caller: u64, change: u64) -> Option<Condition>
-    ensures exact { (t : Snapshot) → Mirrors replica.now t → Tells (okay_says t caller change) result }
+    ensures exact { (t : Snapshot) → Mirrors replica.now t
+        → Tells (okay_says t caller change) result }
 {
     first_failing(&[
         test_of(Condition::Known, is_known(replica, caller)),
@@ -85,7 +86,8 @@ pub fn decide_fails(
 
 /// Which condition of a Resolve fails first?
 pub fn resolve_fails(replica: &Replica, caller: u64, change: u64) -> Option<Condition>
-    ensures exact { (t : Snapshot) → Mirrors replica.now t → Tells (resolve_says t caller change) result }
+    ensures exact { (t : Snapshot) → Mirrors replica.now t
+        → Tells (resolve_says t caller change) result }
 {
     first_failing(&[
         test_of(Condition::Known, is_known(replica, caller)),

@@ -19,14 +19,16 @@ const UNSET_WORD: u64 = 7;
 
 /// Has the caller entered?
 pub(crate) fn is_known(replica: &Replica, caller: u64) -> bool
-    ensures exact { (t : Snapshot) → Mirrors replica.now t → (IsTrue result ↔ (caller < t.callers)) }
+    ensures exact { (t : Snapshot) → Mirrors replica.now t
+        → (IsTrue result ↔ (caller < t.callers)) }
 {
     caller < replica.callers
 }
 
 /// Is the number that of the callers before it?
 pub(crate) fn is_next_caller(replica: &Replica, caller: u64) -> bool
-    ensures exact { (t : Snapshot) → Mirrors replica.now t → (IsTrue result ↔ (caller ≡ t.callers)) }
+    ensures exact { (t : Snapshot) → Mirrors replica.now t
+        → (IsTrue result ↔ (caller ≡ t.callers)) }
 {
     caller == replica.callers
 }
