@@ -9,6 +9,7 @@ pub mod KindLemmas
 pub mod RebuildKindLemmas
 pub mod RowLemmas
 pub mod HeldLemmas
+pub mod LetGoLemmas
 pub mod InstallLemmas
 pub mod SpareLemmas
 pub mod FairLemmas

@@ -1,4 +1,4 @@
-use Rattle.std.proofs.Common.{◌≡◌, ◌∙◌, ◌+◌, ◌-◌, ◌==◌, ◌∷◌, ◌++◌, [], List, ℕ, map, filter, refl}
+use Rattle.std.proofs.Common.{◌≡◌, ◌∙◌, ◌+◌, ◌-◌, ◌∷◌, ◌++◌, [], List, ℕ, map, refl}
 use Rattle.std.proofs.Common.{sym, ap, subst, arith}
 use Rattle.ist_core.specs.Snapshots.{sizes_held}
 use Rattle.ist_check_events.specs.Searching.{AreBuilding}

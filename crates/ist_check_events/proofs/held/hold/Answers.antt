@@ -1,8 +1,9 @@
-use Rattle.std.proofs.Common.{◌≡◌, ◌∙◌, ◌<◌, ◌++◌, ◌∷◌, [], ap, subst, sym}
+use Rattle.std.proofs.Common.{◌∙◌, ◌<◌, ap, subst}
 use Rattle.std.specs.BTreeMap.{insert_entry}
 use Rattle.std.specs.Ordering.{nat_cmp}
 use Rattle.ist_core.specs.Elements.{Each}
-use Rattle.ist_check_events.proofs.HeldLemmas.{put_last, rises_last, listed_last}
+use Rattle.ist_check_events.proofs.HeldLemmas.{put_last, rises_last}
+use Rattle.ist_check_events.proofs.LetGoLemmas.{listed_last}
 use Rattle.ist_check_events.proofs.held.hold.Goals as goal
 
 pub returns : goal.returns

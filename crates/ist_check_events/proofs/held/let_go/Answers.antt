@@ -2,7 +2,7 @@ use Rattle.std.proofs.Common.{take, subst}
 use Rattle.std.proofs.lemmas.List.{take_all, take_more}
 use Rattle.ist_core.specs.Snapshots.{without}
 use Rattle.ist_check_events.specs.Holding.{Keeps}
-use Rattle.ist_check_events.proofs.HeldLemmas.{keeps_none, keeps_last}
+use Rattle.ist_check_events.proofs.LetGoLemmas.{keeps_none, keeps_last}
 use Rattle.ist_check_events.proofs.held.let_go.Goals as goal
 
 pub loop-base-init : goal.loop-base-init

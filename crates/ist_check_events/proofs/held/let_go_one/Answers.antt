@@ -1,9 +1,10 @@
-use Rattle.std.proofs.Common.{◌≡◌, ◌∙◌, ◌∷◌, [], ap, sym, subst}
+use Rattle.std.proofs.Common.{◌∙◌, ap, sym}
 use Rattle.std.specs.BTreeMap.{is_at}
 use Rattle.std.specs.Map.{lookup, remove_entry}
 use Rattle.std.specs.Ordering.{nat_cmp}
-use Rattle.ist_check_events.specs.Holding.{Keeps, listed, of_caller}
-use Rattle.ist_check_events.proofs.HeldLemmas.{taken_out, rises_without, none_goes, listed_without}
+use Rattle.ist_check_events.specs.Holding.{of_caller}
+use Rattle.ist_check_events.proofs.HeldLemmas.{rises_without}
+use Rattle.ist_check_events.proofs.LetGoLemmas.{taken_out, none_goes, listed_without}
 use Rattle.ist_check_events.proofs.held.let_go_one.Goals as goal
 
 pub returns-in-Some : goal.returns-in-Some

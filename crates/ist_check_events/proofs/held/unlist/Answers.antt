@@ -1,4 +1,4 @@
-use Rattle.std.proofs.Common.{◌≡◌, ◌∙◌, ◌∷◌, [], ◌==◌, not, ap, sym, rules}
+use Rattle.std.proofs.Common.{◌∙◌, ◌∷◌, [], ◌==◌, not, ap, rules}
 use Rattle.std.specs.List.{list_any}
 use Rattle.std.specs.Option.{option_map, unwrap_or}
 use Rattle.std.proofs.lemmas.Fn.{filter_same}
