@@ -68,7 +68,7 @@ fresh() {
     top=$dir/repository
     mkdir -p "$top/tools"
     cp "$here/tele" "$top"
-    cp "$here/tools/build.py" "$top/tools"
+    cp "$here/tools/build.py" "$here/tools/once.py" "$top/tools"
     printf '# crates\nlow:\nleft may_wait=2: low\nright: low\naside: low\ntele: left right\n' >"$top/crates.txt"
     for it in low left right aside; do
         mkdir -p "$top/crates/$it/src" "$top/crates/$it/specs"

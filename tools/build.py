@@ -119,6 +119,7 @@ class Kit:
         texts = [Path(it).read_bytes() for it in self.paths if os.path.isfile(it)]
         tools = [(it.name, it.stat().st_size) for it in sorted((folder / "bin").glob("*"))] if self.rt else []
         self.sum = sum_of(texts, tools) if self.rt else ""
+        self.command = [sys.executable, str(Path(__file__).resolve().parent / "once.py"), self.rt]
 
 
 class Made:
@@ -293,8 +294,7 @@ class Proof(threading.Thread):
         jobs = ["--jobs", str(self.jobs)] if self.jobs else []
         if self.name_of == self.room.source.program:
             return [["run", *jobs]]
-        # Before each command `rt` sums up all files below once for each way through crates.txt, which takes minutes for the top
-        # crates: so there is one command a crate, which proves it, says how far it is and builds its library.
+        # One command proves the crate, says how far it is and builds its library.
         return [["lib", *jobs]]
 
     def run(self):
@@ -315,7 +315,7 @@ class Proof(threading.Thread):
         how = {"cwd": self.room.crate(self.name_of), "stdin": subprocess.DEVNULL, "stderr": subprocess.STDOUT}
         log.write(f"$ cd {how['cwd']} && rt {' '.join(words)}\n")
         log.flush()
-        with subprocess.Popen([self.room.kit.rt, *words], stdout=subprocess.PIPE, text=True, errors="replace", **how) as self.process:
+        with subprocess.Popen([*self.room.kit.command, *words], stdout=subprocess.PIPE, text=True, errors="replace", **how) as self.process:
             if self.is_stopped:
                 self.process.terminate()
             for line in self.process.stdout:
@@ -353,8 +353,8 @@ class Build:
         self.waiting = [it for it in self.source.names if it not in self.proved]
         self.number, self.begun, self.running, self.alone = len(self.waiting), time.time(), [], set()
         self.processors = processors()
-        # One more than there are processors, so that none is idle while one loads what is below.
-        self.most = self.processors if "TELE_JOBS" in os.environ else max(1, min(self.processors + 1, memory() // MEMORY_OF_A_JOB))
+        # Twice as many as there are processors: a crate keeps its number to the end, when nothing may run beside it any more.
+        self.most = self.processors if "TELE_JOBS" in os.environ else max(1, min(2 * self.processors, memory() // MEMORY_OF_A_JOB))
         self.weight = {it: self.source.weight(it) for it in self.source.names}
         above = lambda name: [it for it in self.waiting if name in self.source.below[it]]
         self.chain = {}
@@ -377,7 +377,7 @@ class Build:
                 return
             name, rest = able[0], [*able[1:], *[it.name_of for it in self.running]]
             share = self.weight[name] / sum(self.weight[it] for it in [name, *rest])
-            jobs = max(1, min(free - (len(able) > 1), self.processors, round(self.processors * share)))
+            jobs = max(1, min(free - (len(able) > 1), self.processors, round(self.most * share)))
             if name in self.alone:
                 jobs = 1
             # `rt` chooses best for a crate that nothing runs beside.
