@@ -425,7 +425,7 @@ class Shown:
         self.next, self.width = time.time() + 15, 0
         number, most = build.number, min(build.most, build.processors)
         beside = f", up to {most} side by side" if most > 1 and number > 1 else ""
-        say(f"the program is proved before it is built, once: {number} crate{'s' * (number > 1)}{beside}, up to half an hour or so")
+        say(f"the program is proved before it is built, once: {number} crate{'s' * (number > 1)}{beside}, up to half an hour")
         say(f"log: {build.room.logs}")
 
     def text(self):
