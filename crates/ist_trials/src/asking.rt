@@ -2,34 +2,9 @@
 ghost use Rattle.std.specs.Prelude.{◌≡◌};
 
 use ist_core::{Full, Reply};
+use ist_tales::Asked;
 use ist_tree::{Pass, Tree};
 use std::sync::Wait;
-
-/// What is asked with one key: a put of the value, a remove, or the value.
-#[derive(Clone, Copy, Debug, PartialEq, Eq, Drop)]
-pub(crate) enum Asked {
-    Put(u64, u64),
-    Remove(u64),
-    Find(u64),
-}
-
-impl Asked {
-    /// The key that is asked with.
-    pub(crate) fn key(self) -> u64 {
-        match self {
-            Asked::Put(key, _) => key,
-            Asked::Remove(key) => key,
-            Asked::Find(key) => key,
-        }
-    }
-}
-
-/// A call that was answered.
-#[derive(Clone, Copy, Debug, PartialEq, Eq, Drop)]
-pub(crate) struct Told {
-    pub asked: Asked,
-    pub reply: Reply,
-}
 
 /// Asks the tree by the pass.
 pub(crate) fn ask<R: Wait>(

@@ -1,10 +1,11 @@
 //! Worked rows: what one pass is answered, and the words that it leaves.
 ghost use Rattle.std.specs.Prelude.{◌≡◌, ◌≤◌};
 
-use crate::asking::{Asked, ask_each};
+use crate::asking::ask_each;
 use Asked::{Find, Put, Remove};
 use ist_core::{Full, Pair, Reply};
 use ist_rest::Closed;
+use ist_tales::Asked;
 use ist_tree::{OpenFault, Tree};
 use std::alloc::Global;
 use std::sync::Wait;

@@ -1,14 +1,11 @@
 //! Threads that put, remove and find in one tree, over keys that they share and over keys of their own.
 ghost use Rattle.std.specs.Prelude.{◌≡◌, ◌≤◌, ◌+◌, [], length, All, IfOk};
 
-use crate::asking::Told;
-use crate::cuts::judge_moments;
-use crate::misfits::Misfit;
 use crate::openings::{numbered, open_with};
-use crate::orders::Order;
 use crate::workers::{Plan, Worker};
 use ist_core::Pair;
 use ist_rest::Closed;
+use ist_tales::{Misfit, Order, Told, judge_moments};
 use ist_tree::{Maker, OpenFault, Tree};
 use std::alloc::{AllocError, Global};
 use std::sync::Wait;

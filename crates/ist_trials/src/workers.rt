@@ -1,9 +1,10 @@
 //! A thread of a run: calls that a number makes up, by a pass of its own, and what became of them.
 ghost use Rattle.std.specs.Prelude.{◌≡◌, ◌≤◌, ◌<◌};
 
-use crate::asking::{Asked, Told, ask};
+use crate::asking::ask;
 use crate::frozen_pairs::read_all;
 use ist_core::{Command, Pair, Reply};
+use ist_tales::{Asked, Told};
 use ist_tree::{Pass, Tree};
 use plain_map::Plain;
 use std::alloc::{AllocError, Global};

@@ -14,6 +14,3 @@ mod steps;
 
 pub use outcomes::{ANSWERED, BAD_LINE, NO_MEMORY, Outcome, READ_FAILED, USAGE, WRITE_FAILED};
 pub use runs::run;
-
-#[cfg(test)]
-mod tests;

@@ -1,7 +1,7 @@
 //! The values of each key in the order in which they stood there, by what the calls found.
 
-use crate::asking::{Asked, Told};
 use crate::misfits::Misfit;
+use crate::telling::{Asked, Told};
 use ist_core::Pair;
 use std::alloc::Global;
 use std::collections::{HashMap, HashSet};

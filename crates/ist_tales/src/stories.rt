@@ -1,9 +1,9 @@
 //! The judging of what threads were told, on small tales that have an order and on some that have none.
 
-use crate::asking::{Asked, Told};
 use crate::cuts::judge_moments;
 use crate::misfits::Misfit;
 use crate::orders::Order;
+use crate::telling::{Asked, Told};
 use Asked::{Find, Put, Remove};
 use ist_core::{Pair, Reply};
 use std::alloc::{AllocError, Global};

@@ -1,34 +1,11 @@
 //! Worked inputs, with the output that they are to have.
 
-use crate::run;
+use crate::running::status_over;
 use std::alloc::{AllocError, Global};
 use std::sync::Wait;
 use std::test::Fail;
 use std::thread::Threads;
-use tele_generations::NoShelf;
-use tele_io::{MemorySink, MemorySource, QuietSink, QuietSource, Sink, Source};
-use tele_lanes::NoGate;
-
-/// Runs over a source and a sink, with no words of a command line, and gives the status.
-fn status_over<R: Threads + Wait + Sync, S: Source, O: Sink>(
-    rt: &R,
-    alloc: Global,
-    source: &mut S,
-    out: &mut O,
-) -> u8 {
-    let words: Vec<String> = Vec::new(alloc);
-    let mut shelf = NoShelf;
-    run(
-        rt,
-        alloc,
-        words.as_slice(),
-        source,
-        out,
-        &NoGate,
-        &mut shelf,
-    )
-    .status
-}
+use tele_io::{MemorySink, MemorySource, QuietSink, QuietSource};
 
 /// Runs over some bytes in pieces of seven, with these reads and writes failing.
 fn faulty<R: Threads + Wait + Sync>(
@@ -40,7 +17,7 @@ fn faulty<R: Threads + Wait + Sync>(
 ) -> Result<(Vec<u8>, u8), AllocError> {
     let mut source = MemorySource::new(input.to_vec(alloc)?, 7, reads.to_vec(alloc)?);
     let mut out = MemorySink::new(alloc, writes.to_vec(alloc)?);
-    let status = status_over(rt, alloc, &mut source, &mut out);
+    let status = status_over(rt, alloc, &[], &mut source, &mut out)?;
     Ok((out.bytes().to_vec(alloc)?, status))
 }
 
@@ -52,7 +29,7 @@ fn answer<R: Threads + Wait + Sync>(
 ) -> Result<(Vec<u8>, u8), AllocError> {
     let mut source = QuietSource::new(input.to_vec(alloc)?);
     let mut out = QuietSink::new(alloc);
-    let status = status_over(rt, alloc, &mut source, &mut out);
+    let status = status_over(rt, alloc, &[], &mut source, &mut out)?;
     Ok((out.bytes().to_vec(alloc)?, status))
 }
 
@@ -154,25 +131,10 @@ fn run_unread<R: Threads + Wait + Sync>(
     alloc: Global,
     more: &[&str],
 ) -> Result<(Vec<u8>, u8), AllocError> {
-    let mut words = Vec::new(alloc);
-    words.push("tele".to_string(alloc)?)?;
-    for word in more {
-        words.push(word.to_string(alloc)?)?;
-    }
     let bytes = b"P 5 7\n".to_vec(alloc)?;
     let mut source = MemorySource::new(bytes, 4_096, [0].to_vec(alloc)?);
     let mut out = QuietSink::new(alloc);
-    let mut shelf = NoShelf;
-    let status = run(
-        rt,
-        alloc,
-        words.as_slice(),
-        &mut source,
-        &mut out,
-        &NoGate,
-        &mut shelf,
-    )
-    .status;
+    let status = status_over(rt, alloc, more, &mut source, &mut out)?;
     Ok((out.bytes().to_vec(alloc)?, status))
 }
 
@@ -250,7 +212,7 @@ fn a_line_of_an_open_round_is_not_answered_at_a_failed_read(rt: HostRuntime) -> 
         [1].to_vec(rt.alloc())?,
     );
     let mut out = QuietSink::new(rt.alloc());
-    let status = status_over(&rt, rt.alloc(), &mut source, &mut out);
+    let status = status_over(&rt, rt.alloc(), &[], &mut source, &mut out)?;
     assert_eq!(rt; out.bytes(), b"".as_slice());
     assert_eq!(rt; status, 4);
     Ok(())
@@ -272,7 +234,7 @@ fn a_round_has_at_most_16384_point_lines(rt: HostRuntime) -> Result<(), Fail> {
         }
         let mut source = MemorySource::new(input, 4_096, [read].to_vec(rt.alloc())?);
         let mut out = QuietSink::new(rt.alloc());
-        let status = status_over(&rt, rt.alloc(), &mut source, &mut out);
+        let status = status_over(&rt, rt.alloc(), &[], &mut source, &mut out)?;
         let ends = out.bytes().iter().filter(|byte| **byte == b'\n').count();
         assert_eq!(rt; ends, answered, "of {lines} lines");
         assert_eq!(rt; status, 4, "behind {lines} lines");
@@ -293,29 +255,5 @@ fn a_failed_write_leaves_the_lines_before_it(rt: HostRuntime) -> Result<(), Fail
         );
         assert_eq!(rt; status, 5, "the status where write {write} fails");
     }
-    Ok(())
-}
-
-#[test]
-fn a_refused_allocation_leaves_a_prefix(rt: HostRuntime) -> Result<(), Fail> {
-    let input = b"P 1 1\nP 2 2\nP 3 3\nP 4 4\nP 5 5\nI 0 9\nP 7 7\nP 8 8\nP 9 9\nP 1 5";
-    let output = b"1 -\n2 -\n3 -\n4 -\n5 -\n6 5\n1 1\n2 2\n3 3\n4 4\n5 5\n7 -\n8 -\n9 -\n10 1\n";
-    let mut source = match input.to_vec(rt.alloc()) {
-        Ok(bytes) => QuietSource::new(bytes),
-        Err(_) => {
-            return Ok(());
-        }
-    };
-    let mut out = QuietSink::new(rt.alloc());
-    let status = status_over(&rt, rt.alloc(), &mut source, &mut out);
-    let written = out.bytes();
-    let len = written.len();
-    assert!(rt; len <= output.len());
-    assert_eq!(rt; written, &output[..len], "the text");
-    let whole = len == output.len();
-    assert!(rt;
-        (whole && status == 0) || (!whole && status == 7),
-        "the status {status} with {len}"
-    );
     Ok(())
 }

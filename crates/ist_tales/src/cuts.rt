@@ -1,8 +1,8 @@
 //! Whether frozen trees show what threads wrote as it stood at one moment.
 
-use crate::asking::{Asked, Told};
 use crate::misfits::Misfit;
 use crate::orders::Order;
+use crate::telling::{Asked, Told};
 use ist_core::Pair;
 use std::alloc::Global;
 use std::collections::HashMap;
@@ -73,7 +73,7 @@ fn judge_two(one: &Moment, two: &Moment) -> Result<(), Misfit> {
 
 /// Judges frozen trees, each by its pairs, where each key was removed by one thread alone: of each thread's
 /// changes those that a tree shows came first; and of two trees one shows all that the other does.
-pub(crate) fn judge_moments(
+pub fn judge_moments(
     alloc: Global,
     order: &Order,
     threads: &[Vec<Told>],

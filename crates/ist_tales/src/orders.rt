@@ -1,15 +1,15 @@
 //! Whether each thread saw the lives of each key go on.
 
-use crate::asking::{Asked, Told};
 use crate::chains::{Chains, Place};
 use crate::misfits::Misfit;
+use crate::telling::{Asked, Told};
 use ist_core::Pair;
 use std::alloc::{AllocError, Global};
 
 /// The lives of all keys, in an order in which each thread saw them.
 #[derive(Drop)]
-pub(crate) struct Order {
-    pub chains: Chains,
+pub struct Order {
+    chains: Chains,
     // The number of each life in that order.
     ranks: Vec<u64>,
 }
@@ -191,7 +191,7 @@ impl Order {
     /// An order of all that the threads were told, between the opening and the close, if there is one:
     /// for each key the calls that changed it make one chain, in which each thread's come in its order;
     /// and what a thread found stood there no earlier than what it had seen before.
-    pub(crate) fn of(
+    pub fn of(
         alloc: Global,
         opening: &[Pair],
         threads: &[Vec<Told>],

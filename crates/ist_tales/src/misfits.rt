@@ -1,12 +1,12 @@
 //! Why what threads were told fits no order.
 ghost use Rattle.std.specs.Prelude.{◌≡◌};
-ghost use Rattle.ist_trials.specs.declared.misfits.Misfit.TheVariants.{Memory};
+ghost use Rattle.ist_tales.specs.declared.misfits.Misfit.TheVariants.{Memory};
 
 use std::alloc::{AllocError, AllocFailed};
 
 /// Why what threads were told fits no order.
 #[derive(Clone, Copy, Debug, PartialEq, Eq, Drop)]
-pub(crate) enum Misfit {
+pub enum Misfit {
     /// The value was replaced or removed twice.
     ReplacedTwice { value: u64 },
     /// The value was written twice.

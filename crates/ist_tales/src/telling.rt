@@ -1,0 +1,29 @@
+//! What a thread asks a map, and what it is told.
+
+use ist_core::Reply;
+
+/// What is asked with one key: a put of the value, a remove, or the value.
+#[derive(Clone, Copy, Debug, PartialEq, Eq, Drop)]
+pub enum Asked {
+    Put(u64, u64),
+    Remove(u64),
+    Find(u64),
+}
+
+impl Asked {
+    /// The key that is asked with.
+    pub fn key(self) -> u64 {
+        match self {
+            Asked::Put(key, _) => key,
+            Asked::Remove(key) => key,
+            Asked::Find(key) => key,
+        }
+    }
+}
+
+/// A call that was answered.
+#[derive(Clone, Copy, Debug, PartialEq, Eq, Drop)]
+pub struct Told {
+    pub asked: Asked,
+    pub reply: Reply,
+}
