@@ -1,3 +1,4 @@
 pub mod AbleLemmas
 pub mod LateLemmas
+pub mod RaceLemmas
 pub mod UpdateLemmas

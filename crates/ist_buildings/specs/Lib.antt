@@ -1,3 +1,4 @@
 -- what the contracts rest on
 pub mod Steps
 pub mod Late
+pub mod Races

@@ -1,7 +1,7 @@
 //! Rebuilds of small, of shared and of changed tables, by direct calls of the crates that mark, build and rebuild: tests alone.
 //!
-//! Read `tables.rt` and `callers.rt`, then `turns.rt`, `shortages.rt`, `shares.rt` and `leaves.rt`; then `updates.rt` and `late.rt`, and
-//! `marked.rt` and `frozen.rt`. Stands on `ist_updates` and on the crates below it, and on the laws of `ist_tree`.
+//! Read `tables.rt` and `callers.rt`, then `turns.rt`, `races.rt`, `shortages.rt`, `shares.rt` and `leaves.rt`; then `updates.rt` and
+//! `late.rt`, and `marked.rt` and `frozen.rt`. Stands on `ist_updates` and on the crates below it, and on the laws of `ist_tree`.
 #![tactic(auto)]
 
 #[cfg(test)]
@@ -16,6 +16,8 @@ mod late;
 mod leaves;
 #[cfg(test)]
 mod marked;
+#[cfg(test)]
+mod races;
 #[cfg(test)]
 mod shares;
 #[cfg(test)]
