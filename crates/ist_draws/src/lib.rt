@@ -1,0 +1,15 @@
+//! What programs that try and measure the tree draw: numbers, kinds of calls, and keys.
+//!
+//! Read `drawing.rt`, `sharing.rt` and `spreads.rt`. Stands on nothing.
+#![tactic(auto)]
+
+mod drawing;
+mod sharing;
+mod spreads;
+
+pub use drawing::Draws;
+pub use sharing::{Kind, Shares};
+pub use spreads::Spread;
+
+#[cfg(test)]
+mod tests;

@@ -1,0 +1,84 @@
+//! Numbers from outside, and how keys lie.
+
+use crate::{Draws, Kind, Shares, Spread};
+use std::test::Fail;
+
+#[test]
+fn numbers_are_those_of_the_source(rt: HostRuntime) {
+    let mut draws = Draws::new(1_234_567);
+    // the first numbers of this start, from outside
+    let numbers: [u64; 5] = [
+        6_457_827_717_110_365_317,
+        3_203_168_211_198_807_973,
+        9_817_491_932_198_370_423,
+        4_593_380_528_125_082_431,
+        16_408_922_859_458_223_821,
+    ];
+    for number in numbers {
+        assert_eq!(rt; draws.next(), number);
+    }
+}
+
+#[test]
+fn threads_of_one_seed_draw_different_numbers(rt: HostRuntime) {
+    // seed, thread, another seed, another thread
+    let cases = [(1, 0, 1, 1), (1, 0, 2, 0), (0, 3, 3, 0), (1, 1, 2, 0)];
+    for (seed, thread, other, another) in cases {
+        let one = Draws::for_thread(seed, thread).next();
+        let two = Draws::for_thread(other, another).next();
+        assert_ne!(rt; one, two, "{seed} {thread} {other} {another}");
+    }
+}
+
+#[test]
+fn each_kind_of_call_has_its_share(rt: HostRuntime) {
+    let shares = Shares {
+        puts: 500,
+        removes: 250,
+        finds: 249,
+        freezes: 1,
+    };
+    // a number below all shares, the kind of call
+    let cases = [
+        (0, Kind::Put),
+        (499, Kind::Put),
+        (500, Kind::Remove),
+        (749, Kind::Remove),
+        (750, Kind::Find),
+        (998, Kind::Find),
+        (999, Kind::Freeze),
+    ];
+    assert_eq!(rt; shares.all(), 1000);
+    for (number, kind) in cases {
+        assert_eq!(rt; shares.kind_at(number), kind, "{number}");
+    }
+}
+
+#[test]
+fn keys_are_different_and_lie_as_they_are_to(rt: HostRuntime) -> Result<(), Fail> {
+    // how keys lie, the number of 5,000 keys that are one above another
+    let cases = [
+        (Spread::Uniform, 0),
+        (Spread::Rising, 4_999),
+        (Spread::Clustered, 4_995),
+    ];
+    for (spread, beside) in cases {
+        let mut keys = Vec::new(rt.alloc());
+        for number in 0..5_000 {
+            keys.push(spread.key(number))?;
+        }
+        keys.sort()?;
+        let mut same: u64 = 0;
+        let mut next: u64 = 0;
+        for pair in keys.windows(2) {
+            if pair[0] == pair[1] {
+                same = same.wrapping_add(1);
+            }
+            if pair[0].wrapping_add(1) == pair[1] {
+                next = next.wrapping_add(1);
+            }
+        }
+        assert_eq!(rt; (same, next), (0, beside), "{spread:?}");
+    }
+    Ok(())
+}
