@@ -44,6 +44,15 @@ as_many none all put kept is shared =
     (λ z. IsPermutation (z ++ all) (put ++ kept)) is shared))
     ∙ length-append put kept
 
+-- what was put in, and what was kept and then run, are as many as there were
+pub as_many_ran : {X Y : Type 0} (f : X → Y) (none all put kept one : List X) → none ≡ []
+    → IsPermutation (none ++ all) (put ++ kept) → IsPermutation (map f kept) (map f one)
+    → length all ≡ length put + length one
+as_many_ran f none all put kept one is shared ran =
+    as_many none all put kept is shared
+    ∙ ap (λ n. length put + n) (sym (length-map kept f)
+    ∙ sym (length_permutation (map f kept) (map f one) ran) ∙ length-map one f)
+
 module _ {P T : Type 0} (tie : P → T) where
   -- what is read off the tickets of some lanes
   pub through : {Y : Type 0} (g : Ticket T → Y) (ls : List (Lane P T))
@@ -76,6 +85,15 @@ module _ {P T : Type 0} (tie : P → T) where
       (Climb-from_increasing number_on xs ups)
       (λ a. Contains-permutation ys xs a (IsPermutation-sym xs ys same))
       (λ a. Contains-permutation xs ys a same)
+
+  -- so are those of lanes that came back and were put in order
+  pub at_home : (old back new : List (Lane P T)) → IsStrictlyIncreasing (map (λ l. l.number) old)
+      → IsPermutation (map (ticket tie) old) (map (ticket tie) back) → IsPermutation back new
+      → IsNonDecreasingBy (λ l. l.number) new → map (ticket tie) new ≡ map (ticket tie) old
+  at_home old back new up came sorted rising =
+      in_place old new up
+      (IsPermutation-trans (map (ticket tie) old) (map (ticket tie) back) (map (ticket tie) new)
+      came (IsPermutation-map (ticket tie) back new sorted)) rising
 
   -- so is all that is read off them
   pub same_on : {Y : Type 0} (g : Ticket T → Y) (old new : List (Lane P T))

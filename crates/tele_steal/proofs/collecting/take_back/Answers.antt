@@ -9,45 +9,24 @@ use Rattle.tele_steal.proofs.RunLemmas.{All-rest, All-last, All-more, length_mor
 use Rattle.tele_steal.proofs.OwnerLemmas.{is_owners, owner_step}
 use Rattle.tele_steal.proofs.collecting.take_back.Goals as goal
 
--- the owner's tally
-pub take_hand-bag-requires-clause-owner : goal.take_hand-bag-requires-clause-owner
-take_hand-bag-requires-clause-owner g c = is_owners _ _ _ _ c.loop-hand.invariant.owner
-
--- the last hand has a pass of this deque
-pub take_hand-bag-requires-clause-table : goal.take_hand-bag-requires-clause-table
-take_hand-bag-requires-clause-table g c =
-    subst (λ d. IsPassOf d c.in-Some.hand.pass) (sym c.loop-hand.invariant.same.0)
-    (All-last (λ (h : Hand g.row.P.Denot g.row.P-Tie.Denot). IsPassOf
-    (worker_deque c.args.owner.now) h.pass)
-    _ _ _ c.in-Some.ensures.items c.loop-hand.invariant.tables)
-
--- its tally is a worker's
-pub take_hand-bag-requires-clause-worker : goal.take_hand-bag-requires-clause-worker
-take_hand-bag-requires-clause-worker g c =
-    All-last (λ (h : Hand g.row.P.Denot g.row.P-Tie.Denot). view h.pass ≡ of_worker
-    (taken_by (view h.pass)))
-    _ _ _ c.in-Some.ensures.items c.loop-hand.invariant.workers
-
--- its bag has what it took
-pub take_hand-bag-requires-clause-tickets : goal.take_hand-bag-requires-clause-tickets
-take_hand-bag-requires-clause-tickets g c =
+-- the last hand is a worker's of this deque, and its bag has what it took and ran
+pub take_hand-bag-requires : goal.take_hand-bag-requires
+take_hand-bag-requires g c =
+    let H = Hand g.row.P.Denot g.row.P-Tie.Denot in
     let t = ticket g.P.Port.tie in
-    All-last (λ (h : Hand g.row.P.Denot g.row.P-Tie.Denot). map t h.bag.items ≡ map t
-    (taken_by (view h.pass)))
-    _ _ _ c.in-Some.ensures.items c.loop-hand.invariant.tickets
-
--- and ran it
-pub take_hand-bag-requires-clause-ran : goal.take_hand-bag-requires-clause-ran
-take_hand-bag-requires-clause-ran g c =
-    All-last (λ (h : Hand g.row.P.Denot g.row.P-Tie.Denot). All
-    (HasRun g.P.Port.calls g.P.Port.refused) h.bag.items)
-    _ _ _ c.in-Some.ensures.items c.loop-hand.invariant.ran
-
--- there is room
-pub take_hand-bag-requires-clause-room : goal.take_hand-bag-requires-clause-room
-take_hand-bag-requires-clause-room g c =
-    let put = ap (λ v. length v.put) c.loop-hand.invariant.owner in
-    omega (arith, put, c.loop-hand.invariant.room)
+    let old = c.loop-hand.invariant in
+    let last : (Fits : H → Type 0) → All Fits c.loop-hand.hands.items → Fits c.in-Some.hand =
+    λ Fits all. All-last Fits _ _ _ c.in-Some.ensures.items all in
+    let put = ap (λ v. length v.put) old.owner in
+    record {
+      owner = is_owners _ _ _ _ old.owner;
+      table = subst (λ d. IsPassOf d c.in-Some.hand.pass) (sym old.same.0)
+          (last (λ h. IsPassOf (worker_deque c.args.owner.now) h.pass) old.tables);
+      worker = last (λ h. view h.pass ≡ of_worker (taken_by (view h.pass))) old.workers;
+      tickets = last (λ h. map t h.bag.items ≡ map t (taken_by (view h.pass))) old.tickets;
+      ran = last (λ h. All (HasRun g.P.Port.calls g.P.Port.refused) h.bag.items) old.ran;
+      room = omega (arith, put, old.room);
+    }
 
 -- one hand more was taken back
 pub loop-hand-preserved : goal.loop-hand-preserved

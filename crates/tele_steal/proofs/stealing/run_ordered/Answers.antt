@@ -1,7 +1,6 @@
-use Rattle.std.proofs.Common.{map}
-use Rattle.std.proofs.lemmas.List.Sorted.{All-permutation, IsPermutation-trans, IsPermutation-map}
-use Rattle.tele_steal.specs.Runs.{HasRun, ticket}
-use Rattle.tele_steal.proofs.OrderLemmas.{in_place, same_on}
+use Rattle.tele_steal.specs.Runs.{HasRun}
+use Rattle.std.proofs.lemmas.List.Sorted.{All-permutation}
+use Rattle.tele_steal.proofs.OrderLemmas.{at_home, same_on}
 use Rattle.tele_steal.proofs.stealing.run_ordered.Goals as goal
 
 -- each lane is fresh
@@ -13,68 +12,26 @@ run_shared-shared-requires-clause-fresh g c κs within k d h = record {
   unrefused = c.requires.unrefused k d h;
 }
 
-pub returns-clause-numbers : goal.returns-clause-numbers
-returns-clause-numbers g c =
-    let t = ticket g.P.Port.tie in
-    same_on g.P.Port.tie (λ k. k.number) c.args.lanes.items c.in_order.result.items
-    (in_place g.P.Port.tie c.args.lanes.items c.in_order.result.items c.requires.numbers
-    (IsPermutation-trans (map t c.args.lanes.items) (map t c.run_shared-shared.result.items)
-    (map t c.in_order.result.items)
-    c.run_shared-shared.ensures.tickets
-    (IsPermutation-map t c.run_shared-shared.result.items c.in_order.result.items
-    c.in_order.ensures.same))
-    c.in_order.ensures.rising)
-
-pub returns-clause-tasks : goal.returns-clause-tasks
-returns-clause-tasks g c =
-    let t = ticket g.P.Port.tie in
-    same_on g.P.Port.tie (λ k. k.tasks) c.args.lanes.items c.in_order.result.items
-    (in_place g.P.Port.tie c.args.lanes.items c.in_order.result.items c.requires.numbers
-    (IsPermutation-trans (map t c.args.lanes.items) (map t c.run_shared-shared.result.items)
-    (map t c.in_order.result.items)
-    c.run_shared-shared.ensures.tickets
-    (IsPermutation-map t c.run_shared-shared.result.items c.in_order.result.items
-    c.in_order.ensures.same))
-    c.in_order.ensures.rising)
-
-pub returns-clause-ties : goal.returns-clause-ties
-returns-clause-ties g c =
-    let t = ticket g.P.Port.tie in
-    same_on g.P.Port.tie (λ k. k.tie) c.args.lanes.items c.in_order.result.items
-    (in_place g.P.Port.tie c.args.lanes.items c.in_order.result.items c.requires.numbers
-    (IsPermutation-trans (map t c.args.lanes.items) (map t c.run_shared-shared.result.items)
-    (map t c.in_order.result.items)
-    c.run_shared-shared.ensures.tickets
-    (IsPermutation-map t c.run_shared-shared.result.items c.in_order.result.items
-    c.in_order.ensures.same))
-    c.in_order.ensures.rising)
-
-pub returns-clause-calls : goal.returns-clause-calls
-returns-clause-calls g c k d h =
-    (All-permutation (HasRun g.P.Port.calls g.P.Port.refused) c.run_shared-shared.result.items
-    c.in_order.result.items c.in_order.ensures.same c.run_shared-shared.ensures.ran k d h).calls
-
-pub returns-clause-answers : goal.returns-clause-answers
-returns-clause-answers g c k d h =
-    (All-permutation (HasRun g.P.Port.calls g.P.Port.refused) c.run_shared-shared.result.items
-    c.in_order.result.items c.in_order.ensures.same c.run_shared-shared.ensures.ran k d h).answers
-
-pub returns-clause-replies : goal.returns-clause-replies
-returns-clause-replies g c k d h =
-    (All-permutation (HasRun g.P.Port.calls g.P.Port.refused) c.run_shared-shared.result.items
-    c.in_order.result.items c.in_order.ensures.same c.run_shared-shared.ensures.ran k d h).replies
-
-pub returns-clause-stopped : goal.returns-clause-stopped
-returns-clause-stopped g c k d h =
-    (All-permutation (HasRun g.P.Port.calls g.P.Port.refused) c.run_shared-shared.result.items
-    c.in_order.result.items c.in_order.ensures.same c.run_shared-shared.ensures.ran k d h).stopped
-
-pub returns-clause-refused : goal.returns-clause-refused
-returns-clause-refused g c k d h =
-    (All-permutation (HasRun g.P.Port.calls g.P.Port.refused) c.run_shared-shared.result.items
-    c.in_order.result.items c.in_order.ensures.same c.run_shared-shared.ensures.ran k d h).refused
-
-pub returns-clause-whole : goal.returns-clause-whole
-returns-clause-whole g c k d h =
-    (All-permutation (HasRun g.P.Port.calls g.P.Port.refused) c.run_shared-shared.result.items
-    c.in_order.result.items c.in_order.ensures.same c.run_shared-shared.ensures.ran k d h).whole
+-- each lane came back to its place, and was run
+pub returns : goal.returns
+returns g c =
+    let tie = g.P.Port.tie in
+    let old = c.args.lanes.items in
+    let new = c.in_order.result.items in
+    let home = at_home tie old c.run_shared-shared.result.items new c.requires.numbers
+    c.run_shared-shared.ensures.tickets c.in_order.ensures.same c.in_order.ensures.rising in
+    let ran = All-permutation (HasRun g.P.Port.calls g.P.Port.refused)
+    c.run_shared-shared.result.items new c.in_order.ensures.same c.run_shared-shared.ensures.ran in
+    record {
+      ready = c.run_shared-shared.ensures.ready;
+      count = c.run_shared-shared.ensures.count;
+      numbers = same_on tie (λ k. k.number) old new home;
+      tasks = same_on tie (λ k. k.tasks) old new home;
+      ties = same_on tie (λ k. k.tie) old new home;
+      calls = λ k d h. (ran k d h).calls;
+      answers = λ k d h. (ran k d h).answers;
+      replies = λ k d h. (ran k d h).replies;
+      stopped = λ k d h. (ran k d h).stopped;
+      refused = λ k d h. (ran k d h).refused;
+      whole = λ k d h. (ran k d h).whole;
+    }

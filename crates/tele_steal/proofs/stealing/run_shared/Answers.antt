@@ -1,12 +1,11 @@
 use Rattle.std.proofs.Common.{◌++◌, All, map, length, IsPermutation, sym, ap, ◌∙◌, subst, arith}
 use Rattle.std.proofs.lemmas.List.{length-map}
-use Rattle.std.proofs.lemmas.List.Sorted.{length_permutation}
 use Rattle.crossbeam_deque.specs.Handles.{IsPassOf, worker_view}
 use Rattle.tele_steal.specs.declared.tallies.Hand.{Hand}
 use Rattle.tele_steal.specs.Runs.{ticket}
 use Rattle.tele_steal.proofs.OwnerLemmas.{is_owners}
 use Rattle.tele_steal.proofs.RunLemmas.{same_length}
-use Rattle.tele_steal.proofs.OrderLemmas.{all_home, as_many}
+use Rattle.tele_steal.proofs.OrderLemmas.{all_home, as_many, as_many_ran}
 use Rattle.tele_steal.proofs.stealing.run_shared.Goals as goal
 
 -- the deque has room for all
@@ -39,52 +38,32 @@ take_back-requires-clause-tables g c =
 -- there is room for all lanes
 pub take_back-requires-clause-lane_room : goal.take_back-requires-clause-lane_room
 take_back-requires-clause-lane_room g c =
-    let t = ticket g.P.Port.tie in
-    let n = as_many (worker_view c.hire_all.new.owner).put c.args.lanes.items
-    (worker_view c.put_in.new.owner).put
-    c.put_in.new.kept.items (ap (λ v. v.put) c.hire_all.ensures.owner) c.put_in.ensures.shared in
-    let m = length_permutation (map t c.put_in.new.kept.items)
-    (map t c.run_kept.new.lanes.items) c.run_kept.ensures.tickets in
-    let a = length-map c.put_in.new.kept.items t in
-    let b = length-map c.run_kept.new.lanes.items t in
-    omega (
-      arith,
-      n,
-      m,
-      a,
-      b,
-      c.put_in.ensures.lane_room,
-      c.run_kept.ensures.lane_room,
-      c.args.lanes.ok,
-    )
+    let n = as_many_ran (ticket g.P.Port.tie) (worker_view c.hire_all.new.owner).put
+    c.args.lanes.items (worker_view c.put_in.new.owner).put c.put_in.new.kept.items
+    c.run_kept.new.lanes.items (ap (λ v. v.put) c.hire_all.ensures.owner) c.put_in.ensures.shared
+    c.run_kept.ensures.tickets in
+    omega (arith, n, c.put_in.ensures.lane_room, c.run_kept.ensures.lane_room, c.args.lanes.ok)
 
 pub draw_all-requires-clause-room : goal.draw_all-requires-clause-room
 draw_all-requires-clause-room g c =
     let t = ticket g.P.Port.tie in
-    let n = as_many (worker_view c.hire_all.new.owner).put c.args.lanes.items
-    (worker_view c.put_in.new.owner).put
-    c.put_in.new.kept.items (ap (λ v. v.put) c.hire_all.ensures.owner) c.put_in.ensures.shared in
-    let m = length_permutation (map t c.put_in.new.kept.items)
-    (map t c.run_kept.new.lanes.items) c.run_kept.ensures.tickets in
-    let a = length-map c.put_in.new.kept.items t in
-    let b = length-map c.run_kept.new.lanes.items t in
+    let n = as_many_ran t (worker_view c.hire_all.new.owner).put c.args.lanes.items
+    (worker_view c.put_in.new.owner).put c.put_in.new.kept.items c.run_kept.new.lanes.items
+    (ap (λ v. v.put) c.hire_all.ensures.owner) c.put_in.ensures.shared c.run_kept.ensures.tickets in
     let put = ap (λ v. length v.put) c.take_back.ensures.owner in
     let back = (worker_view c.take_back.new.owner).back in
     let all = same_length t c.run_kept.new.lanes.items c.take_back.new.lanes.items
     (map t back) c.take_back.ensures.tickets in
-    let d = length-map back t in
+    let room = c.take_back.ensures.lane_room in
     omega (
       arith,
       n,
-      m,
-      a,
-      b,
-      d,
+      length-map back t,
       put,
       all,
       c.put_in.ensures.lane_room,
       c.run_kept.ensures.lane_room,
-      c.take_back.ensures.lane_room,
+      room,
       c.args.lanes.ok,
     )
 
