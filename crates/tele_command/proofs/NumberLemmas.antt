@@ -1,4 +1,4 @@
--- The four options of the command, and the numbers that were found for them. Serves the reading of
+-- The five options of the command, and the numbers that were found for them. Serves the reading of
 -- the options.
 use Rattle.std.proofs.Common.{suc, zero, ◌≡◌, ℕ, ◌<◌, ◌^◌, ◌-◌, ◌&&◌, Bool, true, false, List, [], ◌∷◌, length, refl, sym, ◌∙◌, ap, subst, inl, inr, arith, map, codes}
 use Rattle.std.specs.Prelude.{IfSome, not}
@@ -21,13 +21,14 @@ use Rattle.tele_command.specs.CommandLine.{tele, number_option}
 use Rattle.tele_command.specs.Numbers.{AreNumbers}
 use Rattle.tele_command.proofs.OptionLemmas.{IsAlone, first_passes, passes_range}
 
--- each number below four is one of these
-below_four : (P : ℕ → Type 0) → P 0 → P 1 → P 2 → P 3 → (j : ℕ) → j < 4 → P j
-below_four P zero_too one two three zero lt = zero_too
-below_four P zero_too one two three (suc zero) lt = one
-below_four P zero_too one two three (suc (suc zero)) lt = two
-below_four P zero_too one two three (suc (suc (suc zero))) lt = three
-below_four P zero_too one two three (suc (suc (suc (suc j)))) lt = absurd (omega arith)
+-- each number below five is one of these
+below_five : (P : ℕ → Type 0) → P 0 → P 1 → P 2 → P 3 → P 4 → (j : ℕ) → j < 5 → P j
+below_five P zero_too one two three four zero lt = zero_too
+below_five P zero_too one two three four (suc zero) lt = one
+below_five P zero_too one two three four (suc (suc zero)) lt = two
+below_five P zero_too one two three four (suc (suc (suc zero))) lt = three
+below_five P zero_too one two three four (suc (suc (suc (suc zero)))) lt = four
+below_five P zero_too one two three four (suc (suc (suc (suc (suc j))))) lt = absurd (omega arith)
 
 -- two texts that differ are no equal ids
 differ : (x y one two : List ℕ) → x ≡ one → y ≡ two → bytes_eq one two ≡ false → bytes_eq x y ≡ true
@@ -69,17 +70,19 @@ plain_option a name low high is =
       none_of a.groups.items (both _ _ (both _ _ simple_all.1).1).0,
     )
 
--- the four options of a command
+-- the five options of a command
 record HasOptions (old : Command) : Type 0 where
   a : Arg
   b : Arg
   c : Arg
   d : Arg
-  args : args_of old ≡ a ∷ b ∷ c ∷ d ∷ []
+  e : Arg
+  args : args_of old ≡ a ∷ b ∷ c ∷ d ∷ e ∷ []
   workers : rule_of a ≡ number_option (codes "workers") 1 64
   words : rule_of b ≡ number_option (codes "words") 64 268435456
   generate : rule_of c ≡ number_option (codes "generate") 0 1048576
   seed : rule_of d ≡ number_option (codes "seed") 0 (2 ^ 64 - 1)
+  steal : rule_of e ≡ number_option (codes "steal") 0 1
 
 has_options : (old : Command) (args : List Arg) → args_of old ≡ args → map rule_of args ≡
     tele.top.rules → HasOptions old
@@ -87,20 +90,22 @@ has_options old [] are is = absurd (cc is)
 has_options old (a ∷ []) are is = absurd (cc is)
 has_options old (a ∷ b ∷ []) are is = absurd (cc is)
 has_options old (a ∷ b ∷ c ∷ []) are is = absurd (cc is)
-has_options old (a ∷ b ∷ c ∷ d ∷ []) are is =
+has_options old (a ∷ b ∷ c ∷ d ∷ []) are is = absurd (cc is)
+has_options old (a ∷ b ∷ c ∷ d ∷ e ∷ []) are is =
     record {
       a = a;
       b = b;
       c = c;
       d = d;
+      e = e;
       args = are;
       workers = cc is;
       words = cc is;
-      generate = cc
-          is;
+      generate = cc is;
       seed = cc is;
+      steal = cc is;
     }
-has_options old (a ∷ b ∷ c ∷ d ∷ e ∷ more) are is = absurd (cc is)
+has_options old (a ∷ b ∷ c ∷ d ∷ e ∷ f ∷ more) are is = absurd (cc is)
 
 module _ (old : Command) (is : app_of old ≡ tele) (m : ArgMatches) (p : IsParsedFrom old m) where
   options : HasOptions old
@@ -117,11 +122,11 @@ module _ (old : Command) (is : app_of old ≡ tele) (m : ArgMatches) (p : IsPars
   plain : IsPlain old
   plain = (
     subst (All IsPlainArg) (sym options.args)
-        (λ j e lt. below_four (λ j. IsPlainArg
-        (slice_index_or (options.a ∷ options.b ∷ options.c ∷ options.d ∷ []) j e))
+        (λ j x lt. below_five (λ j. IsPlainArg
+        (slice_index_or (options.a ∷ options.b ∷ options.c ∷ options.d ∷ options.e ∷ []) j x))
         (plain_option options.a _ _ _ options.workers) (plain_option options.b _ _ _ options.words)
         (plain_option options.c _ _ _ options.generate) (plain_option options.d _ _ _ options.seed)
-        j (omega (arith, lt))),
+        (plain_option options.e _ _ _ options.steal) j (omega (arith, lt))),
     plain_fields.0,
   )
 
@@ -145,7 +150,7 @@ module _ (old : Command) (is : app_of old ≡ tele) (m : ArgMatches) (p : IsPars
 
   -- the arguments of the command, one by one
   abbrev all : List Arg
-  all = options.a ∷ options.b ∷ options.c ∷ options.d ∷ []
+  all = options.a ∷ options.b ∷ options.c ∷ options.d ∷ options.e ∷ []
 
   workers_id : options.a.id.now ≡ codes "workers"
   workers_id = ap (λ (r : Rule). r.id) options.workers
@@ -159,59 +164,74 @@ module _ (old : Command) (is : app_of old ≡ tele) (m : ArgMatches) (p : IsPars
   seed_id : options.d.id.now ≡ codes "seed"
   seed_id = ap (λ (r : Rule). r.id) options.seed
 
-  -- a command has four
-  some : (k : ℕ) → k < 4 → k < length (args_of old)
+  steal_id : options.e.id.now ≡ codes "steal"
+  steal_id = ap (λ (r : Rule). r.id) options.steal
+
+  -- a command has five
+  some : (k : ℕ) → k < 5 → k < length (args_of old)
   some k lt = subst (λ xs. k < length xs) (sym options.args) (omega (arith, lt))
 
   -- no other has the name of this one
   workers_alone : IsAlone all 0 options.a
-  workers_alone j e lt =
-      below_four (λ j. bytes_eq (slice_index_or all j e).id.now
+  workers_alone j x lt =
+      below_five (λ j. bytes_eq (slice_index_or all j x).id.now
       (slice_index_or all 0 options.a).id.now ≡ true → j ≡ 0)
       (λ _. refl)
       (λ same. absurd (differ _ _ (codes "words") (codes "workers") words_id workers_id refl same))
-      (λ same. absurd (differ _ _ (codes "generate") (codes "workers") generate_id workers_id refl
-      same))
+      (λ same. absurd (differ _ _ (codes "generate") (codes "workers") generate_id workers_id refl same))
       (λ same. absurd (differ _ _ (codes "seed") (codes "workers") seed_id workers_id refl same))
+      (λ same. absurd (differ _ _ (codes "steal") (codes "workers") steal_id workers_id refl same))
       j (omega (arith, lt))
 
   -- no other has the name of this one
   words_alone : IsAlone all 1 options.b
-  words_alone j e lt =
-      below_four (λ j. bytes_eq (slice_index_or all j e).id.now
+  words_alone j x lt =
+      below_five (λ j. bytes_eq (slice_index_or all j x).id.now
       (slice_index_or all 1 options.b).id.now ≡ true → j ≡ 1)
       (λ same. absurd (differ _ _ (codes "workers") (codes "words") workers_id words_id refl same))
       (λ _. refl)
-      (λ same. absurd (differ _ _ (codes "generate") (codes "words") generate_id words_id refl
-      same))
+      (λ same. absurd (differ _ _ (codes "generate") (codes "words") generate_id words_id refl same))
       (λ same. absurd (differ _ _ (codes "seed") (codes "words") seed_id words_id refl same))
+      (λ same. absurd (differ _ _ (codes "steal") (codes "words") steal_id words_id refl same))
       j (omega (arith, lt))
 
   -- no other has the name of this one
   generate_alone : IsAlone all 2 options.c
-  generate_alone j e lt =
-      below_four (λ j. bytes_eq (slice_index_or all j e).id.now
+  generate_alone j x lt =
+      below_five (λ j. bytes_eq (slice_index_or all j x).id.now
       (slice_index_or all 2 options.c).id.now ≡ true → j ≡ 2)
-      (λ same. absurd (differ _ _ (codes "workers") (codes "generate") workers_id generate_id refl
-      same))
-      (λ same. absurd (differ _ _ (codes "words") (codes "generate") words_id generate_id refl
-      same))
+      (λ same. absurd (differ _ _ (codes "workers") (codes "generate") workers_id generate_id refl same))
+      (λ same. absurd (differ _ _ (codes "words") (codes "generate") words_id generate_id refl same))
       (λ _. refl)
       (λ same. absurd (differ _ _ (codes "seed") (codes "generate") seed_id generate_id refl same))
+      (λ same. absurd (differ _ _ (codes "steal") (codes "generate") steal_id generate_id refl same))
       j (omega (arith, lt))
 
   -- no other has the name of this one
   seed_alone : IsAlone all 3 options.d
-  seed_alone j e lt =
-      below_four (λ j. bytes_eq (slice_index_or all j e).id.now
+  seed_alone j x lt =
+      below_five (λ j. bytes_eq (slice_index_or all j x).id.now
       (slice_index_or all 3 options.d).id.now ≡ true → j ≡ 3)
       (λ same. absurd (differ _ _ (codes "workers") (codes "seed") workers_id seed_id refl same))
       (λ same. absurd (differ _ _ (codes "words") (codes "seed") words_id seed_id refl same))
       (λ same. absurd (differ _ _ (codes "generate") (codes "seed") generate_id seed_id refl same))
       (λ _. refl)
+      (λ same. absurd (differ _ _ (codes "steal") (codes "seed") steal_id seed_id refl same))
       j (omega (arith, lt))
 
-  -- all four
+  -- no other has the name of this one
+  steal_alone : IsAlone all 4 options.e
+  steal_alone j x lt =
+      below_five (λ j. bytes_eq (slice_index_or all j x).id.now
+      (slice_index_or all 4 options.e).id.now ≡ true → j ≡ 4)
+      (λ same. absurd (differ _ _ (codes "workers") (codes "steal") workers_id steal_id refl same))
+      (λ same. absurd (differ _ _ (codes "words") (codes "steal") words_id steal_id refl same))
+      (λ same. absurd (differ _ _ (codes "generate") (codes "steal") generate_id steal_id refl same))
+      (λ same. absurd (differ _ _ (codes "seed") (codes "steal") seed_id steal_id refl same))
+      (λ _. refl)
+      j (omega (arith, lt))
+
+  -- all five
   pub are_numbers : AreNumbers (found_of m)
   are_numbers = record {
     workers = option_number 0 options.a (codes "workers") 1 64 (some 0 (omega arith))
@@ -229,5 +249,9 @@ module _ (old : Command) (is : app_of old ≡ tele) (m : ArgMatches) (p : IsPars
     seed = option_number 3 options.d (codes "seed") 0 (2 ^ 64 - 1) (some 3 (omega arith))
         (subst (λ xs. IsAlone xs 3 options.d) (sym options.args) seed_alone)
         (ap (λ xs. rule_of (slice_index_or xs 3 options.d)) options.args ∙ options.seed)
+        (unlike _ _ refl) (unlike _ _ refl) (unlike _ _ refl);
+    steal = option_number 4 options.e (codes "steal") 0 1 (some 4 (omega arith))
+        (subst (λ xs. IsAlone xs 4 options.e) (sym options.args) steal_alone)
+        (ap (λ xs. rule_of (slice_index_or xs 4 options.e)) options.args ∙ options.steal)
         (unlike _ _ refl) (unlike _ _ refl) (unlike _ _ refl);
   }

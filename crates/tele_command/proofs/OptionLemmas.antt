@@ -1,5 +1,5 @@
 -- What `clap` found for an option passed the option's parser. Serves the reading of the options.
-use Rattle.std.proofs.Common.{◌≡◌, ℕ, ◌<◌, true, List, [], ◌∷◌, length, refl, sym, ◌∙◌, ap, subst, inl, inr, arith}
+use Rattle.std.proofs.Common.{◌≡◌, ℕ, ◌<◌, true, map, List, [], ◌∷◌, length, refl, sym, ◌∙◌, ap, subst, inl, inr, arith}
 use Rattle.std.specs.Prelude.{Option, Some, None, IfSome, option_map, option_and_then, slice_get}
 use Rattle.std.specs.Borrow.{Bor}
 use Rattle.std.specs.List.{All, slice_index_or}
@@ -18,6 +18,13 @@ use Rattle.clap.specs.declared.parser.matches.ArgMatches.{ArgMatches}
 use Rattle.clap.specs.declared.parser.matches.Found.{Found}
 use Rattle.clap.specs.declared.parser.matches.MatchedArg.{MatchedArg}
 use Rattle.clap.proofs.CallerLemmas.{entry_by_id, same_rules_by_id}
+use Rattle.tele_command.specs.CommandLine.{with_name}
+
+-- where there are words, no name is put before them
+pub with_name-some : {X : Type 0} (text : X → List ℕ) (words : List X) → (length words ≡ 0 → ⊥)
+    → with_name (map text words) ≡ map text words
+with_name-some text [] some = absurd (some refl)
+with_name-some text (word ∷ words) some = refl
 
 -- what holds of each value holds of the first
 first_holds : (Q : List ℕ → Type 0) (P : Bor (List ℕ) → Type 0) (vs : List (Bor (List ℕ))) →

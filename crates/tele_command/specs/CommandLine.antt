@@ -11,14 +11,20 @@ abbrev pub number_option : Text → ℕ → ℕ → Rule
 number_option name low high =
     record (new_rule name) { long = Some name; action = Some Set; parser = Some (Unsigned low high) }
 
--- the command, with four options
+-- the command, with its options on workers and words
+abbrev pub sized : App
+sized =
+    with_rule (with_rule (new_app (codes "tele"))
+    (number_option (codes "workers") 1 64))
+    (number_option (codes "words") 64 268435456)
+
+-- the command, with its five options
 abbrev pub tele : App
 tele =
-    with_rule (with_rule (with_rule (with_rule (new_app (codes "tele"))
-    (number_option (codes "workers") 1 64))
-    (number_option (codes "words") 64 268435456))
+    with_rule (with_rule (with_rule sized
     (number_option (codes "generate") 0 1048576))
-    (number_option (codes "seed") 0 (2 ^ 64 - 1))
+    (number_option (codes "seed") 0 (2 ^ 64 - 1)))
+    (number_option (codes "steal") 0 1)
 
 -- the words with the program's name first; without any word the name alone
 abbrev pub with_name : List Text → List Text
@@ -37,13 +43,14 @@ number_said text = digits_value 10 (without_leading_plus text)
 abbrev pub option_value : Text → List Row → Option ℕ
 option_value name rows = option_map number_said (first_of name rows)
 
--- the options by what `clap` found in the words
+-- the options by what `clap` found in the words; workers steal where the number is 1
 abbrev pub options_at : List Row → Options
 options_at rows = record {
   workers = unwrap_or (option_value (codes "workers") rows) 4;
   words = unwrap_or (option_value (codes "words") rows) 33554432;
   generate = option_value (codes "generate") rows;
   seed = unwrap_or (option_value (codes "seed") rows) 1;
+  steal = unwrap_or (option_value (codes "steal") rows) 0 == 1;
 }
 
 -- what the words ask for

@@ -16,3 +16,4 @@ pub record AreNumbers (found : Found) : Type 0 where
   pub words : IfSome (first_value found (codes "words")) (IsUnsignedIn 64 268435456)
   pub generate : IfSome (first_value found (codes "generate")) (IsUnsignedIn 0 1048576)
   pub seed : IfSome (first_value found (codes "seed")) (IsUnsignedIn 0 (2 ^ 64 - 1))
+  pub steal : IfSome (first_value found (codes "steal")) (IsUnsignedIn 0 1)

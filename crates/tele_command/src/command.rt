@@ -1,7 +1,7 @@
 //! The command, and what it makes of words.
 ghost use Rattle.std.specs.Prelude.{◌≡◌, ◌≤◌, true, false, map, codes, [], Err, IfOk, IsOk, IfSome, option_map};
 ghost use Rattle.clap.specs.Words.{app_of, first_value, found_of, rule_of, rows_of, fault_of, matches_of};
-ghost use Rattle.tele_command.specs.CommandLine.{tele, number_option, number_said, options_at};
+ghost use Rattle.tele_command.specs.CommandLine.{sized, tele, number_option, number_said, options_at};
 ghost use Rattle.tele_command.specs.Numbers.{IsNumber, AreNumbers};
 
 use crate::options::{Options, Refusal};
@@ -22,19 +22,23 @@ fn number_option<'a>(alloc: Global, name: &'a str, low: u64, high: u64) -> Arg<'
         .value_parser(ValueParser::unsigned(low, high))
 }
 
-/// The command with its four options.
-fn command<'a>(alloc: Global) -> Result<Command<'a>, AllocError>
-    ensures { IfOk result (λ c. app_of c ≡ tele) }
+/// The command with its options on workers and words.
+fn sized<'a>(alloc: Global) -> Result<Command<'a>, AllocError>
+    ensures value { IfOk result (λ c. app_of c ≡ sized) }
 {
     let workers = number_option(alloc, "workers", 1, 64);
     let words = number_option(alloc, "words", 64, 268_435_456);
+    Command::new(alloc, "tele").arg(workers)?.arg(words)
+}
+
+/// The command with its five options.
+fn command<'a>(alloc: Global) -> Result<Command<'a>, AllocError>
+    ensures value { IfOk result (λ c. app_of c ≡ tele) }
+{
     let generate = number_option(alloc, "generate", 0, 1_048_576);
     let seed = number_option(alloc, "seed", 0, u64::MAX);
-    Command::new(alloc, "tele")
-        .arg(workers)?
-        .arg(words)?
-        .arg(generate)?
-        .arg(seed)
+    let steal = number_option(alloc, "steal", 0, 1);
+    sized(alloc)?.arg(generate)?.arg(seed)?.arg(steal)
 }
 
 /// What the command makes of some words.
@@ -84,6 +88,7 @@ fn options_at(matches: &ArgMatches) -> Options
         words: number(matches, "words").unwrap_or(33_554_432),
         generate: number(matches, "generate"),
         seed: number(matches, "seed").unwrap_or(1),
+        steal: number(matches, "steal").unwrap_or(0) == 1,
     }
 }
 

@@ -1,4 +1,4 @@
-//! The command line of the program: four options, each with one number.
+//! The command line of the program: five options, each with one number.
 //!
 //! Read `specs/CommandLine.antt`, then `options.rt`. Stands on `clap`.
 #![tactic(auto)]

@@ -16,6 +16,8 @@ pub struct Options {
     pub generate: Option<u64>,
     /// What lines are made from.
     pub seed: u64,
+    /// Whether workers steal lanes from one another.
+    pub steal: bool,
 }
 
 /// Why words give no options.

@@ -16,25 +16,45 @@ fn words(alloc: Global, more: &[&str]) -> Result<Vec<String>, AllocError> {
 
 #[test]
 fn each_option_has_its_range_and_its_default(rt: HostRuntime) -> Result<(), Fail> {
-    // the words behind the program's name; how many workers, words and made lines, and the seed
-    let rows: [(&[&str], u64, u64, Option<u64>, u64); 14] = [
-        (&[], 4, 33_554_432, None, 1),
-        (&["--workers", "1"], 1, 33_554_432, None, 1),
-        (&["--workers", "64"], 64, 33_554_432, None, 1),
-        (&["--workers=7"], 7, 33_554_432, None, 1),
-        (&["--workers", "007"], 7, 33_554_432, None, 1),
-        (&["--workers", "+7"], 7, 33_554_432, None, 1),
-        (&["--words", "64"], 4, 64, None, 1),
-        (&["--words", "268435456"], 4, 268_435_456, None, 1),
-        (&["--generate", "0"], 4, 33_554_432, Some(0), 1),
-        (&["--generate=1048576"], 4, 33_554_432, Some(1_048_576), 1),
-        (&["--seed", "0"], 4, 33_554_432, None, 0),
+    // the words behind the program's name; how many workers, words and made lines, the seed, and
+    // whether workers steal
+    let rows: [(&[&str], u64, u64, Option<u64>, u64, bool); 18] = [
+        (&[], 4, 33_554_432, None, 1, false),
+        (&["--workers", "1"], 1, 33_554_432, None, 1, false),
+        (&["--workers", "64"], 64, 33_554_432, None, 1, false),
+        (&["--workers=7"], 7, 33_554_432, None, 1, false),
+        (&["--workers", "007"], 7, 33_554_432, None, 1, false),
+        (&["--workers", "+7"], 7, 33_554_432, None, 1, false),
+        (&["--words", "64"], 4, 64, None, 1, false),
+        (&["--words", "268435456"], 4, 268_435_456, None, 1, false),
+        (&["--generate", "0"], 4, 33_554_432, Some(0), 1, false),
+        (
+            &["--generate=1048576"],
+            4,
+            33_554_432,
+            Some(1_048_576),
+            1,
+            false,
+        ),
+        (&["--seed", "0"], 4, 33_554_432, None, 0, false),
         (
             &["--seed=18446744073709551615"],
             4,
             33_554_432,
             None,
             u64::MAX,
+            false,
+        ),
+        (&["--steal", "0"], 4, 33_554_432, None, 1, false),
+        (&["--steal", "1"], 4, 33_554_432, None, 1, true),
+        (&["--steal=+01"], 4, 33_554_432, None, 1, true),
+        (
+            &["--steal", "1", "--workers", "2"],
+            2,
+            33_554_432,
+            None,
+            1,
+            true,
         ),
         (
             &["--seed", "5", "--generate", "2"],
@@ -42,21 +62,30 @@ fn each_option_has_its_range_and_its_default(rt: HostRuntime) -> Result<(), Fail
             33_554_432,
             Some(2),
             5,
+            false,
         ),
         (
-            &["--words=99", "--seed=3", "--workers=2", "--generate=1"],
+            &[
+                "--words=99",
+                "--seed=3",
+                "--workers=2",
+                "--steal=1",
+                "--generate=1",
+            ],
             2,
             99,
             Some(1),
             3,
+            true,
         ),
     ];
-    for (more, workers, count, generate, seed) in rows {
+    for (more, workers, count, generate, seed, steal) in rows {
         let options = Options {
             workers,
             words: count,
             generate,
             seed,
+            steal,
         };
         let read = read_options(rt.alloc(), words(rt.alloc(), more)?.as_slice());
         assert_eq!(rt; read, Ok(options), "at {more:?}");
@@ -67,7 +96,7 @@ fn each_option_has_its_range_and_its_default(rt: HostRuntime) -> Result<(), Fail
 #[test]
 fn other_words_are_refused(rt: HostRuntime) -> Result<(), Fail> {
     // the words behind the program's name
-    let rows: [&[&str]; 26] = [
+    let rows: [&[&str]; 32] = [
         &["--workers", "0"],
         &["--workers", "65"],
         &["--workers", "-1"],
@@ -87,6 +116,12 @@ fn other_words_are_refused(rt: HostRuntime) -> Result<(), Fail> {
         &["--seed", "18446744073709551616"],
         &["--seed"],
         &["--seed", "1", "--seed", "1"],
+        &["--steal", "2"],
+        &["--steal", "-1"],
+        &["--steal", "yes"],
+        &["--steal="],
+        &["--steal"],
+        &["--steal", "1", "--steal", "1"],
         &["--help"],
         &["-h"],
         &["--version"],

@@ -141,19 +141,27 @@ fn run_unread<R: Threads + Wait + Sync>(
 #[test]
 fn the_source_is_read_only_where_the_words_say_so(rt: HostRuntime) -> Result<(), Fail> {
     // the words behind the program's name, the output, the status
-    let rows: [(&[&str], &[u8], u8); 14] = [
+    let rows: [(&[&str], &[u8], u8); 18] = [
         (&[], b"", 4),
         (&["--workers", "2", "--words=64"], b"", 4),
         (&["--seed", "7"], b"", 4),
+        (&["--steal", "1"], b"", 4),
         (&["--workers", "0"], b"! usage\n", 2),
         (&["--workers", "65"], b"! usage\n", 2),
         (&["--words", "63"], b"! usage\n", 2),
+        (&["--steal", "2"], b"! usage\n", 2),
+        (&["--generate", "1", "--steal"], b"! usage\n", 2),
         (&["--help"], b"! usage\n", 2),
         (&["x"], b"! usage\n", 2),
         (&["--generate", "1048577"], b"! usage\n", 2),
         (&["--generate", "1", "--seed"], b"! usage\n", 2),
         (
             &["--generate", "2", "--seed", "0"],
+            b"made 2 keys 2 found 0 sum 74222\n",
+            0,
+        ),
+        (
+            &["--generate", "2", "--seed", "0", "--steal", "1"],
             b"made 2 keys 2 found 0 sum 74222\n",
             0,
         ),

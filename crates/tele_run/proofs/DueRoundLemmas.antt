@@ -7,7 +7,7 @@ use Rattle.tele_lines.specs.Answer.{Read}
 use Rattle.tele_lines.specs.Buffers.{unread_of}
 use Rattle.tele_lines.specs.Progress.{read_at, GoesTo}
 use Rattle.tele_lanes.specs.declared.task_lists.Task.{Task}
-use Rattle.tele_run.specs.Rounds.{task_rounds, input_rounds, RanRounds}
+use Rattle.tele_run.specs.Rounds.{Team, task_rounds, input_rounds, RanRounds}
 use Rattle.tele_run.specs.Open.{Open, HasRun, RunsOn, fresh_round}
 use Rattle.tele_run.specs.Due.{Moment, rounds_due, TakesRounds, RunsRounds}
 use Rattle.tele_run.proofs.RanLemmas.{none_ran}
@@ -57,24 +57,24 @@ module _ {C : Type 0} (words_of : C → List ℕ) where
 
   -- the rounds that were run, with those that are due for the bytes that are unread, are those of
   -- all bytes
-  pub record HasRounds (workers most : ℕ) (before kept : Option (List C)) (o : Open C)
+  pub record HasRounds (team : Team) (most : ℕ) (before kept : Option (List C)) (o : Open C)
       (bytes : List ℕ) (unread : Option (List ℕ)) (now : Moment) : Type 0 where
     pub ran : List (List Task)
-    pub has : HasRun words_of workers most ran before kept o
+    pub has : HasRun words_of team most ran before kept o
     pub rest : List ℕ
     pub leaves : unread ≡ Some rest
     pub due : input_rounds bytes ≡ ran ++ rounds_due now rest
 
-  module _ (workers most : ℕ) (before : Option (List C)) where
-    all_rounds_due : (left : Option (List ℕ)) → IfSome left (λ bytes. HasRounds workers most before
-        before (fresh_round workers most) bytes (unread_of [] false left) first_moment)
+  module _ (team : Team) (most : ℕ) (before : Option (List C)) where
+    all_rounds_due : (left : Option (List ℕ)) → IfSome left (λ bytes. HasRounds team most before
+        before (fresh_round team most) bytes (unread_of [] false left) first_moment)
     all_rounds_due None = tt
     all_rounds_due (Some bytes) = record {
       ran = [];
       has = record {
-        ran = none_ran words_of workers most before;
+        ran = none_ran words_of team most before;
         begins = refl;
-        workers_are = refl;
+        team_is = refl;
         most_is = refl;
       };
       rest = bytes;
@@ -85,32 +85,32 @@ module _ {C : Type 0} (words_of : C → List ℕ) where
     -- before the first line all are due
     pub rounds_first : (left : Option (List ℕ)) (unended : List ℕ) (ended : Bool) (now : Moment)
         (o : Open C) → unended ≡ [] → ended ≡ false → now ≡ first_moment
-        → o ≡ fresh_round workers most
-        → IfSome left (λ bytes. HasRounds workers most before before o bytes
+        → o ≡ fresh_round team most
+        → IfSome left (λ bytes. HasRounds team most before before o bytes
         (unread_of unended ended left) now)
     rounds_first left unended ended now o no_bytes going first fresh =
         let P = λ (unended : List ℕ) (ended : Bool) (now : Moment) (o : Open C).
-        IfSome left (λ bytes. HasRounds workers most before before o bytes
+        IfSome left (λ bytes. HasRounds team most before before o bytes
         (unread_of unended ended left) now) in
         subst (λ x. P unended ended now x) (sym fresh)
-        (subst (λ n. P unended ended n (fresh_round workers most)) (sym first)
-        (subst (λ e. P unended e first_moment (fresh_round workers most)) (sym going)
-        (subst (λ k. P k false first_moment (fresh_round workers most)) (sym no_bytes)
+        (subst (λ n. P unended ended n (fresh_round team most)) (sym first)
+        (subst (λ e. P unended e first_moment (fresh_round team most)) (sym going)
+        (subst (λ k. P k false first_moment (fresh_round team most)) (sym no_bytes)
         (all_rounds_due left))))
 
     module _ (mid : Open C) (kept : Option (List C)) where
       -- one step after another
       rounds_on : (bytes : List ℕ) (new : Open C) (later : Option (List C)) (was now : Moment)
-          (unread left : Option (List ℕ)) → HasRounds workers most before kept mid bytes unread was
+          (unread left : Option (List ℕ)) → HasRounds team most before kept mid bytes unread was
           → IfSome unread (λ rest. RunsRounds words_of mid kept new later was rest left now)
-          → HasRounds workers most before later new bytes left now
+          → HasRounds team most before later new bytes left now
       rounds_on bytes new later was now unread left h step =
           let next : RunsRounds words_of mid kept new later was h.rest left now =
           subst (λ u. IfSome u (λ rest. RunsRounds words_of mid kept new later was rest left now))
           h.leaves step in
           record {
             ran = h.ran ++ next.more;
-            has = next.ran workers most h.ran before h.has;
+            has = next.ran team most h.ran before h.has;
             rest = next.rest;
             leaves = next.leaves;
             due = h.due ∙ ap (λ rs. h.ran ++ rs) next.due ∙ sym
@@ -119,9 +119,9 @@ module _ {C : Type 0} (words_of : C → List ℕ) where
 
       pub rounds_on_if : (all : Option (List ℕ)) (new : Open C) (later : Option (List C))
           (was now : Moment) (unread left : Option (List ℕ))
-          → IfSome all (λ bytes. HasRounds workers most before kept mid bytes unread was)
+          → IfSome all (λ bytes. HasRounds team most before kept mid bytes unread was)
           → IfSome unread (λ rest. RunsRounds words_of mid kept new later was rest left now)
-          → IfSome all (λ bytes. HasRounds workers most before later new bytes left now)
+          → IfSome all (λ bytes. HasRounds team most before later new bytes left now)
       rounds_on_if None new later was now unread left h step = tt
       rounds_on_if (Some bytes) new later was now unread left h step =
           rounds_on bytes new later was now unread left h step
@@ -129,28 +129,28 @@ module _ {C : Type 0} (words_of : C → List ℕ) where
       -- and the end
       rounds_end : (bytes : List ℕ) (new : Open C) (later : Option (List C)) (was : Moment)
           (unread : Option (List ℕ)) (last : Option C) (fulls : ℕ) → last ≡ new.last
-          → fulls ≡ new.fulls → HasRounds workers most before kept mid bytes unread was
+          → fulls ≡ new.fulls → HasRounds team most before kept mid bytes unread was
           → IfSome unread (λ rest. RunsOn words_of mid kept new later (rounds_due was rest))
-          → RanRounds words_of workers most (input_rounds bytes) before
+          → RanRounds words_of team most (input_rounds bytes) before
           later last fulls
       rounds_end bytes new later was unread last fulls last_is fulls_is h step =
           let next : RunsOn words_of mid kept new later (rounds_due was h.rest) =
           subst (λ u. IfSome u (λ rest. RunsOn words_of mid kept new later (rounds_due was rest)))
           h.leaves step in
           let all = input_rounds bytes in
-          let has : HasRun words_of workers most all before later new =
-          subst (λ rs. HasRun words_of workers most rs before later new) (sym h.due)
-          (next workers most h.ran before h.has) in
-          subst (λ n. RanRounds words_of workers most all before later last n) (sym fulls_is)
-          (subst (λ l. RanRounds words_of workers most all before later l new.fulls) (sym last_is)
+          let has : HasRun words_of team most all before later new =
+          subst (λ rs. HasRun words_of team most rs before later new) (sym h.due)
+          (next team most h.ran before h.has) in
+          subst (λ n. RanRounds words_of team most all before later last n) (sym fulls_is)
+          (subst (λ l. RanRounds words_of team most all before later l new.fulls) (sym last_is)
           has.ran)
 
       pub rounds_end_if : (all : Option (List ℕ)) (new : Open C) (later : Option (List C))
           (was : Moment) (unread : Option (List ℕ)) (last : Option C) (fulls : ℕ)
           → last ≡ new.last → fulls ≡ new.fulls
-          → IfSome all (λ bytes. HasRounds workers most before kept mid bytes unread was)
+          → IfSome all (λ bytes. HasRounds team most before kept mid bytes unread was)
           → IfSome unread (λ rest. RunsOn words_of mid kept new later (rounds_due was rest))
-          → IfSome all (λ bytes. RanRounds words_of workers most
+          → IfSome all (λ bytes. RanRounds words_of team most
           (input_rounds bytes) before later last fulls)
       rounds_end_if None new later was unread last fulls last_is fulls_is h step = tt
       rounds_end_if (Some bytes) new later was unread last fulls last_is fulls_is h step =

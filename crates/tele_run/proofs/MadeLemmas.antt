@@ -8,6 +8,7 @@ use Rattle.ist_core.specs.declared.commands.Command.{Command}
 use Rattle.ist_core.specs.Map.{Map, map_of, no_pairs, map_after, reply_to, replay, replies, pairs_of}
 use Rattle.tele_lanes.specs.declared.task_lists.Task.{Task}
 use Rattle.tele_lanes.specs.Lines.{commands_of}
+use Rattle.tele_run.specs.Rounds.{Team}
 use Rattle.tele_run.specs.Open.{Open, fresh_round, map_in}
 use Rattle.tele_made.specs.declared.summaries.Summary.{Summary}
 use Rattle.tele_made.specs.Summaries.{summary_of, value_sum}
@@ -116,10 +117,10 @@ pub record Sums {C : Type 0} (count seed line number found : ℕ) (now : Open C)
   pub few : found + length now.tasks ≤ line
 
 -- before the first line
-pub sums_first : {C : Type 0} (count seed number : ℕ) (workers words : ℕ) (now : Open C)
-    → number ≡ seed → now ≡ fresh_round workers words
+pub sums_first : {C : Type 0} (count seed number : ℕ) (team : Team) (words : ℕ) (now : Open C)
+    → number ≡ seed → now ≡ fresh_round team words
     → Sums count seed 0 number 0 now
-sums_first count seed number workers words now is empty =
+sums_first count seed number team words now is empty =
     subst (λ n. Sums count seed 0 n 0 now) (sym is)
     (subst (λ (o : Open _). Sums count seed 0 seed 0 o) (sym empty)
     (record {

@@ -8,7 +8,7 @@ use Rattle.tele_lines.specs.declared.items.Version.TheVariants.{One}
 use Rattle.tele_lines.specs.Answer.{Read}
 use Rattle.tele_lines.specs.Rounds.{round_limit}
 use Rattle.tele_made.specs.Made.{next_number, made_command, made_commands}
-use Rattle.tele_run.specs.Rounds.{task_rounds, numbered, made_rounds}
+use Rattle.tele_run.specs.Rounds.{Team, task_rounds, numbered, made_rounds}
 use Rattle.tele_run.specs.Open.{Open, HasRun, RunsOn, IsOpenBefore, asked, fresh_round, round_for}
 use Rattle.tele_run.proofs.CutLemmas.{task_rounds-full, task_rounds-open}
 use Rattle.tele_run.proofs.MadeLemmas.{next_made}
@@ -22,10 +22,10 @@ rest_lines count line number = numbered (line + 1) (made_commands (count - line)
 
 -- at a moment between two made lines: the rounds that were run, with those of the open lines and of
 -- the lines that are left, are those of all lines
-pub record RunsMade {C : Type 0} (words_of : C → List ℕ) (workers most count seed line number : ℕ)
-    (before kept : Option (List C)) (now : Open C) : Type 0 where
+pub record RunsMade {C : Type 0} (words_of : C → List ℕ) (team : Team)
+    (most count seed line number : ℕ) (before kept : Option (List C)) (now : Open C) : Type 0 where
   pub ran : List (List Task)
-  pub has : HasRun words_of workers most ran before kept now
+  pub has : HasRun words_of team most ran before kept now
   pub due : made_rounds count seed
       ≡ ran ++ task_rounds (asked One now.tasks ++ rest_lines count line number)
   pub few : length now.tasks < round_limit
@@ -57,14 +57,14 @@ still_few old mid task full more few fills isnt = ⊎_elim (λ less. less)
     omega (arith, few, at, ap length more, length-append old.tasks (task ∷ [])) in
     let yes = fills here in absurd (cc (yes, isnt))) (cases_lt (length mid.tasks) round_limit)
 
-module _ {C : Type 0} (words_of : C → List ℕ) (workers most count seed : ℕ)
+module _ {C : Type 0} (words_of : C → List ℕ) (team : Team) (most count seed : ℕ)
     (before : Option (List C)) where
   abbrev pub Runs : ℕ → ℕ → Option (List C) → Open C → Type 0
   Runs line number kept now =
-      RunsMade words_of workers most count seed line number before kept now
+      RunsMade words_of team most count seed line number before kept now
 
   -- before the first line
-  pub made_first : (number : ℕ) (now : Open C) → number ≡ seed → now ≡ fresh_round workers most
+  pub made_first : (number : ℕ) (now : Open C) → number ≡ seed → now ≡ fresh_round team most
       → Runs 0 number before now
   made_first number now is fresh =
       subst (λ n. Runs 0 n before now) (sym is)
@@ -72,15 +72,15 @@ module _ {C : Type 0} (words_of : C → List ℕ) (workers most count seed : ℕ
       (record {
         ran = [];
         has = record {
-          ran = none_ran words_of workers most before;
+          ran = none_ran words_of team most before;
           begins = refl;
-          workers_are = refl;
+          team_is = refl;
           most_is = refl;
         };
         due = let e : count ≡ count - 0 = omega arith in
             ap (λ n. task_rounds (numbered 1 (made_commands n seed))) e;
         few = omega arith;
-        lines = open_first workers most (fresh_round workers most) refl;
+        lines = open_first team most (fresh_round team most) refl;
       }))
 
   module _ (line number next : ℕ) (kept : Option (List C)) (old mid : Open C) (task : Task)
@@ -88,7 +88,7 @@ module _ {C : Type 0} (words_of : C → List ℕ) (workers most count seed : ℕ
       (command : task.command ≡ made_command (next_number number)) (is : next ≡ next_number number)
       (more : mid.tasks ≡ old.tasks ++ task ∷ []) (pairs : mid.pairs ≡ old.pairs)
       (last : mid.last ≡ old.last) (fulls : mid.fulls ≡ old.fulls)
-      (workers_same : mid.workers ≡ old.workers) (words_same : mid.words ≡ old.words)
+      (team_same : mid.team ≡ old.team) (words_same : mid.words ≡ old.words)
       (h : Runs line number kept old) where
     -- the open lines rise
     pub lines_more : IsOpenBefore (line + 1 + 1) mid
@@ -96,7 +96,7 @@ module _ {C : Type 0} (words_of : C → List ℕ) (workers most count seed : ℕ
 
     -- nothing is run for it
     stays : RunsOn words_of old kept mid kept []
-    stays = runs_none words_of old mid kept pairs last fulls workers_same words_same
+    stays = runs_none words_of old mid kept pairs last fulls team_same words_same
 
     due_then : made_rounds count seed
         ≡ h.ran ++ task_rounds (asked One mid.tasks ++ rest_lines count (line + 1) next)
@@ -108,8 +108,8 @@ module _ {C : Type 0} (words_of : C → List ℕ) (workers most count seed : ℕ
     pub made_asked : length mid.tasks < round_limit → Runs (line + 1) next kept mid
     made_asked few = record {
       ran = h.ran;
-      has = subst (λ rs. HasRun words_of workers most rs before kept mid) (append-nil h.ran)
-          (stays workers most h.ran before h.has);
+      has = subst (λ rs. HasRun words_of team most rs before kept mid) (append-nil h.ran)
+          (stays team most h.ran before h.has);
       due = due_then;
       few = few;
       lines = lines_more;
@@ -122,7 +122,7 @@ module _ {C : Type 0} (words_of : C → List ℕ) (workers most count seed : ℕ
     made_closed new later full ran none few = record {
       ran = h.ran ++ round_for mid.tasks;
       has = runs_then words_of old mid new kept kept later [] (round_for mid.tasks) stays ran
-          workers most h.ran before h.has;
+          team most h.ran before h.has;
       due = due_then ∙ ap (λ rs. h.ran ++ rs)
           (task_rounds-full One mid.tasks (rest_lines count (line + 1) next) full)
           ∙ sym (append_assoc {A = List Task} h.ran (round_for mid.tasks)
@@ -137,12 +137,12 @@ module _ {C : Type 0} (words_of : C → List ℕ) (workers most count seed : ℕ
   pub made_last : (line number : ℕ) (kept : Option (List C)) (old new : Open C)
       (later : Option (List C)) → count ≤ line → Runs line number kept old
       → RunsOn words_of old kept new later (round_for old.tasks)
-      → HasRun words_of workers most (made_rounds count seed) before later new
+      → HasRun words_of team most (made_rounds count seed) before later new
   made_last line number kept old new later le h ran =
       let nothing : made_commands (count - line) number ≡ [] =
       let e : count - line ≡ 0 = omega arith in ap (λ n. made_commands n number) e in
       let due : made_rounds count seed ≡ h.ran ++ round_for old.tasks =
       h.due ∙ ap (λ cs. h.ran ++ task_rounds (asked One old.tasks ++ numbered (line + 1) cs)) nothing
       ∙ ap (λ rs. h.ran ++ rs) (task_rounds-open One old.tasks h.few) in
-      subst (λ rs. HasRun words_of workers most rs before later new) (sym due)
-      (ran workers most h.ran before h.has)
+      subst (λ rs. HasRun words_of team most rs before later new) (sym due)
+      (ran team most h.ran before h.has)

@@ -8,6 +8,7 @@ use Rattle.ist_core.proofs.RisingLemmas.{rises_append}
 use Rattle.ist_core.proofs.LeafOrderLemmas.{rises_from_next, next_from_rises}
 use Rattle.tele_lanes.specs.declared.task_lists.Task.{Task}
 use Rattle.tele_lanes.specs.Lines.{task_lines}
+use Rattle.tele_run.specs.Rounds.{Team}
 use Rattle.tele_run.specs.Open.{Open, IsOpenBefore, fresh_round}
 
 -- lines below a line are below a later one
@@ -62,9 +63,9 @@ open_later number later o le h = record {
 }
 
 -- before the first line
-pub open_first : {C : Type 0} (workers words : ℕ) (o : Open C) → o ≡ fresh_round workers words
+pub open_first : {C : Type 0} (team : Team) (words : ℕ) (o : Open C) → o ≡ fresh_round team words
     → IsOpenBefore 1 o
-open_first workers words o is = subst (IsOpenBefore 1) (sym is) (record {
+open_first team words o is = subst (IsOpenBefore 1) (sym is) (record {
   rises = λ k short. absurd (omega arith);
   below = tt;
   few = omega arith;

@@ -16,7 +16,7 @@ use Rattle.tele_generations.specs.Generations.{IsGenerations}
 use Rattle.tele_generations.specs.Generations.IsGenerations.{whole, ran_full}
 use Rattle.tele_generations.specs.Shelves.{IsShelved}
 use Rattle.tele_generations.specs.Rounds.{RanInGenerations, EndsTheRound}
-use Rattle.tele_run.specs.Rounds.{map_after_rounds, AreTablesOf, AreTablesOfAll, if_any, RanRounds}
+use Rattle.tele_run.specs.Rounds.{Team, lanes_of, map_after_rounds, AreTablesOf, AreTablesOfAll, if_any, RanRounds}
 use Rattle.tele_run.specs.Open.{Open, Closes, map_in, round_for, HasRun, RunsOn}
 
 -- a closed tree is seen as its words
@@ -32,28 +32,28 @@ map_after_rounds-more m (first ∷ rounds) tasks =
     map_after_rounds-more (replay m (commands_of first)) rounds tasks
 
 -- the tables of one more round
-tables_more : {C : Type 0} (words_of : C → List ℕ) (workers most : ℕ) (m : Map)
+tables_more : {C : Type 0} (words_of : C → List ℕ) (team : Team) (most : ℕ) (m : Map)
     (rounds : List (List Task)) (lists : List (List C)) (tasks : List Task) (tables : List C)
-    → AreTablesOfAll words_of workers most m rounds lists
-    → AreTablesOf words_of workers most (map_after_rounds m rounds) tasks tables
-    → AreTablesOfAll words_of workers most m (rounds ++ tasks ∷ []) (lists ++ tables ∷ [])
-tables_more words_of workers most m [] [] tasks tables h one = (one, tt)
-tables_more words_of workers most m [] (list ∷ lists) tasks tables h one = absurd h
-tables_more words_of workers most m (round ∷ rounds) [] tasks tables h one = absurd h
-tables_more words_of workers most m (round ∷ rounds) (list ∷ lists) tasks tables h one = (
+    → AreTablesOfAll words_of team most m rounds lists
+    → AreTablesOf words_of team most (map_after_rounds m rounds) tasks tables
+    → AreTablesOfAll words_of team most m (rounds ++ tasks ∷ []) (lists ++ tables ∷ [])
+tables_more words_of team most m [] [] tasks tables h one = (one, tt)
+tables_more words_of team most m [] (list ∷ lists) tasks tables h one = absurd h
+tables_more words_of team most m (round ∷ rounds) [] tasks tables h one = absurd h
+tables_more words_of team most m (round ∷ rounds) (list ∷ lists) tasks tables h one = (
   h.0,
-  tables_more words_of workers most (replay m (commands_of round)) rounds lists tasks
+  tables_more words_of team most (replay m (commands_of round)) rounds lists tasks
       tables h.1 one,
 )
 
 -- there is one more table than tables that ran full
-tables_long : (workers : ℕ) (pairs : List Pair) (tasks : List Task) (tables : List (List ℕ))
-    (fulls : List Full) → IsGenerations workers pairs tasks tables fulls
+tables_long : (lanes : ℕ) (pairs : List Pair) (tasks : List Task) (tables : List (List ℕ))
+    (fulls : List Full) → IsGenerations lanes pairs tasks tables fulls
     → length tables ≡ length fulls + 1
-tables_long workers pairs tasks tables fulls (whole runs is all) = refl
-tables_long workers pairs tasks tables fulls (ran_full {after = after} {left = left} {next = next}
+tables_long lanes pairs tasks tables fulls (whole runs is all) = refl
+tables_long lanes pairs tasks tables fulls (ran_full {after = after} {left = left} {next = next}
     {more = more} {fulls = later} runs is full hands larger rest) =
-    (let one = tables_long workers after left (next ∷ more) later rest in omega arith)
+    (let one = tables_long lanes after left (next ∷ more) later rest in omega arith)
 
 -- tables on a shelf, and others behind them
 pub shelved_then : {C : Type 0} (before : Option (List C)) (given : List C)
@@ -113,9 +113,9 @@ module _ {C : Type 0} (words_of : C → List ℕ) where
       subst (λ o. RunsOn words_of o kept new later (round_for o.tasks)) is h
 
   -- before the first round
-  pub none_ran : (workers most : ℕ) (kept : Option (List C))
-      → RanRounds words_of workers most [] kept kept None 0
-  none_ran workers most kept = record {
+  pub none_ran : (team : Team) (most : ℕ) (kept : Option (List C))
+      → RanRounds words_of team most [] kept kept None 0
+  none_ran team most kept = record {
     lists = [];
     given = [];
     shelved = none_shelved kept;
@@ -125,18 +125,18 @@ module _ {C : Type 0} (words_of : C → List ℕ) where
   }
 
   -- one more round, once the last table was put on the shelf
-  ran_more : (workers most : ℕ) (rounds : List (List Task)) (before kept middle later : Option (List C))
+  ran_more : (team : Team) (most : ℕ) (rounds : List (List Task)) (before kept middle later : Option (List C))
       (last : Option C) (count : ℕ) (tasks : List Task) (closed : C) (fulls : List Full)
-      → RanRounds words_of workers most rounds before kept last count
+      → RanRounds words_of team most rounds before kept last count
       → IsShelved kept (if_any last) middle
       → (let pairs = pairs_of (map_after_rounds no_pairs rounds) in
-      RanInGenerations words_of workers (first_words most workers (length pairs) (length tasks))
-      pairs tasks middle later closed fulls)
-      → EndsTheRound workers (pairs_of (map_after_rounds no_pairs rounds)) tasks (words_of closed)
-      fulls
-      → RanRounds words_of workers most (rounds ++ tasks ∷ []) before later (Some closed)
+      RanInGenerations words_of (lanes_of team)
+      (first_words most team.workers (length pairs) (length tasks)) pairs tasks middle later closed fulls)
+      → EndsTheRound (lanes_of team) (pairs_of (map_after_rounds no_pairs rounds)) tasks
+      (words_of closed) fulls
+      → RanRounds words_of team most (rounds ++ tasks ∷ []) before later (Some closed)
       (length fulls)
-  ran_more workers most rounds before kept middle later last count tasks closed fulls h keeps runs
+  ran_more team most rounds before kept middle later last count tasks closed fulls h keeps runs
       ends =
       let tables = runs.given ++ closed ∷ [] in
       let given = h.given ++ if_any last in
@@ -149,7 +149,7 @@ module _ {C : Type 0} (words_of : C → List ℕ) where
             ∙ ap (λ ts. flat_map (λ (ts : List C). ts) h.lists ++ ts) (append-nil tables)
             ∙ ap (λ ts. ts ++ tables) h.together
             ∙ sym (append_assoc given runs.given (closed ∷ []));
-        are = tables_more words_of workers most no_pairs rounds h.lists tasks tables h.are
+        are = tables_more words_of team most no_pairs rounds h.lists tasks tables h.are
             (record { fulls = fulls; are = runs.are; first_is = runs.first_is });
         ends = record {
           earlier = rounds;
@@ -161,7 +161,7 @@ module _ {C : Type 0} (words_of : C → List ℕ) where
           lists_are = refl;
           count = refl;
           one_more = sym (length-map tables words_of)
-              ∙ tables_long workers (pairs_of (map_after_rounds no_pairs rounds)) tasks
+              ∙ tables_long (lanes_of team) (pairs_of (map_after_rounds no_pairs rounds)) tasks
               (map words_of tables) fulls runs.are;
           ends = ends;
         };
@@ -169,16 +169,16 @@ module _ {C : Type 0} (words_of : C → List ℕ) where
 
   -- nothing was run, and nothing told of the open round has changed
   pub runs_none : (old new : Open C) (kept : Option (List C)) → new.pairs ≡ old.pairs
-      → new.last ≡ old.last → new.fulls ≡ old.fulls → new.workers ≡ old.workers
+      → new.last ≡ old.last → new.fulls ≡ old.fulls → new.team ≡ old.team
       → new.words ≡ old.words → RunsOn words_of old kept new kept []
-  runs_none old new kept pairs last fulls workers_same words_same workers most rounds before h =
-      subst (λ rs. HasRun words_of workers most rs before kept new) (sym (append-nil rounds))
+  runs_none old new kept pairs last fulls team_same words_same team most rounds before h =
+      subst (λ rs. HasRun words_of team most rs before kept new) (sym (append-nil rounds))
       (record {
-        ran = subst (λ n. RanRounds words_of workers most rounds before kept new.last n) (sym fulls)
-            (subst (λ l. RanRounds words_of workers most rounds before kept l old.fulls) (sym last)
+        ran = subst (λ n. RanRounds words_of team most rounds before kept new.last n) (sym fulls)
+            (subst (λ l. RanRounds words_of team most rounds before kept l old.fulls) (sym last)
             h.ran);
         begins = ap map_of pairs ∙ h.begins;
-        workers_are = workers_same ∙ h.workers_are;
+        team_is = team_same ∙ h.team_is;
         most_is = words_same ∙ h.most_is;
       })
 
@@ -187,10 +187,10 @@ module _ {C : Type 0} (words_of : C → List ℕ) where
       (fulls : List Full) (pairs : List Pair) (tasks : List Task) (same_pairs : pairs ≡ old.pairs)
       (same_tasks : tasks ≡ old.tasks) (of_map : old.pairs ≡ pairs_of (map_in old))
       (same_last : taken ≡ old.last) (keeps : IsShelved kept (if_any taken) middle)
-      (runs : RanInGenerations words_of old.workers
-      (first_words old.words old.workers (length pairs) (length tasks)) pairs tasks middle later
+      (runs : RanInGenerations words_of (lanes_of old.team)
+      (first_words old.words old.team.workers (length pairs) (length tasks)) pairs tasks middle later
       closed fulls)
-      (ends : EndsTheRound old.workers pairs tasks (words_of closed) fulls)
+      (ends : EndsTheRound (lanes_of old.team) pairs tasks (words_of closed) fulls)
       (behind : map_in new ≡ replay (map_of pairs) (commands_of tasks)) where
     -- the map behind them
     pub map_behind_round : map_in new ≡ replay (map_in old) (commands_of old.tasks)
@@ -199,35 +199,36 @@ module _ {C : Type 0} (words_of : C → List ℕ) where
 
     -- and the tables
     pub runs_round : 0 < length old.tasks → new.last ≡ Some closed → new.fulls ≡ length fulls
-        → new.workers ≡ old.workers → new.words ≡ old.words
+        → new.team ≡ old.team → new.words ≡ old.words
         → RunsOn words_of old kept new later (round_for old.tasks)
-    runs_round some last count workers_same words_same workers most rounds before h =
+    runs_round some last count team_same words_same team most rounds before h =
         let now = pairs_of (map_after_rounds no_pairs rounds) in
         let pairs_are : pairs ≡ now = same_pairs ∙ of_map ∙ ap pairs_of h.begins in
-        let Runs = λ (w k : ℕ) (ps : List Pair) (ts : List Task). RanInGenerations words_of w
-        (first_words k w (length ps) (length ts)) ps ts middle later closed fulls in
-        let Ends = λ (w : ℕ) (ps : List Pair) (ts : List Task).
-        EndsTheRound w ps ts (words_of closed) fulls in
-        let here : Runs workers most now old.tasks =
-        subst (λ ts. Runs workers most now ts) same_tasks
-        (subst (λ ps. Runs workers most ps tasks) pairs_are
-        (subst (λ k. Runs workers k pairs tasks) h.most_is
-        (subst (λ w. Runs w old.words pairs tasks) h.workers_are runs))) in
-        let so : Ends workers now old.tasks = subst (λ ts. Ends workers now ts) same_tasks
-        (subst (λ ps. Ends workers ps tasks) pairs_are
-        (subst (λ w. Ends w pairs tasks) h.workers_are ends)) in
+        let Runs = λ (t : Team) (k : ℕ) (ps : List Pair) (ts : List Task).
+        RanInGenerations words_of (lanes_of t) (first_words k t.workers (length ps) (length ts)) ps ts
+        middle later closed fulls in
+        let Ends = λ (t : Team) (ps : List Pair) (ts : List Task).
+        EndsTheRound (lanes_of t) ps ts (words_of closed) fulls in
+        let here : Runs team most now old.tasks =
+        subst (λ ts. Runs team most now ts) same_tasks
+        (subst (λ ps. Runs team most ps tasks) pairs_are
+        (subst (λ k. Runs team k pairs tasks) h.most_is
+        (subst (λ t. Runs t old.words pairs tasks) h.team_is runs))) in
+        let so : Ends team now old.tasks = subst (λ ts. Ends team now ts) same_tasks
+        (subst (λ ps. Ends team ps tasks) pairs_are
+        (subst (λ t. Ends t pairs tasks) h.team_is ends)) in
         let all = rounds ++ old.tasks ∷ [] in
-        let ran = ran_more workers most rounds before kept middle later old.last old.fulls old.tasks
+        let ran = ran_more team most rounds before kept middle later old.last old.fulls old.tasks
         closed fulls h.ran (subst (λ l. IsShelved kept (if_any l) middle) same_last keeps) here so in
-        subst (λ rs. HasRun words_of workers most (rounds ++ rs) before later new)
+        subst (λ rs. HasRun words_of team most (rounds ++ rs) before later new)
         (sym (round_for-some old.tasks some))
         (record {
-          ran = subst (λ n. RanRounds words_of workers most all before later new.last n) (sym count)
-              (subst (λ l. RanRounds words_of workers most all before later l (length fulls))
+          ran = subst (λ n. RanRounds words_of team most all before later new.last n) (sym count)
+              (subst (λ l. RanRounds words_of team most all before later l (length fulls))
               (sym last) ran);
           begins = map_behind_round ∙ ap (λ m. replay m (commands_of old.tasks)) h.begins
               ∙ sym (map_after_rounds-more no_pairs rounds old.tasks);
-          workers_are = workers_same ∙ h.workers_are;
+          team_is = team_same ∙ h.team_is;
           most_is = words_same ∙ h.most_is;
         })
 
@@ -236,7 +237,7 @@ module _ {C : Type 0} (words_of : C → List ℕ) where
       (more others : List (List Task)) → RunsOn words_of first kept mid middle more
       → RunsOn words_of mid middle last later others
       → RunsOn words_of first kept last later (more ++ others)
-  runs_then first mid last kept middle later more others one two workers most rounds before h =
-      subst (λ rs. HasRun words_of workers most rs before later last)
+  runs_then first mid last kept middle later more others one two team most rounds before h =
+      subst (λ rs. HasRun words_of team most rs before later last)
       (append_assoc {A = List Task} rounds more others)
-      (two workers most (rounds ++ more) before (one workers most rounds before h))
+      (two team most (rounds ++ more) before (one team most rounds before h))

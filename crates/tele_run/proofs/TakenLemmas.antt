@@ -33,13 +33,13 @@ module _ {C : Type 0} (words_of : C → List ℕ) (version : Version) (number : 
   module _ (command : Command) (is : item ≡ Point command) (mid : Open C)
       (more : mid.tasks ≡ old.tasks ++ record { line = number; command = command } ∷ [])
       (pairs : mid.pairs ≡ old.pairs) (last : mid.last ≡ old.last) (fulls : mid.fulls ≡ old.fulls)
-      (workers : mid.workers ≡ old.workers) (words : mid.words ≡ old.words) where
+      (team : mid.team ≡ old.team) (words : mid.words ≡ old.words) where
     same_lines : asked version mid.tasks ≡ lines
     same_lines = taken_lines version no_pairs old.tasks number item command mid.tasks is more
 
     -- nothing is run
     stays : RunsOn words_of old kept mid kept []
-    stays = runs_none words_of old mid kept pairs last fulls workers words
+    stays = runs_none words_of old mid kept pairs last fulls team words
 
     -- a point line stays open
     pub rounds_open : TakesRounds words_of old kept mid kept lines (asked version mid.tasks)

@@ -11,6 +11,7 @@ use Rattle.tele_lines.specs.Answer.{Read, text_of, status_of}
 use Rattle.tele_lines.specs.Rounds.{round_limit}
 use Rattle.tele_lines.specs.Buffers.{unread_of}
 use Rattle.tele_lines.specs.Progress.{Place, place_of, version_of, read_at, GoesTo, Waits, unread}
+use Rattle.tele_run.specs.Rounds.{Team}
 use Rattle.tele_run.specs.Open.{Open, asked, fresh_round, map_in}
 use Rattle.tele_run.specs.Due.{Moment, moment_of, Takes, due, whole_due, whole_text, RunsTo, Ends}
 use Rattle.tele_run.specs.Causes.{Stops}
@@ -27,10 +28,10 @@ abbrev pub first_moment : Moment
 first_moment = first_at (record { limit = line_limit; count = 0; mode = None })
 
 -- a fresh reader and such a round are there
-pub at_first : {C : Type 0} (workers words : ℕ) (lines : Lines) (round : Open C)
-    → place_of lines ≡ first_moment.place → round ≡ fresh_round workers words
+pub at_first : {C : Type 0} (team : Team) (words : ℕ) (lines : Lines) (round : Open C)
+    → place_of lines ≡ first_moment.place → round ≡ fresh_round team words
     → moment_of lines round ≡ first_moment
-at_first workers words lines round place empty =
+at_first team words lines round place empty =
     ap (moment_of lines) empty ∙ ap first_at place
 
 -- lines were read and taken into the round

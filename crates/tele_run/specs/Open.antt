@@ -12,29 +12,29 @@ use Rattle.tele_lanes.specs.Lanes.{ArePlainAnswers}
 use Rattle.tele_lines.specs.declared.items.Item.TheVariants.{Point}
 use Rattle.tele_lines.specs.declared.items.Version.{Version}
 use Rattle.tele_lines.specs.Answer.{Read, Good, answer_text}
-use Rattle.tele_run.specs.Rounds.{map_after_rounds, RanRounds}
+use Rattle.tele_run.specs.Rounds.{Team, map_after_rounds, RanRounds}
 
 -- the pairs of a map, the lines that it is to answer next, and the answers to those before them; the
--- last table of the rounds before, and how many tables of the last of them ran full; by how many
--- workers a round is run, and how many words its first table has at most
+-- last table of the rounds before, and how many tables of the last of them ran full; who runs a round,
+-- and how many words its first table has at most
 pub record Open (C : Type 0) : Type 0 where
   pub pairs : List Pair
   pub tasks : List Task
   pub answers : List Answer
   pub last : Option C
   pub fulls : ℕ
-  pub workers : ℕ
+  pub team : Team
   pub words : ℕ
 
 -- a round without lines over the map with no key, before the first table
-abbrev pub fresh_round : {C : Type 0} → ℕ → ℕ → Open C
-fresh_round workers words = record {
+abbrev pub fresh_round : {C : Type 0} → Team → ℕ → Open C
+fresh_round team words = record {
   pairs = [];
   tasks = [];
   answers = [];
   last = None;
   fulls = 0;
-  workers = workers;
+  team = team;
   words = words;
 }
 
@@ -69,18 +69,18 @@ round_for [] = []
 round_for (task ∷ tasks) = (task ∷ tasks) ∷ []
 
 -- these rounds were run, and the open one begins with the map behind them
-pub record HasRun {C : Type 0} (words_of : C → List ℕ) (workers most : ℕ)
+pub record HasRun {C : Type 0} (words_of : C → List ℕ) (team : Team) (most : ℕ)
     (rounds : List (List Task)) (before after : Option (List C))
     (open_round : Open C) : Type 0 where
-  pub ran : RanRounds words_of workers most rounds before after open_round.last open_round.fulls
+  pub ran : RanRounds words_of team most rounds before after open_round.last open_round.fulls
   pub begins : map_in open_round ≡ map_after_rounds no_pairs rounds
-  pub workers_are : open_round.workers ≡ workers
+  pub team_is : open_round.team ≡ team
   pub most_is : open_round.words ≡ most
 
 -- whatever rounds were run before, these were run behind them
 abbrev pub RunsOn : {C : Type 0} → (C → List ℕ) → Open C → Option (List C) → Open C
     → Option (List C) → List (List Task) → Type 0
 RunsOn words_of old kept new later more =
-    (workers most : ℕ) (rounds : List (List Task)) (before : Option (List _))
-    → HasRun words_of workers most rounds before kept old
-    → HasRun words_of workers most (rounds ++ more) before later new
+    (team : Team) (most : ℕ) (rounds : List (List Task)) (before : Option (List _))
+    → HasRun words_of team most rounds before kept old
+    → HasRun words_of team most (rounds ++ more) before later new

@@ -17,6 +17,7 @@ use Rattle.tele_generations.specs.Sizes.{first_words}
 use Rattle.tele_generations.specs.Generations.{IsGenerations}
 use Rattle.tele_generations.specs.Shelves.{IsShelved}
 use Rattle.tele_generations.specs.Rounds.{FirstHas, EndsTheRound}
+use Rattle.tele_trees.specs.Counts.{lane_count}
 
 -- the point lines among some lines, as tasks
 abbrev pub tasks_in : List Read → List Task
@@ -54,29 +55,42 @@ abbrev pub map_after_rounds : Map → List (List Task) → Map
 map_after_rounds m [] = m
 map_after_rounds m (tasks ∷ rounds) = map_after_rounds (replay m (commands_of tasks)) rounds
 
+-- who runs the rounds: how many workers, and whether they steal lanes from one another
+pub record Team : Type 0 where
+  pub workers : ℕ
+  pub steal : Bool
+
+-- the team of these
+abbrev pub team_of : ℕ → Bool → Team
+team_of workers steal = record { workers = workers; steal = steal }
+
+-- how many lanes each of its rounds has
+abbrev pub lanes_of : Team → ℕ
+lanes_of team = lane_count team.workers team.steal
+
 -- these are the tables of a round that begins with a map; the first has as many words as the pairs,
 -- the tasks and the options of the run give it
-pub record AreTablesOf {C : Type 0} (words_of : C → List ℕ) (workers most : ℕ) (m : Map)
+pub record AreTablesOf {C : Type 0} (words_of : C → List ℕ) (team : Team) (most : ℕ) (m : Map)
     (tasks : List Task) (tables : List C) : Type 0 where
   pub fulls : List Full
-  pub are : IsGenerations workers (pairs_of m) tasks (map words_of tables) fulls
-  pub first_is : FirstHas (first_words most workers (length (pairs_of m)) (length tasks))
+  pub are : IsGenerations (lanes_of team) (pairs_of m) tasks (map words_of tables) fulls
+  pub first_is : FirstHas (first_words most team.workers (length (pairs_of m)) (length tasks))
       (map words_of tables)
 
 -- these are the tables of some rounds, one list for each in order; each round begins with the map
 -- behind the rounds before it
-abbrev pub AreTablesOfAll : {C : Type 0} → (C → List ℕ) → ℕ → ℕ → Map → List (List Task)
+abbrev pub AreTablesOfAll : {C : Type 0} → (C → List ℕ) → Team → ℕ → Map → List (List Task)
     → List (List C) → Type 0
-AreTablesOfAll words_of workers most m [] [] = Unit {0}
-AreTablesOfAll words_of workers most m [] (tables ∷ lists) = ⊥
-AreTablesOfAll words_of workers most m (tasks ∷ rounds) [] = ⊥
-AreTablesOfAll words_of workers most m (tasks ∷ rounds) (tables ∷ lists) =
-    AreTablesOf words_of workers most m tasks tables
-    × AreTablesOfAll words_of workers most (replay m (commands_of tasks)) rounds lists
+AreTablesOfAll words_of team most m [] [] = Unit {0}
+AreTablesOfAll words_of team most m [] (tables ∷ lists) = ⊥
+AreTablesOfAll words_of team most m (tasks ∷ rounds) [] = ⊥
+AreTablesOfAll words_of team most m (tasks ∷ rounds) (tables ∷ lists) =
+    AreTablesOf words_of team most m tasks tables
+    × AreTablesOfAll words_of team most (replay m (commands_of tasks)) rounds lists
 
 -- this is the last of some rounds: so many of its tables ran full, and the words of its last one
 -- stand for the pairs at the opening of that table and for what its lanes were told
-pub record IsLastRound {C : Type 0} (words_of : C → List ℕ) (workers : ℕ)
+pub record IsLastRound {C : Type 0} (words_of : C → List ℕ) (team : Team)
     (rounds : List (List Task)) (lists : List (List C)) (last : C) (fulls : ℕ) : Type 0 where
   pub earlier : List (List Task)
   pub tasks : List Task
@@ -87,15 +101,15 @@ pub record IsLastRound {C : Type 0} (words_of : C → List ℕ) (workers : ℕ)
   pub lists_are : lists ≡ others ++ tables ∷ []
   pub count : length refusals ≡ fulls
   pub one_more : length tables ≡ fulls + 1
-  pub ends : EndsTheRound workers (pairs_of (map_after_rounds no_pairs earlier)) tasks (words_of last)
-      refusals
+  pub ends : EndsTheRound (lanes_of team) (pairs_of (map_after_rounds no_pairs earlier)) tasks
+      (words_of last) refusals
 
 -- there is a last table exactly where there is a round, and it is that of the last one
-abbrev pub EndsWith : {C : Type 0} → (C → List ℕ) → ℕ → List (List Task) → List (List C)
+abbrev pub EndsWith : {C : Type 0} → (C → List ℕ) → Team → List (List Task) → List (List C)
     → Option C → ℕ → Type 0
-EndsWith words_of workers rounds lists None fulls = (rounds ≡ []) × (fulls ≡ 0)
-EndsWith words_of workers rounds lists (Some last) fulls =
-    IsLastRound words_of workers rounds lists last fulls
+EndsWith words_of team rounds lists None fulls = (rounds ≡ []) × (fulls ≡ 0)
+EndsWith words_of team rounds lists (Some last) fulls =
+    IsLastRound words_of team rounds lists last fulls
 
 -- the last table, if there is one
 abbrev pub if_any : {C : Type 0} → Option C → List C
@@ -104,12 +118,12 @@ if_any (Some last) = last ∷ []
 
 -- the rounds were run one behind another, from the map with no key: the tables of each, list behind
 -- list, are those that the shelf was given, and the last one
-pub record RanRounds {C : Type 0} (words_of : C → List ℕ) (workers most : ℕ)
+pub record RanRounds {C : Type 0} (words_of : C → List ℕ) (team : Team) (most : ℕ)
     (rounds : List (List Task)) (before after : Option (List C)) (last : Option C)
     (fulls : ℕ) : Type 0 where
   pub lists : List (List C)
   pub given : List C
   pub shelved : IsShelved before given after
   pub together : flat_map (λ tables. tables) lists ≡ given ++ if_any last
-  pub are : AreTablesOfAll words_of workers most no_pairs rounds lists
-  pub ends : EndsWith words_of workers rounds lists last fulls
+  pub are : AreTablesOfAll words_of team most no_pairs rounds lists
+  pub ends : EndsWith words_of team rounds lists last fulls

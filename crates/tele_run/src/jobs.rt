@@ -20,13 +20,14 @@ pub(crate) enum Job {
     Read,
 }
 
-/// What a run is to do, by how many workers, and with how many words at most in the first table of
-/// a round.
+/// What a run is to do, by how many workers, with how many words at most in the first table of a
+/// round, and whether the workers steal lanes from one another.
 #[derive(Clone, Copy, Debug, PartialEq, Eq, Drop)]
 pub(crate) struct Plan {
     pub job: Job,
     pub workers: u32,
     pub words: u32,
+    pub steal: bool,
 }
 
 /// Reads the words of the command line. No more lines are to be made than a run may have.
@@ -36,6 +37,8 @@ pub(crate) fn read_plan(alloc: Global, words: &[String]) -> Result<Plan, AllocEr
         plan.workers ≡ (options_in (map string_bytes words.now)).workers) }
     ensures words { IfOk result (λ plan. ¬ (plan.job ≡ Job.Refuse) →
         plan.words ≡ (options_in (map string_bytes words.now)).words) }
+    ensures steal { IfOk result (λ plan. ¬ (plan.job ≡ Job.Refuse) →
+        plan.steal ≡ (options_in (map string_bytes words.now)).steal) }
 
     ensures some { IfOk result (λ plan. 1 ≤ plan.workers) }
     ensures at_most { IfOk result (λ plan. plan.workers ≤ 64) }
@@ -59,6 +62,7 @@ pub(crate) fn read_plan(alloc: Global, words: &[String]) -> Result<Plan, AllocEr
             job: Job::Refuse,
             workers: 1,
             words: 64,
+            steal: false,
         }),
         Err(Refusal::Memory) => Err(AllocError),
     }
@@ -68,12 +72,17 @@ pub(crate) fn read_plan(alloc: Global, words: &[String]) -> Result<Plan, AllocEr
 fn plan_for(job: Job, options: Options) -> Plan
     requires at_most { options.workers ≤ 64 }
     requires most { options.words ≤ 2 ^ 28 }
-    ensures value { result ≡ record
-        { job = job; workers = options.workers; words = options.words } }
+    ensures value { result ≡ record {
+      job = job;
+      workers = options.workers;
+      words = options.words;
+      steal = options.steal;
+    } }
 {
     Plan {
         job,
         workers: options.workers as u32,
         words: options.words as u32,
+        steal: options.steal,
     }
 }

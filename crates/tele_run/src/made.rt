@@ -36,12 +36,12 @@ pub(crate) fn make_all<R: Threads + Wait + Sync, G: Gate + Sync, H: Shelf<Closed
     seed: u64,
     out: &mut O,
 ) -> Outcome
-    requires fresh { round ≡ fresh_round round.workers round.words }
+    requires fresh { round ≡ fresh_round round.team round.words }
     requires few { count ≤ 2 ^ 24 }
 
     ensures text { result.status ≡ ANSWERED → Appends (O.written out.old) (O.written out.new)
         (summary_text (summary_of count seed)) }
-    ensures ran { result.status ≡ ANSWERED → RanRounds (λ table. table) round.workers round.words
+    ensures ran { result.status ≡ ANSWERED → RanRounds (λ table. table) round.team round.words
         (made_rounds count seed) (H.kept shelf.old) (H.kept shelf.new)
         result.last result.fulls }
     ensures none { ¬ (IsAnswer result.status) → HasNoTable result }
@@ -75,10 +75,10 @@ fn summarize<R: Threads + Wait + Sync, G: Gate + Sync, H: Shelf<Closed>>(
     count: u64,
     seed: u64,
 ) -> Result<Summary, AllocError>
-    requires fresh { round.old ≡ fresh_round round.old.workers round.old.words }
+    requires fresh { round.old ≡ fresh_round round.old.team round.old.words }
     requires few { count ≤ 2 ^ 24 }
     ensures value { IfOk result (λ summary. summary ≡ summary_of count seed) }
-    ensures ran { OnOk result (HasRun (λ table. table) round.old.workers round.old.words
+    ensures ran { OnOk result (HasRun (λ table. table) round.old.team round.old.words
         (made_rounds count seed) (H.kept shelf.old) (H.kept shelf.new) round.new) }
 {
     let mut maker = Maker::new(seed);

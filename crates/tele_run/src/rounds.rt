@@ -4,7 +4,7 @@ ghost use Rattle.std.specs.List.Sorted.{IsStrictlyIncreasing};
 ghost use Rattle.ist_core.specs.Map.{pairs_of, listed};
 ghost use Rattle.tele_lanes.specs.Lines.{task_lines};
 ghost use Rattle.tele_generations.specs.Shelves.{IsShelved};
-ghost use Rattle.tele_run.specs.Rounds.{if_any};
+ghost use Rattle.tele_run.specs.Rounds.{if_any, team_of};
 ghost use Rattle.tele_run.specs.Open.{Closes, RunsOn, fresh_round, map_in, round_for};
 
 use ist_core::Pair;
@@ -33,10 +33,12 @@ pub(crate) struct Round {
     fulls: u64,
     workers: u32,
     words: u32,
+    steal: bool,
 }
 
 impl Model for Round {
     ghost use Rattle.std.specs.Prelude.{ℕ, ◌≤◌, ◌^◌, List};
+    ghost use Rattle.tele_run.specs.Rounds.{team_of};
     ghost use Rattle.tele_run.specs.Open.{Open};
 
     ghost Value = { Open (List ℕ) };
@@ -47,7 +49,7 @@ impl Model for Round {
       answers = r.answers.items;
       last = r.last;
       fulls = r.fulls;
-      workers = r.workers;
+      team = team_of r.workers r.steal;
       words = r.words;
     } };
 
@@ -57,12 +59,12 @@ impl Model for Round {
 
 impl Round {
     /// A round without lines, over the map with no key.
-    pub(crate) fn new(alloc: Global, workers: u32, words: u32) -> Round
+    pub(crate) fn new(alloc: Global, workers: u32, steal: bool, words: u32) -> Round
         requires some { 1 ≤ workers }
         requires at_most { workers ≤ 64 }
         requires least { 64 ≤ words }
         requires most { words ≤ 2 ^ 28 }
-        ensures value { result ≡ fresh_round workers words }
+        ensures value { result ≡ fresh_round (team_of workers steal) words }
     {
         Round {
             alloc,
@@ -73,6 +75,7 @@ impl Round {
             fulls: 0,
             workers,
             words,
+            steal,
         }
     }
 
@@ -82,7 +85,7 @@ impl Round {
         ensures same { self.new.pairs ≡ self.old.pairs }
         ensures last_same { self.new.last ≡ self.old.last }
         ensures fulls_same { self.new.fulls ≡ self.old.fulls }
-        ensures workers_same { self.new.workers ≡ self.old.workers }
+        ensures team_same { self.new.team ≡ self.old.team }
         ensures words_same { self.new.words ≡ self.old.words }
     {
         self.tasks.push(task)?;
@@ -166,6 +169,7 @@ pub(crate) fn close<R: Threads + Wait + Sync, G: Gate + Sync, H: Shelf<Closed>>(
         &round.tasks,
         round.workers,
         round.words,
+        round.steal,
     )?;
     let pairs = tables.pairs(round.alloc, &ran.closed)?;
     round.plain = Plain::of(pairs);

@@ -6,7 +6,7 @@ ghost use Rattle.tele_made.specs.Summaries.{summary_of, summary_text};
 ghost use Rattle.tele_run.specs.Jobs.{job_of};
 ghost use Rattle.tele_command.specs.CommandLine.{options_in};
 ghost use Rattle.tele_run.specs.Causes.{IsAnswer, IsCutShort, IsStatus, IsWhole, Stops};
-ghost use Rattle.tele_run.specs.Rounds.{RanRounds, input_rounds, made_rounds};
+ghost use Rattle.tele_run.specs.Rounds.{RanRounds, team_of, input_rounds, made_rounds};
 ghost use Rattle.tele_run.specs.Endings.{EndsOn, HasNoTable};
 ghost use Rattle.tele_run.specs.Open.{fresh_round};
 
@@ -45,10 +45,11 @@ use tele_trees::TreeTables;
 ///   none is bad, and the replies to those that stand in whole rounds were written;
 /// - 5, the sink failed in this call, or 7, no memory was left: a prefix of the text was written.
 ///
-/// The point lines of a round run side by side on a tree, split into a lane for each worker, and on
-/// another behind it where it ran full (`tele_trees::run_round`). The last tree of a round goes to
-/// the shelf when the next round begins; with status 0 or 3 that of the last round is handed back.
-/// `gate` is told of each call on a tree. A run with much to do may wait for its workers.
+/// The point lines of a round run side by side on a tree, split into a lane for each worker, or
+/// with `--steal 1` into 64 lanes that the workers steal from one another, and on another tree behind
+/// it where it ran full (`tele_trees::run_round`). The last tree of a round goes to the shelf when
+/// the next round begins; with status 0 or 3 that of the last round is handed back. `gate` is told of
+/// each call on a tree. A run with much to do may wait for its workers.
 pub fn run<R: Threads + Wait + Sync, S: Source, O: Sink, G: Gate + Sync, H: Shelf<Closed>>(
     rt: &R,
     alloc: Global,
@@ -173,12 +174,12 @@ fn work<R: Threads + Wait + Sync, S: Source, O: Sink, G: Gate + Sync, H: Shelf<C
         (summary_text (summary_of count seed)) }
 
     ensures last { plan.job ≡ Job.Read → IsAnswer result.status →
-        IfSome (S.left source.old) (λ bytes. RanRounds (λ table. table) plan.workers plan.words
-        (input_rounds bytes)
+        IfSome (S.left source.old) (λ bytes. RanRounds (λ table. table)
+        (team_of plan.workers plan.steal) plan.words (input_rounds bytes)
         (H.kept shelf.old) (H.kept shelf.new) result.last result.fulls) }
     ensures made_last { (count seed : ℕ) → plan.job ≡ Job.Make count seed →
-        result.status ≡ ANSWERED → RanRounds (λ table. table) plan.workers plan.words
-        (made_rounds count seed)
+        result.status ≡ ANSWERED → RanRounds (λ table. table)
+        (team_of plan.workers plan.steal) plan.words (made_rounds count seed)
         (H.kept shelf.old) (H.kept shelf.new) result.last result.fulls }
     ensures no_last { ¬ (IsAnswer result.status) → HasNoTable result }
 
@@ -191,7 +192,7 @@ fn work<R: Threads + Wait + Sync, S: Source, O: Sink, G: Gate + Sync, H: Shelf<C
     ensures source_counted { S.faults source.old ≤ S.faults source.new }
     ensures sink_counted { O.faults out.old ≤ O.faults out.new }
 {
-    let round = Round::new(alloc, plan.workers, plan.words);
+    let round = Round::new(alloc, plan.workers, plan.steal, plan.words);
     match plan.job {
         Job::Refuse => without_table(refuse(out)),
         Job::Make { count, seed } => {
@@ -228,7 +229,7 @@ fn answer_all<R: Threads + Wait + Sync, G: Gate + Sync, H: Shelf<Closed>, S: Sou
     source: &mut S,
     out: &mut O,
 ) -> Outcome
-    requires fresh { round ≡ fresh_round round.workers round.words }
+    requires fresh { round ≡ fresh_round round.team round.words }
 
     ensures text { IsAnswer result.status → IfSome (S.left source.old) (λ bytes.
         Appends (O.written out.old) (O.written out.new) (answer bytes).text) }
@@ -243,7 +244,7 @@ fn answer_all<R: Threads + Wait + Sync, G: Gate + Sync, H: Shelf<Closed>, S: Sou
         AppendsPart (O.written out.old) (O.written out.new) (answer bytes).text) }
 
     ensures last { IsAnswer result.status → IfSome (S.left source.old) (λ bytes.
-        RanRounds (λ table. table) round.workers round.words (input_rounds bytes)
+        RanRounds (λ table. table) round.team round.words (input_rounds bytes)
         (H.kept shelf.old) (H.kept shelf.new) result.last result.fulls) }
     ensures no_last { ¬ (IsAnswer result.status) → HasNoTable result }
 

@@ -1,9 +1,13 @@
--- Lists of lanes. Serves `make_lanes`, `run_all` and `run_tree`.
+-- Lists of lanes, and how many there are. Serves `make_lanes`, `work`, `run_tree` and `run_round`.
 use Rattle.std.proofs.Common.{◌≡◌, ℕ, zero, suc, ◌+◌, ◌<◌, ◌≤◌, List, [], ◌∷◌, ◌++◌, take, drop}
-use Rattle.std.proofs.Common.{length, map, refl, sym, ap, ◌∙◌, arith, All, subst}
+use Rattle.std.proofs.Common.{Bool, true, false, length, map, refl, sym, ap, ◌∙◌, arith, All, subst}
 use Rattle.std.proofs.lemmas.List.{append-nil, length-append, length-map, map_push}
 use Rattle.std.proofs.lemmas.List.Elements.{All-cons, All-head, All-tail}
+use mathlib.Core.List.{map-id}
 use Rattle.std.specs.List.{range_with_len}
+use Rattle.std.specs.List.Sorted.{IsStrictlyIncreasing}
+use Rattle.tele_steal.proofs.OrderLemmas.{IsStrictlyIncreasing-from_0}
+use Rattle.tele_trees.specs.Counts.{lane_count}
 
 module _ {L : Type 0} where
   -- nothing is left behind as many as there are
@@ -80,3 +84,13 @@ numbers_push f xs x e is =
     map_push f xs x ∙ ap (λ ns. ns ++ f x ∷ []) e
     ∙ ap (λ n. range_with_len 0 (length xs) ++ n ∷ []) place
     ∙ sym (range_push 0 (length xs)) ∙ ap (range_with_len 0) long
+
+-- these numbers rise
+pub numbers_rise : (ns : List ℕ) (n : ℕ) → ns ≡ range_with_len 0 n → IsStrictlyIncreasing ns
+numbers_rise ns n e = subst IsStrictlyIncreasing
+    (map-id (range_with_len 0 n) ∙ sym e) (IsStrictlyIncreasing-from_0 n)
+
+-- there is a lane where there is a worker
+pub some_lanes : (workers : ℕ) (steal : Bool) → 1 ≤ workers → 1 ≤ lane_count workers steal
+some_lanes workers true some = omega arith
+some_lanes workers false some = some

@@ -1,4 +1,4 @@
-//! The lanes of one tree: made, run, gathered, and their passes taken back.
+//! The lanes of one tree: made, gathered, and their passes taken back.
 ghost use Rattle.std.specs.Prelude.{◌≡◌, ◌+◌, ◌++◌, ◌<◌, ◌≤◌, [], ◌∷◌, length, map, All};
 ghost use Rattle.std.specs.Prelude.{IfOk, IfSome, None};
 ghost use Rattle.std.specs.List.{range_with_len};
@@ -8,44 +8,42 @@ ghost use Rattle.ist_tree.specs.Refusals.{WasRefused};
 ghost use Rattle.tele_lanes.specs.Lines.{AnswerInOrder};
 ghost use Rattle.tele_lanes.specs.Lanes.{all_lane_tasks, HaveOwnLines, unanswered, first_refusal};
 ghost use Rattle.tele_lanes.specs.Lanes.{InLineOrder, TasksInLineOrder};
-ghost use Rattle.tele_trees.specs.Ends.{HasEnded, ended};
 
 use crate::runs::Came;
 use ist_tree::{Maker, Tree, TreePort};
 use std::alloc::{AllocError, Global};
-use std::sync::Wait;
-use std::thread::Threads;
-use tele_lanes::{
-    Answers, Gate, Lane, Task, Tasks, first_refusal, gather, open_tasks, run_lanes, split,
-};
+use tele_lanes::{Answers, Lane, Task, Tasks, first_refusal, gather, open_tasks, split};
 
-// A lane for each worker, with the tasks of its keys and a pass of its own, in the order of passes.
+// So many lanes, each with its number, the tasks of its keys and a pass of its own, in the order of
+// passes.
 pub(crate) fn make_lanes<'a>(
     alloc: Global,
     tree: &'a Tree,
     maker: &mut Maker,
     tasks: &[Task],
-    workers: u32,
+    count: u32,
 ) -> Result<Vec<Lane<TreePort<'a>>>, AllocError>
     requires same_tree { maker.old.tree ≡ tree.now }
     requires no_passes { maker.old.made ≡ 0 }
-    requires some { 1 ≤ workers }
-    requires at_most { workers ≤ 64 }
+    requires some { 1 ≤ count }
+    requires at_most { count ≤ 64 }
+    ensures lane_numbers { IfOk result (λ v.
+        map (λ l. l.number) v.items ≡ range_with_len 0 count) }
     ensures tasks { IfOk result (λ v.
-        map (λ l. l.tasks) v.items ≡ all_lane_tasks workers tasks.now) }
+        map (λ l. l.tasks) v.items ≡ all_lane_tasks count tasks.now) }
     ensures empty { IfOk result (λ v. All (λ l. l.answers.list ≡ []) v.items) }
     ensures room { IfOk result (λ v. All (λ l. length l.tasks ≤ l.answers.room) v.items) }
     ensures no_calls { IfOk result (λ v. All (λ l. l.port.pass.calls ≡ []) v.items) }
     ensures unrefused { IfOk result (λ v. All (λ l. l.port.refused ≡ None) v.items) }
     ensures trees { IfOk result (λ v. All (λ l. l.port.pass.tree ≡ tree.now) v.items) }
     ensures numbers { IfOk result (λ v.
-        map (λ l. l.port.pass.number) v.items ≡ range_with_len 0 workers) }
+        map (λ l. l.port.pass.number) v.items ≡ range_with_len 0 count) }
     ensures same_tree { maker.new.tree ≡ maker.old.tree }
-    ensures made { IfOk result (λ v. maker.new.made ≡ workers) }
+    ensures made { IfOk result (λ v. maker.new.made ≡ count) }
     ensures taken { maker.new.taken ≡ maker.old.taken }
 {
     let mut lanes = Vec::new(alloc);
-    for mine in split(alloc, tasks, workers)? {
+    for mine in split(alloc, tasks, count)? {
         let number = lanes.len() as u32;
         lanes.push(make_lane(alloc, tree, maker, number, mine)?)?;
     }
@@ -62,6 +60,7 @@ fn make_lane<'a>(
 ) -> Result<Lane<TreePort<'a>>, AllocError>
     requires same_tree { maker.old.tree ≡ tree.now }
     requires few { maker.old.made < 64 }
+    ensures lane_number { IfOk result (λ l. l.number ≡ number) }
     ensures tasks { IfOk result (λ l. l.tasks ≡ tasks) }
     ensures empty { IfOk result (λ l. l.answers.list ≡ []) }
     ensures room { IfOk result (λ l. length l.tasks ≤ l.answers.room) }
@@ -76,29 +75,6 @@ fn make_lane<'a>(
     let answers = Answers::with_room(alloc, tasks.as_slice().len())?;
     let port = TreePort::new(tree, tree.pass(maker));
     Ok(Lane::new(number, tasks, answers, port))
-}
-
-// Runs the lanes side by side, and gives them back.
-pub(crate) fn run_all<'a, R: Threads + Wait + Sync, G: Gate + Sync>(
-    rt: &R,
-    gate: &G,
-    lanes: Vec<Lane<TreePort<'a>>>,
-) -> Vec<Lane<TreePort<'a>>>
-    requires empty { All (λ l. l.answers.list ≡ []) lanes.items }
-    requires room { All (λ l. length l.tasks ≤ l.answers.room) lanes.items }
-    requires no_calls { All (λ l. l.port.pass.calls ≡ []) lanes.items }
-    requires unrefused { All (λ l. l.port.refused ≡ None) lanes.items }
-    ensures tasks { map (λ l. l.tasks) result.items ≡ map (λ l. l.tasks) lanes.entry.items }
-    ensures trees { map (λ l. l.port.pass.tree) result.items
-        ≡ map (λ l. l.port.pass.tree) lanes.entry.items }
-    ensures numbers { map (λ l. l.port.pass.number) result.items
-        ≡ map (λ l. l.port.pass.number) lanes.entry.items }
-    ensures ended { All (λ l. HasEnded (ended l.tasks l.answers.list l.port l.stopped))
-        result.items }
-{
-    let mut lanes = lanes;
-    run_lanes(rt, gate, &mut lanes);
-    lanes
 }
 
 // What the lanes answered and left, and the refusal of the lowest that stopped.

@@ -8,6 +8,7 @@ ghost use Rattle.plain_map.specs.Rising.{IsRising};
 ghost use Rattle.tele_generations.specs.Sizes.{first_words};
 ghost use Rattle.tele_generations.specs.Generations.{MayAsk};
 ghost use Rattle.tele_generations.specs.Rounds.{RanInGenerations, EndsTheRound};
+ghost use Rattle.tele_trees.specs.Counts.{lane_count};
 
 use crate::tables::TreeTables;
 use ist_core::Pair;
@@ -25,6 +26,9 @@ use tele_lanes::{Gate, Task};
 /// Where it answered nothing, one thread answers the open task of the lowest line from the pairs at
 /// rest. `words` bounds the first tree, unless the pairs need more. Without memory the shelf may
 /// have been given trees of this call.
+///
+/// The lines of a tree are split into a lane for each worker, or where `steal` says so into
+/// `STOLEN_LANES` lanes by their timestamps, which the workers steal from one another.
 pub fn run_round<R: Threads + Wait + Sync, G: Gate + Sync, H: Shelf<Closed>>(
     rt: &R,
     gate: &G,
@@ -35,6 +39,7 @@ pub fn run_round<R: Threads + Wait + Sync, G: Gate + Sync, H: Shelf<Closed>>(
     tasks: &[Task],
     workers: u32,
     words: u32,
+    steal: bool,
 ) -> Result<Round<Closed>, AllocError>
     requires keys { IsRising pairs.now }
     requires lines { IsStrictlyIncreasing (task_lines tasks.now) }
@@ -49,11 +54,12 @@ pub fn run_round<R: Threads + Wait + Sync, G: Gate + Sync, H: Shelf<Closed>>(
         ArePlainAnswers (map_of pairs.now) tasks.now r.answers.list) }
 
     // The trees, and why each but the last was followed by another.
-    ensures generations { IfOk result (λ r. RanInGenerations (λ table. table) workers
+    ensures generations { IfOk result (λ r. RanInGenerations (λ table. table)
+        (lane_count workers steal)
         (first_words words workers (length pairs.now) (length tasks.now))
         pairs.now tasks.now (H.kept shelf.old) (H.kept shelf.new) r.closed r.fulls) }
     ensures closed { IfOk result (λ r.
-        EndsTheRound workers pairs.now tasks.now r.closed r.fulls) }
+        EndsTheRound (lane_count workers steal) pairs.now tasks.now r.closed r.fulls) }
 
     ensures count { IfOk result (λ r. length r.fulls ≤ length tasks.now) }
     ensures asked { IfOk result (λ r.
@@ -61,7 +67,9 @@ pub fn run_round<R: Threads + Wait + Sync, G: Gate + Sync, H: Shelf<Closed>>(
 {
     let mut way = begin(alloc, pairs, tasks, workers, words)?;
     loop {
-        let made = tables.run(rt, gate, alloc, &way.pairs, &way.left, workers, way.words)?;
+        let made = tables.run(
+            rt, gate, alloc, &way.pairs, &way.left, workers, way.words, steal,
+        )?;
         let Generation {
             answers,
             left,

@@ -2,9 +2,12 @@
 ghost use Rattle.std.specs.Prelude.{◌≡◌, ◌≤◌, [], IfOk};
 ghost use Rattle.std.specs.List.Sorted.{IsStrictlyIncreasing};
 ghost use Rattle.tele_lanes.specs.Lines.{task_lines};
+ghost use Rattle.tele_trees.specs.Counts.{lane_count};
 ghost use Rattle.tele_trees.specs.Ends.{CameTo};
 
-use crate::lanes::{gather_all, make_lanes, run_all, take_all_back};
+use crate::counts::lane_count;
+use crate::lanes::{gather_all, make_lanes, take_all_back};
+use crate::working::work;
 use ist_core::Full;
 use ist_tree::{Maker, Tree};
 use std::alloc::{AllocError, Global};
@@ -29,6 +32,7 @@ pub(crate) fn run_tree<R: Threads + Wait + Sync, G: Gate + Sync>(
     maker: &mut Maker,
     tasks: &[Task],
     workers: u32,
+    steal: bool,
 ) -> Result<Came, AllocError>
     requires same_tree { maker.old.tree ≡ tree.now }
     requires no_passes { maker.old.made ≡ 0 }
@@ -37,10 +41,11 @@ pub(crate) fn run_tree<R: Threads + Wait + Sync, G: Gate + Sync>(
     requires some { 1 ≤ workers }
     requires at_most { workers ≤ 64 }
     ensures came { IfOk result (λ c.
-        CameTo tree.now maker.new workers tasks.now c.answers.items c.left.items c.full) }
+        CameTo tree.now maker.new (lane_count workers steal) tasks.now c.answers.items c.left.items
+        c.full) }
 {
-    let lanes = make_lanes(alloc, tree, maker, tasks, workers)?;
-    let lanes = run_all(rt, gate, lanes);
+    let fresh = make_lanes(alloc, tree, maker, tasks, lane_count(workers, steal))?;
+    let lanes = work(rt, gate, alloc, fresh, workers, steal)?;
     let came = gather_all(alloc, &lanes)?;
     take_all_back(tree, maker, lanes);
     Ok(came)

@@ -5,6 +5,7 @@ ghost use Rattle.ist_core.specs.Lawful.{CanOpen};
 ghost use Rattle.ist_tree.specs.Opening.{IsNewTree};
 ghost use Rattle.tele_lanes.specs.Lines.{task_lines};
 ghost use Rattle.tele_generations.specs.Tables.{RanOnTable, HasPairs};
+ghost use Rattle.tele_trees.specs.Counts.{lane_count};
 
 use crate::runs::run_tree;
 use ist_core::Pair;
@@ -32,9 +33,10 @@ impl TreeTables {
         }
     }
 
-    /// Opens a tree of so many words with the pairs, splits the tasks into a lane for each worker,
-    /// runs the lanes, each with a pass of its own, takes all passes back, and closes the tree.
-    /// Each call is told to the gate.
+    /// Opens a tree of so many words with the pairs, splits the tasks into a lane for each worker, or
+    /// where `steal` says so into `STOLEN_LANES` lanes that workers steal from one another, runs the
+    /// lanes, each with a pass of its own, takes all passes back, and closes the tree. Each call is
+    /// told to the gate.
     ///
     /// Fails for want of memory alone, and may wait for what the lanes and the gate wait for.
     pub fn run<R: Threads + Wait + Sync, G: Gate + Sync>(
@@ -46,16 +48,17 @@ impl TreeTables {
         tasks: &[Task],
         workers: u32,
         words: u32,
+        steal: bool,
     ) -> Result<Generation<Closed>, AllocError>
         requires opens { CanOpen pairs.now words }
         requires rising { IsStrictlyIncreasing (task_lines tasks.now) }
         requires some { 1 ≤ workers }
         requires at_most { workers ≤ 64 }
-        ensures ran { IfOk result (λ g. RanOnTable workers words pairs.now tasks.now
-            g.closed g.answers.items g.left.items g.full) }
+        ensures ran { IfOk result (λ g. RanOnTable (lane_count workers steal) words pairs.now
+            tasks.now g.closed g.answers.items g.left.items g.full) }
     {
         let (tree, mut maker) = open_tree(alloc, &mut self.image, words, pairs)?;
-        let came = run_tree(rt, gate, alloc, &tree, &mut maker, tasks, workers)?;
+        let came = run_tree(rt, gate, alloc, &tree, &mut maker, tasks, workers, steal)?;
         let closed = tree.close(maker);
         Ok(Generation {
             answers: came.answers,

@@ -25,6 +25,7 @@ fn a_round_without_tasks_leaves_its_pairs(rt: HostRuntime) -> Result<(), Fail> {
         &[],
         2,
         64,
+        false,
     )?;
     assert!(rt; round.answers.as_slice().is_empty() && round.fulls.as_slice().is_empty());
     assert_eq!(rt;
@@ -56,7 +57,16 @@ fn a_round_answers_as_one_thread(rt: HostRuntime) -> Result<(), Fail> {
         },
     ];
     let replies = [Some(7), Some(7), Some(1), Some(8)];
-    for workers in [1u32, 2, 3] {
+    // how many workers, and whether they steal
+    let rows = [
+        (1u32, false),
+        (2, false),
+        (3, false),
+        (1, true),
+        (2, true),
+        (64, true),
+    ];
+    for (workers, steal) in rows {
         assert!(rt; workers >= 1 && workers <= 64);
         let mut tables = TreeTables::new(rt.alloc());
         let round = run_round(
@@ -69,15 +79,20 @@ fn a_round_answers_as_one_thread(rt: HostRuntime) -> Result<(), Fail> {
             &tasks,
             workers,
             64,
+            steal,
         )?;
         for (index, answer) in round.answers.as_slice().iter().enumerate() {
             let expected = Answer {
                 line: index as u64 + 1,
                 reply: replies[index % 4],
             };
-            assert_eq!(rt; *answer, expected, "{workers} workers");
+            assert_eq!(rt; *answer, expected, "{workers} workers, {steal}");
         }
-        assert_eq!(rt; round.answers.as_slice().len(), 4, "{workers} workers");
+        assert_eq!(rt;
+            round.answers.as_slice().len(),
+            4,
+            "{workers} workers, {steal}"
+        );
     }
     Ok(())
 }

@@ -47,6 +47,7 @@ fn a_fourth_put_finds_no_room_in_64_words(rt: HostRuntime) -> Result<(), Fail> {
         &tasks,
         1,
         64,
+        false,
     )?;
     // 4 words stand before all rows, and three puts take 11, 18 and 18; the fourth has its leaf and
     // its pair row, which are 9, and asks for 9 more
@@ -87,6 +88,7 @@ fn a_line_that_finds_no_room_is_answered_at_rest(rt: HostRuntime) -> Result<(), 
         &[task],
         1,
         64,
+        false,
     )?;
     let full = Full {
         next: 62,

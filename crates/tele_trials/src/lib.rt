@@ -1,7 +1,7 @@
 //! Runs of the whole program, and rounds on trees: tests alone.
 //!
-//! Read `running.rt`, then `meetings.rt`, `full_trees.rt`, `sizes.rt` and `long_inputs.rt`. Stands on
-//! `tele_run` and `tele_trees`.
+//! Read `running.rt`, then `meetings.rt`, `stolen.rt`, `full_trees.rt`, `sizes.rt` and
+//! `long_inputs.rt`. Stands on `tele_run` and `tele_trees`.
 #![tactic(auto)]
 
 #[cfg(test)]
@@ -14,3 +14,5 @@ mod meetings;
 mod running;
 #[cfg(test)]
 mod sizes;
+#[cfg(test)]
+mod stolen;

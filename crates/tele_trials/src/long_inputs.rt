@@ -93,11 +93,29 @@ fn summary_of_made(alloc: Global, count: u64, seed: u64) -> Result<String, Alloc
 #[test]
 fn made_lines_are_summed_up_as_one_map_has_them(rt: HostRuntime) -> Result<(), Fail> {
     let summary = summary_of_made(rt.alloc(), 20_000, 1)?;
-    for workers in ["1", "4", "64"] {
-        let more = ["--workers", workers, "--generate", "20000", "--seed", "1"];
+    // how many workers, and whether they steal
+    let rows = [
+        ("1", "0"),
+        ("4", "0"),
+        ("64", "0"),
+        ("1", "1"),
+        ("4", "1"),
+        ("64", "1"),
+    ];
+    for (workers, steal) in rows {
+        let more = [
+            "--workers",
+            workers,
+            "--generate",
+            "20000",
+            "--seed",
+            "1",
+            "--steal",
+            steal,
+        ];
         let ran = run_over(&rt, rt.alloc(), &more, b"", &NoGate, &mut NoShelf)?;
-        assert_eq!(rt; ran.out.bytes(), summary.as_bytes(), "by {workers} workers");
-        assert_eq!(rt; ran.outcome.status, 0, "by {workers} workers");
+        assert_eq!(rt; ran.out.bytes(), summary.as_bytes(), "at {more:?}");
+        assert_eq!(rt; ran.outcome.status, 0, "at {more:?}");
     }
     Ok(())
 }

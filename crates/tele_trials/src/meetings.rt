@@ -18,7 +18,7 @@ const OUTPUT: &[u8] = b"1 -\n2 -\n3 1\n2 1\n4 -\n";
 
 /// Has the first calls of lane 0 and lane 1 wait for each other, for so many turns at most.
 #[derive(Drop)]
-struct Meeting {
+pub(crate) struct Meeting {
     first: AtomicU64,
     second: AtomicU64,
     turns: u32,
@@ -27,7 +27,7 @@ struct Meeting {
 }
 
 impl Meeting {
-    fn of_turns(turns: u32) -> Meeting {
+    pub(crate) fn of_turns(turns: u32) -> Meeting {
         Meeting {
             first: AtomicU64::new(0),
             second: AtomicU64::new(0),
@@ -48,7 +48,7 @@ impl Meeting {
     }
 
     // Both flags, and how often the last turn was reached.
-    fn told(&self) -> (u64, u64, u64) {
+    pub(crate) fn told(&self) -> (u64, u64, u64) {
         (
             self.first.load(Ordering::SeqCst),
             self.second.load(Ordering::SeqCst),
@@ -122,7 +122,7 @@ fn the_tree_of_each_round_is_kept(rt: HostRuntime) -> Result<(), Fail> {
 }
 
 // How many callers a tree says it had, in its word 1.
-fn callers(tree: &Closed) -> u64 {
+pub(crate) fn callers(tree: &Closed) -> u64 {
     if tree.word_count() > 1 {
         return tree.word(1);
     }

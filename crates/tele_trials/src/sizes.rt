@@ -29,17 +29,18 @@ const FEW_REPLIES: &[u8] = b"1 -\n2 -\n3 -\n4 3\n5 -\n6 4\n7 -\n8 7\n9 -\n10 4\n
     13 11\n14 8\n15 2\n0 14\n1 13\n16 13\n17 16\n18 -\n19 17\n20 19\n21 -\n22 14\n23 -\n24 20\n\
     25 -\n26 -\n27 26\n28 27\n29 -\n30 1\n3 23\n";
 
-/// The least number of words, from 64 to 400, with which a run by so many workers writes something
-/// else, or ends otherwise than well.
+/// The least number of words, from 64 to 400, with which a run by so many workers, which steal where
+/// that is 1, writes something else, or ends otherwise than well.
 fn first_other<R: Threads + Wait + Sync>(
     rt: &R,
     alloc: Global,
     workers: u32,
+    steal: u32,
     input: &[u8],
     output: &[u8],
 ) -> Result<Option<u32>, AllocError> {
     for words in 64..401 {
-        let ran = run_sized(rt, alloc, workers, words, input)?;
+        let ran = run_sized(rt, alloc, workers, steal, words, input)?;
         if ran.out.bytes() != output || ran.outcome.status != 0 {
             return Ok(Some(words));
         }
@@ -51,7 +52,7 @@ fn first_other<R: Threads + Wait + Sync>(
 fn neither_workers_nor_words_show_in_the_output(rt: HostRuntime) -> Result<(), Fail> {
     for workers in [1, 2, 3] {
         for (input, output) in [(LINES, REPLIES), (FEW_KEYS, FEW_REPLIES)] {
-            let other = first_other(&rt, rt.alloc(), workers, input, output)?;
+            let other = first_other(&rt, rt.alloc(), workers, 0, input, output)?;
             assert_eq!(rt; other, None, "the words by {workers} workers");
         }
     }
@@ -60,7 +61,16 @@ fn neither_workers_nor_words_show_in_the_output(rt: HostRuntime) -> Result<(), F
 
 #[test]
 fn more_workers_than_lines_answer_as_one_map_too(rt: HostRuntime) -> Result<(), Fail> {
-    let other = first_other(&rt, rt.alloc(), 64, LINES, REPLIES)?;
+    let other = first_other(&rt, rt.alloc(), 64, 0, LINES, REPLIES)?;
     assert_eq!(rt; other, None, "the words");
+    Ok(())
+}
+
+#[test]
+fn stolen_lanes_answer_as_one_map_too(rt: HostRuntime) -> Result<(), Fail> {
+    for (input, output) in [(LINES, REPLIES), (FEW_KEYS, FEW_REPLIES)] {
+        let other = first_other(&rt, rt.alloc(), 3, 1, input, output)?;
+        assert_eq!(rt; other, None, "the words");
+    }
     Ok(())
 }

@@ -1,4 +1,4 @@
-use Rattle.std.proofs.Common.{◌≡◌, ℕ, List, ◌∙◌, ap, codes}
+use Rattle.std.proofs.Common.{◌≡◌, ◌==◌, ℕ, Bool, List, ◌∙◌, ap, codes}
 use Rattle.std.specs.Prelude.{Option, option_map, unwrap_or}
 use Rattle.clap.specs.Matches.{found_of, first_value}
 use Rattle.clap.specs.declared.parser.matches.Found.{Found}
@@ -9,14 +9,16 @@ use Rattle.tele_command.specs.CommandLine.{number_said, option_value}
 use Rattle.tele_command.proofs.command.options_at.Goals as goal
 
 -- options are the same if each of their fields is
-same_options : (a b e : ℕ) (d : Option ℕ) (g h k : ℕ) (i : Option ℕ) → a ≡ g → b ≡ h → d ≡ i → e ≡ k
-    → ◌≡◌ {A = Options} (record { workers = a; words = b; generate = d; seed = e })
-    (record { workers = g; words = h; generate = i; seed = k })
-same_options a b e d g h k i one two three four =
-    ap (λ x. record { workers = x; words = b; generate = d; seed = e }) one
-    ∙ ap (λ x. record { workers = g; words = x; generate = d; seed = e }) two
-    ∙ ap (λ x. record { workers = g; words = h; generate = x; seed = e }) three
-    ∙ ap (λ x. record { workers = g; words = h; generate = i; seed = x }) four
+same_options : (a b e : ℕ) (d : Option ℕ) (s : Bool) (g h k : ℕ) (i : Option ℕ) (t : Bool)
+    → a ≡ g → b ≡ h → d ≡ i → e ≡ k → s ≡ t
+    → ◌≡◌ {A = Options} (record { workers = a; words = b; generate = d; seed = e; steal = s })
+    (record { workers = g; words = h; generate = i; seed = k; steal = t })
+same_options a b e d s g h k i t one two three four five =
+    ap (λ x. record { workers = x; words = b; generate = d; seed = e; steal = s }) one
+    ∙ ap (λ x. record { workers = g; words = x; generate = d; seed = e; steal = s }) two
+    ∙ ap (λ x. record { workers = g; words = h; generate = x; seed = e; steal = s }) three
+    ∙ ap (λ x. record { workers = g; words = h; generate = i; seed = x; steal = s }) four
+    ∙ ap (λ x. record { workers = g; words = h; generate = i; seed = k; steal = x }) five
 
 -- what was found is what stands in the rows
 in_rows : (f : Found) (name : List ℕ) (o : Option ℕ) → o ≡ option_map number_said (first_value f name)
@@ -26,7 +28,7 @@ in_rows f name o is = is ∙ ap (option_map number_said) (first_value-rows f nam
 pub returns-clause-value : goal.returns-clause-value
 returns-clause-value c =
     let f = found_of c.args.matches.now in
-    same_options _ _ _ _ _ _ _ _
+    same_options _ _ _ _ _ _ _ _ _ _
     (c.unwrap_or.ensures ∙ ap (λ o. unwrap_or o 4)
     (in_rows f (codes "workers") _ c.number.ensures.value))
     (c.unwrap_or-2.ensures ∙ ap (λ o. unwrap_or o 33554432)
@@ -34,3 +36,5 @@ returns-clause-value c =
     (in_rows f (codes "generate") _ c.number-3.ensures.value)
     (c.unwrap_or-3.ensures ∙ ap (λ o. unwrap_or o 1)
     (in_rows f (codes "seed") _ c.number-4.ensures.value))
+    (ap (λ n. n == 1) (c.unwrap_or-4.ensures ∙ ap (λ o. unwrap_or o 0)
+    (in_rows f (codes "steal") _ c.number-5.ensures.value)))

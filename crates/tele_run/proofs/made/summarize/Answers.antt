@@ -31,7 +31,7 @@ loop-line-preserved g c =
     let sums = sums_asked _ _ c.loop-line.line _ c.make.new.self _ c.loop-line.round c.ask.new.self _ c.loop-line-test.true
     c.make.ensures.value c.make.ensures.next asks.asked asks.same was.sums in
     let S = λ (found : ℕ) (now : Open _). Sums c.args.count c.args.seed (c.loop-line.line + 1) c.make.new.self found now in
-    let R = λ (kept : Option (List _)) (now : Open _). RunsMade words_of c.args.round.now.workers c.args.round.now.words c.args.count c.args.seed
+    let R = λ (kept : Option (List _)) (now : Open _). RunsMade words_of c.args.round.now.team c.args.round.now.words c.args.count c.args.seed
     (c.loop-line.line + 1) c.make.new.self before kept now in
     elim c.if-is_full.branch [
       | then-is_full+in_ok-found w ↦
@@ -43,7 +43,7 @@ loop-line-preserved g c =
                 w.found-is sums);
             runs = subst (R (g.H.Shelf.kept c.if-is_full.shelf)) (sym w.round-is) (subst (λ k. R k new) (ap g.H.Shelf.kept (sym w.shelf-is))
                 (made_closed words_of _ _ _ _ before c.loop-line.line _ _ _ c.loop-line.round c.ask.new.self _ c.loop-line-test.true refl
-                c.make.ensures.value c.make.ensures.next asks.asked asks.same asks.last_same asks.fulls_same asks.workers_same
+                c.make.ensures.value c.make.ensures.next asks.asked asks.same asks.last_same asks.fulls_same asks.team_same
                 asks.words_same was.runs new _ (c.is_full.ensures.value.0 w.if-is_full.true) met.ran met.none met.few_pairs));
           }
       | else-is_full w ↦
@@ -52,7 +52,7 @@ loop-line-preserved g c =
             sums = subst (S c.if-is_full.found) (sym w.round-is) (subst (λ f. S f mid) (sym w.found-is) sums);
             runs = subst (R (g.H.Shelf.kept c.if-is_full.shelf)) (sym w.round-is) (subst (λ k. R k mid) (ap g.H.Shelf.kept (sym w.shelf-is))
                 (made_asked words_of _ _ _ _ before c.loop-line.line _ _ _ c.loop-line.round mid _ c.loop-line-test.true refl
-                c.make.ensures.value c.make.ensures.next asks.asked asks.same asks.last_same asks.fulls_same asks.workers_same
+                c.make.ensures.value c.make.ensures.next asks.asked asks.same asks.last_same asks.fulls_same asks.team_same
                 asks.words_same was.runs
                 (still_few c.loop-line.round mid _ _ asks.asked was.runs.few c.is_full.ensures.value.1 w.if-is_full.false)));
           }

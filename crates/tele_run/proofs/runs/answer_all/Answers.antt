@@ -16,13 +16,13 @@ loop-status-init g c =
     let new = c.new-lines.ensures in
     let o = c.args.round in
     let fresh = c.requires.fresh in
-    let first = at_first o.workers o.words c.new-lines.result o new.place fresh in
+    let first = at_first o.team o.words c.new-lines.result o new.place fresh in
     let none : length o.tasks ≡ 0 = ap (λ (x : Open _). length x.tasks) fresh in
     record {
       due = all_due _ _ _ _ _ new.fresh new.unended first;
-      ran = rounds_first words_here o.workers o.words _ _ _ _ _ o new.fresh new.unended first fresh;
+      ran = rounds_first words_here o.team o.words _ _ _ _ _ o new.fresh new.unended first fresh;
       lines = subst (λ n. IsOpenBefore (n + 1) o) (sym (ap (λ (p : Place). p.count) new.place))
-          (open_first o.workers o.words o fresh);
+          (open_first o.team o.words o fresh);
       end = λ told. record { told = told; none = λ at_end. absurd (cc (at_end, new.unended)) };
       limit = ap (λ (p : Place). p.limit) new.place;
       allowed = omega (arith, ap (λ (p : Place). p.count) new.place);
@@ -39,7 +39,7 @@ loop-status-preserved g c =
     let next = c.in_default.ensures in
     record {
       due = on_and_on_if _ _ _ _ _ _ _ _ _ _ next.ended c.loop-status.invariant.due next.goes_on;
-      ran = rounds_on_if words_here c.args.round.workers c.args.round.words _ c.loop-status.round _ _ _ _ _ _ _ _
+      ran = rounds_on_if words_here c.args.round.team c.args.round.words _ c.loop-status.round _ _ _ _ _ _ _ _
           c.loop-status.invariant.ran next.ran;
       lines = next.before;
       end = λ told. next.end (c.loop-status.invariant.end told);
@@ -72,6 +72,6 @@ returns-in-Some-clause-part g c cut =
 pub returns-in-Some-clause-last : goal.returns-in-Some-clause-last
 returns-in-Some-clause-last g c is =
     let answers = subst IsAnswer c.ended.ensures.status is in
-    rounds_end_if words_here c.args.round.workers c.args.round.words _ c.loop-status.round _ _ c.step.new.round _ _ _ _ _
+    rounds_end_if words_here c.args.round.team c.args.round.words _ c.loop-status.round _ _ c.step.new.round _ _ _ _ _
     (c.ended.ensures.last answers) (c.ended.ensures.fulls answers) c.loop-status.invariant.ran
     (c.in-Some.ensures.ran_all answers)

@@ -19,7 +19,7 @@ invariant-loop-status g l =
       due : IfSome (left l.fn.source) (λ bytes.
           RunsTo first_moment bytes (written l.fn.out) (written l.out) (has_ended l.lines)
           (unread l.lines (left l.source)) (moment_of l.lines l.round));
-      ran : IfSome (left l.fn.source) (λ bytes. HasRounds words_here l.fn.round.workers
+      ran : IfSome (left l.fn.source) (λ bytes. HasRounds words_here l.fn.round.team
           l.fn.round.words (g.H.Shelf.kept l.fn.shelf) (g.H.Shelf.kept l.shelf) l.round bytes
           (unread l.lines (left l.source)) (moment_of l.lines l.round));
       lines : IsOpenBefore (count_of l.lines + 1) l.round;

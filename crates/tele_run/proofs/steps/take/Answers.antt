@@ -68,7 +68,7 @@ returns-then-is_full-clause-ran g c =
     on_ok2 c.answer.result c.answer.ensures.ran c.answer.ensures.none
     (rounds_full words_here c.args.version c.args.line.number c.args.line.item c.args.round.now
     (g.H.Shelf.kept c.args.shelf.now) c.in-Point.command c.in-Point.is c.ask.new.self asks.asked asks.same
-    asks.last_same asks.fulls_same asks.workers_same asks.words_same c.answer.new.round _
+    asks.last_same asks.fulls_same asks.team_same asks.words_same c.answer.new.round _
     (c.is_full.ensures.value.0 c.if-is_full.true))
 
 -- a round that stays open isn't
@@ -77,7 +77,7 @@ returns-else-is_full-clause-ran g c =
     let asks = c.in_default.ensures in
     rounds_open words_here c.args.version c.args.line.number c.args.line.item c.args.round.now
     (g.H.Shelf.kept c.args.shelf.now) c.in-Point.command c.in-Point.is c.ask.new.self asks.asked asks.same
-    asks.last_same asks.fulls_same asks.workers_same asks.words_same
+    asks.last_same asks.fulls_same asks.team_same asks.words_same
 
 pub returns-else-is_full-clause-before : goal.returns-else-is_full-clause-before
 returns-else-is_full-clause-before g c =

@@ -14,14 +14,14 @@ use Rattle.tele_trees.proofs.lanes.make_lanes.Goals as goal
 abbrev Idle : Type 0
 Idle = Lane TreePort (Tree × ℕ)
 
--- there are fewer lanes than workers
+-- there are fewer lanes than there are to be
 pub overflow_cast-number : goal.overflow_cast-number
 overflow_cast-number c =
     let less : length c.loop-mine.lanes.items
-    < length (all_lane_tasks c.args.workers c.args.tasks.now)
+    < length (all_lane_tasks c.args.count c.args.tasks.now)
     = one_to_come (λ (l : Idle). l.tasks) _ _ _ _ _ c.loop-mine.invariant.tasks
     c.in-Some.ensures.steps.0 in
-    let all = length-all_lane_tasks c.args.workers c.args.tasks.now in
+    let all = length-all_lane_tasks c.args.count c.args.tasks.now in
     let most = c.requires.at_most in
     let long = c.loop-mine.lanes.ok.0 in
     let result = c.len-number.ensures in
@@ -31,10 +31,10 @@ overflow_cast-number c =
 pub make_lane-requires-clause-few : goal.make_lane-requires-clause-few
 make_lane-requires-clause-few c =
     let less : length c.loop-mine.lanes.items
-    < length (all_lane_tasks c.args.workers c.args.tasks.now)
+    < length (all_lane_tasks c.args.count c.args.tasks.now)
     = one_to_come (λ (l : Idle). l.tasks) _ _ _ _ _ c.loop-mine.invariant.tasks
     c.in-Some.ensures.steps.0 in
-    let all = length-all_lane_tasks c.args.workers c.args.tasks.now in
+    let all = length-all_lane_tasks c.args.count c.args.tasks.now in
     let most = c.requires.at_most in
     let made = c.loop-mine.invariant.made in
     omega arith
@@ -44,6 +44,9 @@ loop-mine-preserved c =
     let lane = c.in_ok-make_lane.ensures in
     let items = c.in_ok-push.ensures.items in
     record {
+      lane_numbers = rw items
+          (numbers_push (λ (l : Idle). l.number) _ _ c.loop-mine.invariant.lane_numbers
+          (search rules));
       tasks = let next = c.in-Some.ensures.steps.0 in
           rw (items, map_push, lane.tasks, append_assoc) (search rules);
       empty = rw items
@@ -72,12 +75,19 @@ loop-mine-preserved c =
       taken = lane.taken ∙ c.loop-mine.invariant.taken;
     }
 
--- there are as many lanes as workers
+-- there are as many lanes as there are to be
+pub returns-clause-lane_numbers : goal.returns-clause-lane_numbers
+returns-clause-lane_numbers c =
+    let long = none_to_come (λ (l : Idle). l.tasks) _ _ _ c.loop-mine.invariant.tasks
+    (sym c.loop-mine.mine-iterator.rest.ok.0 ∙ c.in-None.ensures.steps.0)
+    ∙ length-all_lane_tasks c.args.count c.args.tasks.now in
+    c.loop-mine.invariant.lane_numbers ∙ ap (range_with_len 0) long
+
 pub returns-clause-numbers : goal.returns-clause-numbers
 returns-clause-numbers c =
     let long = none_to_come (λ (l : Idle). l.tasks) _ _ _ c.loop-mine.invariant.tasks
     (sym c.loop-mine.mine-iterator.rest.ok.0 ∙ c.in-None.ensures.steps.0)
-    ∙ length-all_lane_tasks c.args.workers c.args.tasks.now in
+    ∙ length-all_lane_tasks c.args.count c.args.tasks.now in
     c.loop-mine.invariant.numbers ∙ ap (range_with_len 0) long
 
 pub returns-clause-made : goal.returns-clause-made
@@ -85,4 +95,4 @@ returns-clause-made c =
     c.loop-mine.invariant.made ∙ none_to_come (λ (l : Idle). l.tasks) _ _ _
     c.loop-mine.invariant.tasks
     (sym c.loop-mine.mine-iterator.rest.ok.0 ∙ c.in-None.ensures.steps.0)
-    ∙ length-all_lane_tasks c.args.workers c.args.tasks.now
+    ∙ length-all_lane_tasks c.args.count c.args.tasks.now

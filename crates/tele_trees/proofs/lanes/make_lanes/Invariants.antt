@@ -7,7 +7,9 @@ use Rattle.tele_trees.proofs.lanes.make_lanes.Given as goal
 abbrev pub invariant-loop-mine : goal.invariant-loop-mine
 invariant-loop-mine l = record {
   tasks : map (λ lane. lane.tasks) l.lanes.items ++ into_iter_items l.mine-iterator
-      ≡ all_lane_tasks l.workers l.tasks;
+      ≡ all_lane_tasks l.count l.tasks;
+  lane_numbers : map (λ lane. lane.number) l.lanes.items
+      ≡ range_with_len 0 (length l.lanes.items);
   empty : All (λ lane. lane.answers.list ≡ []) l.lanes.items;
   room : All (λ lane. length lane.tasks ≤ lane.answers.room) l.lanes.items;
   no_calls : All (λ lane. lane.port.pass.calls ≡ []) l.lanes.items;

@@ -6,6 +6,8 @@ use Rattle.tele_generations.proofs.WayLemmas.{way_begins}
 use Rattle.tele_generations.proofs.RoundLemmas.{ran_here, some_left, behind_rise, behind_few}
 use Rattle.tele_generations.proofs.RoundLemmas.{ends_plain, ends_round, last_table, ends_with}
 use Rattle.tele_generations.proofs.RoundLemmas.{ends_for, way_goes_on, tables_go_on}
+use Rattle.tele_trees.specs.Counts.{lane_count}
+use Rattle.tele_trees.proofs.LaneLemmas.{some_lanes}
 use Rattle.tele_trees.proofs.rounds.run_round.Goals as goal
 
 -- a closed tree is seen as its words
@@ -19,10 +21,10 @@ loop-way-init g c =
     let words = c.in_ok-way.way.words in
     record {
       tables = rw (e.fulls, e.pairs, e.left)
-          (tables_begin words_here c.args.workers _ c.args.pairs.now c.args.tasks.now
+          (tables_begin words_here (lane_count c.args.workers c.args.steal) _ c.args.pairs.now c.args.tasks.now
           (g.H.Shelf.kept c.args.shelf.now) words (g.H.Shelf.kept c.args.shelf.now) refl e.words);
       on = rw (e.fulls, e.answers, e.pairs, e.left)
-          (way_begins c.args.workers c.args.pairs.now c.args.tasks.now words c.requires.keys
+          (way_begins (lane_count c.args.workers c.args.steal) c.args.pairs.now c.args.tasks.now words c.requires.keys
           c.requires.lines e.holds e.fits);
     }
 
@@ -31,14 +33,14 @@ pub go_on-requires-clause-some_left : goal.go_on-requires-clause-some_left
 go_on-requires-clause-some_left g c =
     let r = ran_here c.in_ok-made.ensures.ran c.deref.ensures.value
     c.deref-in-loop-way.ensures.value in
-    some_left c.loop-way.invariant.on r c.requires.some c.in-Some.full c.in-Some.is
+    some_left c.loop-way.invariant.on r (some_lanes _ c.args.steal c.requires.some) c.in-Some.full c.in-Some.is
 
 -- the pairs behind it rise
 pub go_on-requires-clause-rising : goal.go_on-requires-clause-rising
 go_on-requires-clause-rising g c =
     let r = ran_here c.in_ok-made.ensures.ran c.deref.ensures.value
     c.deref-in-loop-way.ensures.value in
-    behind_rise c.loop-way.invariant.on r c.requires.some c.in_ok-pairs.pairs.items
+    behind_rise c.loop-way.invariant.on r (some_lanes _ c.args.steal c.requires.some) c.in_ok-pairs.pairs.items
     c.in_ok-pairs.ensures.pairs
 
 -- no more keys came than tasks went
@@ -46,7 +48,7 @@ pub go_on-requires-clause-few : goal.go_on-requires-clause-few
 go_on-requires-clause-few g c =
     let r = ran_here c.in_ok-made.ensures.ran c.deref.ensures.value
     c.deref-in-loop-way.ensures.value in
-    let few = behind_few c.loop-way.invariant.on r c.requires.some c.in_ok-pairs.pairs.items
+    let few = behind_few c.loop-way.invariant.on r (some_lanes _ c.args.steal c.requires.some) c.in_ok-pairs.pairs.items
     c.in_ok-pairs.ensures.pairs in
     let fits = c.requires.few in
     omega arith
@@ -60,7 +62,7 @@ returns-in_default-clause-answers g c =
     (λ v. IsPermutation (c.loop-way.way.answers.items ++ xs) v.answers.list))
     c.deref-in_default.ensures.value c.finish.ensures.answers_same in
     IfOk-both c.finish.result _ _ _
-    (λ v moved rise. ends_plain c.loop-way.invariant.on r c.requires.some
+    (λ v moved rise. ends_plain c.loop-way.invariant.on r (some_lanes _ c.args.steal c.requires.some)
     c.in_default.is c.requires.lines v.answers.list moved rise)
     same c.finish.ensures.answers_rise
 
@@ -76,7 +78,7 @@ pub returns-in_default-clause-closed : goal.returns-in_default-clause-closed
 returns-in_default-clause-closed g c =
     let r = ran_here c.in_ok-made.ensures.ran c.deref.ensures.value
     c.deref-in-loop-way.ensures.value in
-    let last = ends_round c.loop-way.invariant.on r c.requires.some c.in_default.is in
+    let last = ends_round c.loop-way.invariant.on r (some_lanes _ c.args.steal c.requires.some) c.in_default.is in
     IfOk-both c.finish.result _ _ _
     (λ v closed fulls.
     ends_for words_here c.in_ok-made.made.closed v.closed last closed fulls)
@@ -87,7 +89,7 @@ pub loop-way-smaller : goal.loop-way-smaller
 loop-way-smaller g c =
     let r = ran_here c.in_ok-made.ensures.ran c.deref.ensures.value
     c.deref-in-loop-way.ensures.value in
-    let less = (way_goes_on c.in_ok-way-2.ensures.on c.loop-way.invariant.on r c.requires.some
+    let less = (way_goes_on c.in_ok-way-2.ensures.on c.loop-way.invariant.on r (some_lanes _ c.args.steal c.requires.some)
     c.in_ok-pairs.ensures.pairs c.in-Some.is).less in
     omega arith
 
@@ -98,8 +100,8 @@ loop-way-preserved g c =
     let h = c.in_ok-pairs.ensures.pairs in
     record {
       tables = tables_go_on c.in_ok-made.made.closed c.in_ok-way-2.ensures.on
-          c.loop-way.invariant.tables r c.requires.some c.loop-way.invariant.on.rising h
+          c.loop-way.invariant.tables r (some_lanes _ c.args.steal c.requires.some) c.loop-way.invariant.on.rising h
           c.in-Some.is c.keep.ensures.kept;
-      on = (way_goes_on c.in_ok-way-2.ensures.on c.loop-way.invariant.on r c.requires.some h
+      on = (way_goes_on c.in_ok-way-2.ensures.on c.loop-way.invariant.on r (some_lanes _ c.args.steal c.requires.some) h
           c.in-Some.is).on;
     }

@@ -5,7 +5,7 @@ use Rattle.ist_tree.specs.declared.ports.TreePort.{TreePort}
 use Rattle.ist_tree.specs.declared.trees.Tree.{Tree}
 use Rattle.tele_lanes.specs.declared.lanes.Lane.{Lane}
 use Rattle.tele_trees.proofs.LaneLemmas.{put_back, same_length}
-use Rattle.tele_trees.proofs.lanes.run_all.Goals as goal
+use Rattle.tele_trees.proofs.working.run_all.Goals as goal
 
 abbrev Ran : Type 0
 Ran = Lane TreePort (Tree × ℕ)

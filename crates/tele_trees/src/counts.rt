@@ -1,0 +1,17 @@
+//! How many lanes a round has.
+ghost use Rattle.std.specs.Prelude.{◌≡◌, ◌≤◌};
+ghost use Rattle.tele_trees.specs.Counts.{lane_count};
+
+/// How many lanes a round has whose workers steal them.
+pub const STOLEN_LANES: u32 = 64;
+
+/// How many lanes a round has: one for each worker, or `STOLEN_LANES` where workers steal them.
+pub(crate) fn lane_count(workers: u32, steal: bool) -> u32
+    requires some { 1 ≤ workers }
+    requires at_most { workers ≤ 64 }
+    ensures value { result ≡ lane_count workers steal }
+    ensures some { 1 ≤ result }
+    ensures at_most { result ≤ 64 }
+{
+    if steal { STOLEN_LANES } else { workers }
+}
