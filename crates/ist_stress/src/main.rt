@@ -1,22 +1,17 @@
 //! The program `ist_stress`: threads on one search tree, and a judge of what each of them was told.
 //!
-//! Read `plans.rt`, `rounds.rt` and `judging.rt`. Stands on `ist_core`, `ist_rest`, `ist_tree`,
-//! `ist_draws`, `plain_map`, `tele_io`, `tele_audit` and `clap`.
+//! Read `plans.rt`, `rounds.rt` and `closing.rt`. Stands on `ist_core`, `ist_rest`, `ist_tree`,
+//! `ist_tales`, `ist_draws`, `plain_map`, `tele_io`, `tele_audit` and `clap`.
 #![tactic(auto)]
 
 mod closing;
 mod command;
 mod faults;
-mod judging;
-mod lives;
 mod plans;
 mod rounds;
 mod runs;
 #[cfg(test)]
-mod tales;
-#[cfg(test)]
 mod tests;
-mod told;
 mod workers;
 
 use command::{Job, read_words};

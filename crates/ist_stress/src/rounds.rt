@@ -2,10 +2,10 @@
 ghost use Rattle.std.specs.Prelude.{◌≡◌, ◌≤◌, ◌+◌, length, All, IfOk};
 
 use crate::faults::Fault;
-use crate::judging::Ledger;
 use crate::plans::Plan;
 use crate::workers::Worker;
-use ist_core::Reply;
+use ist_core::{Pair, Reply};
+use ist_tales::{Misfit, Order};
 use ist_tree::{Maker, Pass, Tree};
 use std::alloc::{AllocError, Global};
 use std::sync::Wait;
@@ -104,7 +104,21 @@ fn find_all(
     Ok(found)
 }
 
-// Judges what the workers were told in a round.
+// The pairs of the keys that have a value.
+fn pairs_of(alloc: Global, values: &[Reply]) -> Result<Vec<Pair>, AllocError> {
+    let mut pairs = Vec::new(alloc);
+    for (key, value) in values.iter().enumerate() {
+        if let Some(value) = *value {
+            pairs.push(Pair {
+                key: key as u64,
+                value,
+            })?;
+        }
+    }
+    Ok(pairs)
+}
+
+// Judges what the workers were told in a round, by what each key had when it began and at its end.
 fn judge(
     alloc: Global,
     round: u64,
@@ -112,14 +126,25 @@ fn judge(
     opening: &[Reply],
     ends: &[Reply],
 ) -> Result<(), Fault> {
-    let mut ledger = Ledger::new(alloc, round, ends.len())?;
-    for (number, worker) in workers.iter().enumerate() {
+    let mut threads = Vec::new(alloc);
+    for worker in workers {
         if worker.lacked_memory {
             return Err(Fault::Memory);
         }
-        ledger.enter(number, worker.told.as_slice())?;
+        threads.push(worker.told.to_vec(alloc)?)?;
     }
-    ledger.judge(alloc, opening, ends)
+    let opening = pairs_of(alloc, opening)?;
+    let ends = pairs_of(alloc, ends)?;
+    match Order::of(
+        alloc,
+        opening.as_slice(),
+        threads.as_slice(),
+        ends.as_slice(),
+    ) {
+        Ok(_) => Ok(()),
+        Err(Misfit::Memory) => Err(Fault::Memory),
+        Err(misfit) => Err(Fault::Wrong { round, misfit }),
+    }
 }
 
 /// Runs a round, and judges what was told. Gives what each key has behind it.

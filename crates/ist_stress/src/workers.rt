@@ -3,9 +3,9 @@ ghost use Rattle.std.specs.Prelude.{◌≡◌, ◌≤◌, ◌<◌};
 ghost use Rattle.ist_tree.specs.Freezing.{IsFrozenFor};
 
 use crate::plans::Plan;
-use crate::told::Told;
-use ist_core::{Command, Full, Pair, Reply};
+use ist_core::{Full, Pair, Reply};
 use ist_draws::{Draws, Kind};
+use ist_tales::{Asked, Told};
 use ist_tree::{Frozen, Pass, Tree};
 use std::alloc::{AllocError, Global};
 use std::sync::Wait;
@@ -49,11 +49,11 @@ impl Tally {
     }
 
     // One answered call more.
-    fn count(&mut self, command: Command) {
-        match command {
-            Command::Put { .. } => self.puts = self.puts.wrapping_add(1),
-            Command::Remove { .. } => self.removes = self.removes.wrapping_add(1),
-            Command::Get { .. } => self.finds = self.finds.wrapping_add(1),
+    fn count(&mut self, asked: Asked) {
+        match asked {
+            Asked::Put(..) => self.puts = self.puts.wrapping_add(1),
+            Asked::Remove(_) => self.removes = self.removes.wrapping_add(1),
+            Asked::Find(_) => self.finds = self.finds.wrapping_add(1),
         }
     }
 }
@@ -76,14 +76,14 @@ pub(crate) struct Worker {
 }
 
 // Makes the call by the pass.
-fn call<R: Wait>(rt: &R, tree: &Tree, pass: &mut Pass, command: Command) -> Result<Reply, Full>
+fn call<R: Wait>(rt: &R, tree: &Tree, pass: &mut Pass, asked: Asked) -> Result<Reply, Full>
     requires same_tree { pass.old.tree ≡ tree.now }
     ensures same_tree { pass.new.tree ≡ tree.now }
 {
-    match command {
-        Command::Put { key, value } => tree.put(rt, pass, key, value),
-        Command::Remove { key } => tree.remove(rt, pass, key),
-        Command::Get { key } => Ok(tree.find(pass, key)),
+    match asked {
+        Asked::Put(key, value) => tree.put(rt, pass, key, value),
+        Asked::Remove(key) => tree.remove(rt, pass, key),
+        Asked::Find(key) => Ok(tree.find(pass, key)),
     }
 }
 
@@ -109,7 +109,7 @@ fn frozen_pairs(
 fn tell_none(told: &mut Vec<Told>, first: u64, end: u64) -> Result<(), AllocError> {
     for key in first..end {
         told.push(Told {
-            command: Command::Get { key },
+            asked: Asked::Find(key),
             reply: None,
         })?;
     }
@@ -123,7 +123,7 @@ fn tell_pairs(told: &mut Vec<Told>, pairs: &[Pair], span: u64) -> Result<(), All
         let Pair { key, value } = *pair;
         tell_none(told, next, key.min(span))?;
         told.push(Told {
-            command: Command::Get { key },
+            asked: Asked::Find(key),
             reply: Some(value),
         })?;
         next = key.saturating_add(1);
@@ -162,15 +162,15 @@ impl Worker {
     }
 
     // Makes a call, and keeps what it was told.
-    fn ask<R: Wait>(&mut self, rt: &R, tree: &Tree, command: Command) -> Result<(), AllocError>
+    fn ask<R: Wait>(&mut self, rt: &R, tree: &Tree, asked: Asked) -> Result<(), AllocError>
         requires same_tree { self.old.pass.tree ≡ tree.now }
         ensures same_tree { self.new.pass.tree ≡ tree.now }
         ensures plan { self.new.plan ≡ self.old.plan }
     {
-        match call(rt, tree, &mut self.pass, command) {
+        match call(rt, tree, &mut self.pass, asked) {
             Ok(reply) => {
-                self.tally.count(command);
-                self.told.push(Told { command, reply })?;
+                self.tally.count(asked);
+                self.told.push(Told { asked, reply })?;
             }
             Err(_) => self.tally.refused = self.tally.refused.wrapping_add(1),
         }
@@ -207,10 +207,10 @@ impl Worker {
         match self.plan.shares.kind_at(number) {
             Kind::Put => {
                 let value = self.new_value();
-                self.ask(rt, tree, Command::Put { key, value })
+                self.ask(rt, tree, Asked::Put(key, value))
             }
-            Kind::Remove => self.ask(rt, tree, Command::Remove { key }),
-            Kind::Find => self.ask(rt, tree, Command::Get { key }),
+            Kind::Remove => self.ask(rt, tree, Asked::Remove(key)),
+            Kind::Find => self.ask(rt, tree, Asked::Find(key)),
             Kind::Freeze => self.freeze(rt, alloc, tree),
         }
     }
