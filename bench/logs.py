@@ -1,10 +1,11 @@
 #!/usr/bin/env python3
-"""Large lawful logs for `log_check`, in four shapes.
+"""Large lawful logs for `log_check`, in five shapes.
 
     python3 bench/logs.py chain N       N puts of rising keys, so that pair rows hang one below the other
     python3 bench/logs.py root N        the same, and a rebuild at the anchor: all rows are marked, passed and finished, and its Root
     python3 bench/logs.py callers N     N callers that each hold a row
     python3 bench/logs.py crowd N       the same, and N puts of rising keys of one caller among them
+    python3 bench/logs.py rebuilds N    N rebuilds of four pairs at the anchor, one behind the other; each builds three rows
 """
 import math
 import sys
@@ -13,8 +14,8 @@ import sys
 class Log:
     """A log under way: its lines, and the first free word."""
 
-    def __init__(self):
-        self.lines, self.next = ["start 268435456"], 4
+    def __init__(self, pairs=(), first=4):
+        self.lines, self.next = [" ".join(["start 268435456", *pairs])], first
 
     def say(self, line):
         self.lines.append(line)
@@ -78,15 +79,45 @@ def callers(log, number, first=0):
         log.reserve(caller, 2)
 
 
+def rebuilds(log, number):
+    """Each rebuild of the tree over four leaves replaces the row that the one before it has made."""
+    top, parts, leaves = 4, (11, 22), (145, 161, 233, 249)
+    for _ in range(number):
+        row, change = log.reserve(0, 5), log.reserve(0, 9)
+        log.say(f"Install 0 {change} {change}=0,3,2,0,{top * 8 + 2},{row * 8 + 4},0,0,0;{row}={top},2,0,7,0")
+        log.decide(change)
+        log.say(f"Mark 0 {top}")
+        for i, part in enumerate(parts):
+            log.say(f"Pass 0 {top} {i} {part * 8 + 2}")
+            log.say(f"Mark 0 {part}")
+            for j in range(2):
+                log.say(f"Pass 0 {part} {j} {leaves[2 * i + j]}")
+            log.say(f"Finish 0 {part} 2")
+        log.say(f"Finish 0 {top} 4")
+        top, *parts = log.reserve(0, 7), log.reserve(0, 7), log.reserve(0, 7)
+        left, right = parts
+        words = f"{top}=0,0,2,4,3,{left * 8 + 2},{right * 8 + 2}"
+        words += f";{left}=0,0,2,2,2,{leaves[0]},{leaves[1]};{right}=0,0,2,2,4,{leaves[2]},{leaves[3]}"
+        log.say(f"Root 0 {row} {top * 8 + 2} {words}")
+        change = log.reserve(0, 9)
+        log.say(f"Install 0 {change} {change}=0,4,2,0,{row * 8 + 4},{top * 8 + 2},0,0,0")
+        log.decide(change)
+
+
 def main():
     shape, number, log = sys.argv[1], int(sys.argv[2]), Log()
+    if shape == "rebuilds":
+        log = Log(("1:1", "2:2", "3:3", "4:4"), 33)
     if shape == "callers":
         callers(log, number)
     else:
         log.say("Enter 0")
         if shape == "crowd":
             callers(log, number, 1)
-        rows = chain(log, number)
+        if shape == "rebuilds":
+            rebuilds(log, number)
+        else:
+            rows = chain(log, number)
         if shape == "root":
             rebuild(log, rows)
     print("\n".join(log.lines))
