@@ -50,6 +50,7 @@ use Rattle.ist_check_reasons.specs.Conditions.{says_of}
 use Rattle.ist_check_reasons.specs.Failing.{Tells}
 use Rattle.ist_check.specs.Knowing.{Knows, Remembers}
 use Rattle.ist_check.specs.Verdicts.{IsFirstUnlawful, FailsAt}
+use Rattle.ist_check.proofs.ReasonLemmas.{not_covered}
 
 -- the answer is the fault that names this event
 abbrev IsFault : ℕ → Result State CheckFault → Type 0
@@ -102,7 +103,18 @@ module _ (events : List Event) (at : ℕ) (event : Event) (below : at < length e
         at_is = sym (length-take-le at events (omega arith));
         lawful = lawful;
         fails = tells;
+        uncovered = not_covered pairs words (reverse (take at events)) lawful event condition tells;
       }
+
+  -- where one is named of an event that may not come, that event is the first such
+  pub found_first : (pairs : List Pair) (words : ℕ) → Lawful pairs words (reverse (take at events))
+      → ¬ (Enabled (start pairs words) (reverse (take at events)) event)
+      → (found : Option Refusal) → IfSome found (λ r. (r.at ≡ at)
+      × Tells (says_of (start pairs words) (reverse (take at events)) event) (Some r.condition))
+      → IfSome found (λ r. IsFirstUnlawful pairs words events r.at)
+  found_first pairs words lawful refused None f = tt
+  found_first pairs words lawful refused (Some r) f =
+      subst (IsFirstUnlawful pairs words events) (sym f.0) (first_unlawful pairs words lawful refused)
 
   -- and so it is told, where one is named
   pub found_fails : (pairs : List Pair) (words : ℕ) → Lawful pairs words (reverse (take at events))

@@ -2,10 +2,12 @@
 use Rattle.std.specs.Prelude.{◌≡◌, ℕ, List, ◌∷◌, ◌++◌, length, reverse, Some}
 use Rattle.ist_core.specs.declared.pairs.Pair.{Pair}
 use Rattle.ist_core.specs.declared.events.Event.{Event}
+use Rattle.ist_core.specs.declared.events.Event.TheVariants.{Pass, Draw}
 use Rattle.ist_core.specs.StartLayout.{start}
 use Rattle.ist_core.specs.Enabled.{Enabled}
 use Rattle.ist_core.specs.Lawful.{Lawful}
 use Rattle.ist_check_reasons.specs.declared.conditions.Condition.{Condition}
+use Rattle.ist_check_reasons.specs.declared.conditions.Condition.TheVariants.{Finished, Set}
 use Rattle.ist_check_reasons.specs.Conditions.{says_of}
 use Rattle.ist_check_reasons.specs.Failing.{Tells}
 
@@ -19,6 +21,13 @@ pub record IsFirstUnlawful (pairs : List Pair) (words : ℕ) (events : List Even
   pub lawful : Lawful pairs words (reverse before)
   pub refused : ¬ (Enabled (start pairs words) (reverse before) event)
 
+-- a condition of such an event that holds behind each lawful log where those before it do: that the word of a Pass is set, as no
+-- slot of a marked row is Unset, and that the target of a Draw's rebuild is finished, as the rebuild has a root
+abbrev pub IsCovered : Event → Condition → Type 0
+IsCovered (Pass caller node i word) Set = Unit {0}
+IsCovered (Draw caller rebuild part) Finished = Unit {0}
+IsCovered _ _ = ⊥
+
 -- behind those before it, which are a lawful log, the condition of event number `at` is false, and all before it hold
 pub record FailsAt (pairs : List Pair) (words : ℕ) (events : List Event) (at : ℕ) (condition : Condition) : Type 0 where
   pub before : List Event
@@ -28,3 +37,4 @@ pub record FailsAt (pairs : List Pair) (words : ℕ) (events : List Event) (at :
   pub at_is : at ≡ length before
   pub lawful : Lawful pairs words (reverse before)
   pub fails : Tells (says_of (start pairs words) (reverse before) event) (Some condition)
+  pub uncovered : ¬ (IsCovered event condition)

@@ -1,13 +1,14 @@
 //! Says why the first event of a list that may not come may not.
-ghost use Rattle.std.specs.Prelude.{◌≡◌, ℕ, List, IfOk, IfSome, Some};
+ghost use Rattle.std.specs.Prelude.{◌≡◌, ◌≢◌, ℕ, List, reverse, IfOk, IfSome, Some, None};
 ghost use Rattle.ist_core.specs.declared.pairs.Pair.{Pair as APair};
 ghost use Rattle.ist_core.specs.StartLayout.{start};
 ghost use Rattle.ist_core.specs.Logs.{Log};
-ghost use Rattle.ist_core.specs.Lawful.{CanOpen};
+ghost use Rattle.ist_core.specs.Enabled.{Enabled};
+ghost use Rattle.ist_core.specs.Lawful.{Lawful, CanOpen};
 ghost use Rattle.ist_check_reasons.specs.Conditions.{says_of};
 ghost use Rattle.ist_check_reasons.specs.Failing.{Tells};
 ghost use Rattle.ist_check.specs.Knowing.{Knows};
-ghost use Rattle.ist_check.specs.Verdicts.{FailsAt};
+ghost use Rattle.ist_check.specs.Verdicts.{IsFirstUnlawful, FailsAt};
 
 use crate::coming::may_come;
 use crate::failing::fails;
@@ -27,7 +28,8 @@ pub struct Refusal {
 }
 
 /// Why the first event that may not come may not: the condition that is named is false behind the
-/// events before it, and all before it in the order of its kind hold. `check` says which event it is.
+/// events before it, and all before it in the order of its kind hold. It is the event that `check`
+/// names, and none is named only where the events are a lawful log.
 pub fn explain(
     alloc: Global,
     start: &[Pair],
@@ -37,6 +39,10 @@ pub fn explain(
     requires opens { CanOpen start.now words }
     ensures refused { IfOk result (λ found. IfSome found (λ r.
         FailsAt start.now words log.now r.at r.condition)) }
+    ensures first { IfOk result (λ found. IfSome found (λ r.
+        IsFirstUnlawful start.now words log.now r.at)) }
+    ensures lawful { IfOk result (λ found. found ≡ None
+        → Lawful start.now words (reverse log.now)) }
 {
     let mut replica = open_replica(alloc, start, u64::from(words))?;
     let mut past = open_past(alloc, &replica)?;
@@ -63,6 +69,9 @@ fn refused_at(
     ensures exact { IfOk result (λ found. (pairs : List APair) → (words : ℕ) → (log : Log)
         → Knows replica.now past.now pairs words log → IfSome found (λ r. (r.at ≡ at)
         × Tells (says_of (start pairs words) log event.now) (Some r.condition))) }
+    ensures named { IfOk result (λ found. (pairs : List APair) → (words : ℕ) → (log : Log)
+        → Knows replica.now past.now pairs words log
+        → ¬ (Enabled (start pairs words) log event.now) → found ≢ None) }
 {
     match fails(alloc, replica, past, event)? {
         None => Ok(None),

@@ -1,17 +1,18 @@
 use Rattle.std.proofs.Common.{◌≡◌, ◌∙◌, true, false, length, reverse, take, take_all, sym, ap}
 use Rattle.std.proofs.Common.{subst, arith}
-use Rattle.ist_core.specs.Snapshots.{Shows}
 use Rattle.ist_core.specs.StartLayout.{start}
-use Rattle.ist_core.specs.Lawful.{state_of}
+use Rattle.ist_core.specs.Lawful.{Lawful, state_of}
 use Rattle.ist_check_events.specs.Mirroring.{Mirrors}
 use Rattle.ist_check_events.specs.Remembering.{KnowsSlots, KnowsWays}
-use Rattle.ist_check.specs.Verdicts.{IsFirstUnlawful}
 use Rattle.ist_check_events.proofs.AnswerLemmas.{if_ok}
 use Rattle.ist_check.specs.Knowing.{Knows}
-use Rattle.ist_check.proofs.CheckingLemmas.{reverse_more, found_fails, lawful_more}
+use Rattle.ist_check.proofs.CheckingLemmas.{reverse_more, found_fails, found_first, lawful_more}
 use Rattle.ist_check.proofs.CheckingLemmas.{known_more}
 use Rattle.ist_check.proofs.RoomLemmas.{has_room}
 use Rattle.ist_check.proofs.explaining.explain.Goals as goal
+
+clash : false ≡ true → ⊥
+clash e = cc
 
 pub loop-at-init : goal.loop-at-init
 loop-at-init c =
@@ -67,10 +68,25 @@ loop-at-preserved c =
 pub returns-then-not-branch : goal.returns-then-not-branch
 returns-then-not-branch c =
     let knows = c.loop-at.invariant.0 in
+    let may = (c.in_ok-may_come.ensures.exact _ _ _ knows).1 in
     record {
       refused = if_ok c.refused_at.result _ _
           (λ found f. found_fails c.args.log.now c.loop-at.at c.index-log-at.result
           c.loop-at-test.true c.index-log-at.is c.args.start.now c.args.words knows.lawful found
           (f _ _ _ knows))
           c.refused_at.ensures.exact;
+      first = if_ok c.refused_at.result _ _
+          (λ found f. found_first c.args.log.now c.loop-at.at c.index-log-at.result
+          c.loop-at-test.true c.index-log-at.is c.args.start.now c.args.words knows.lawful
+          (λ can. clash (sym c.if-not-branch.true ∙ may can)) found (f _ _ _ knows))
+          c.refused_at.ensures.exact;
+      lawful = if_ok c.refused_at.result _ _
+          (λ found f none. absurd (f _ _ _ knows
+          (λ can. clash (sym c.if-not-branch.true ∙ may can)) none))
+          c.refused_at.ensures.named;
     }
+
+pub returns-clause-lawful : goal.returns-clause-lawful
+returns-clause-lawful c none =
+    let all = ap reverse (take_all c.loop-at.at c.args.log.now (omega arith)) in
+    subst (Lawful c.args.start.now c.args.words) all c.loop-at.invariant.0.lawful

@@ -1,0 +1,148 @@
+-- What follows where all conditions of an event hold, and which are never the first that is false. Serves `explaining.rt`.
+use Rattle.std.proofs.Common.{◌≡◌, ◌≢◌, ◌∙◌, ◌⊎◌, ◌+◌, ◌*◌, ℕ, Bool, true, false, List, Some, None, refl, sym, ap, ⊎_elim, arith}
+use Rattle.ist_core.specs.declared.events.Event.{Event}
+use Rattle.ist_core.specs.declared.events.Event.TheVariants.{Enter, Reserve, Install, Okay, Decide, Resolve, Count, Mark, Pass, Finish, Root, Draw, Place, Lose}
+use Rattle.ist_core.specs.declared.pairs.Pair.{Pair}
+use Rattle.ist_core.specs.declared.states.InnerRow.{InnerRow}
+use Rattle.ist_core.specs.Enabled.{Enabled}
+use Rattle.ist_core.specs.Lawful.{Lawful, state_of}
+use Rattle.ist_core.specs.Logs.{Log}
+use Rattle.ist_core.specs.Pieces.{Inner}
+use Rattle.ist_core.specs.References.{unset_word}
+use Rattle.ist_core.specs.Slots.{SlotHolds, in_row, logical, past_change, past_rebuild}
+use Rattle.ist_core.specs.Snapshots.{Snapshot}
+use Rattle.ist_core.specs.StartLayout.{start}
+use Rattle.ist_core.specs.Statuses.{marked_word}
+use Rattle.ist_core.proofs.ReferenceLemmas.{ref_of-unset}
+use Rattle.ist_links.proofs.ClosedLemmas.{closed_was_linked}
+use Rattle.ist_links.proofs.FormedLemmas.{rooted_is_finished}
+use Rattle.ist_links.proofs.LinkLemmas.{linked_or_finished}
+use Rattle.ist_rebuilds.proofs.ContentLemmas.{linked_set}
+use Rattle.ist_check_reasons.specs.declared.conditions.Condition.{Condition}
+use Rattle.ist_check_reasons.specs.declared.conditions.Condition.TheVariants.{Finished, InSlot, Known, Marked, NoChange, NotPast, PartIs, Published, Rooted, Set, Shared}
+use Rattle.ist_check_reasons.specs.Conditions.{says_of, pass_says, draw_says}
+use Rattle.ist_check_reasons.specs.Failing.{Tells}
+use Rattle.ist_check.specs.Verdicts.{IsCovered}
+
+-- ---- where all hold
+
+-- an event of which all conditions hold may come
+pub all_hold : (first : Snapshot) (log : Log) (event : Event) → Tells (says_of first log event) None
+    → Enabled first log event
+all_hold first log (Enter caller) t = t.1.0
+all_hold first log (Reserve caller base size) t = t.1.1.1.0
+all_hold first log (Install caller change rows) t = t.1.1.1.1.1.1.1.1.0
+all_hold first log (Okay caller change) t = t.1.1.1.0
+all_hold first log (Decide caller change said) t = t.1.1.1.0
+all_hold first log (Resolve caller change) t = t.1.1.1.0
+all_hold first log (Count caller node) t = t.1.1.0
+all_hold first log (Mark caller node) t = t.1.1.1.0
+all_hold first log (Pass caller node i word) t = t.1.1.1.1.1.0
+all_hold first log (Finish caller node keys) t = t.1.1.1.0
+all_hold first log (Root caller rebuild word rows) t = t.1.1.1.1.1.1.0
+all_hold first log (Draw caller rebuild part) t = t.1.1.1.1.1.1.0
+all_hold first log (Place caller rebuild part word rows) t = t.1.1.1.1.1.0
+all_hold first log (Lose caller bases) t = t.1.0
+
+-- ---- conditions that those before them cover
+
+clash : false ≡ true → ⊥
+clash e = cc
+
+-- conditions that a test tells apart are two
+differ : (test : Condition → Bool) (a b : Condition) → test a ≡ true → test b ≡ false → ¬ (a ≡ b)
+differ test a b here there e = clash (sym there ∙ ap test (sym e) ∙ here)
+
+abbrev is_set : Condition → Bool
+is_set Set = true
+is_set _ = false
+
+abbrev is_finished : Condition → Bool
+is_finished Finished = true
+is_finished _ = false
+
+-- where it isn't the one it is the other
+other : {A B : Type 0} → A ⊎ B → ¬ A → B
+other t isnt = ⊎_elim (λ a. absurd (isnt a)) (λ b. b) t
+
+module _ (pairs : List Pair) (words : ℕ) (log : Log) (law : Lawful pairs words log) where
+  abbrev t : Snapshot
+  t = state_of pairs words log
+
+  same_row : (node : ℕ) (a b : InnerRow) → t.pieces node ≡ Some (Inner a)
+      → t.pieces node ≡ Some (Inner b) → a ≡ b
+  same_row node a b e f = cc
+
+  -- no slot of a marked row is Unset: the row is linked
+  marked_set : (node i word : ℕ) (row : InnerRow) → t.pieces node ≡ Some (Inner row)
+      → SlotHolds t node i word → row.status ≡ marked_word → word ≢ unset_word
+  marked_set node i word row published slot marked unset =
+      ⊎_elim
+      (λ linked. linked_set pairs words law.opens log law.enabled node i word linked slot
+      (ap (logical t.pieces) unset
+      ∙ ap (λ o. past_rebuild t.pieces (past_change t.pieces o)) ref_of-unset))
+      (λ f.
+      let same = same_row node f.1.row row f.1.published published in
+      let odd : f.1.row.status ≡ 4 * f.0 + 3 = f.1.status in
+      let one : f.1.row.status ≡ 1 = ap (λ r. r.status) same ∙ marked in
+      omega arith)
+      (linked_or_finished pairs words law.opens log law.enabled node
+      (closed_was_linked pairs words law.opens log law.enabled node row published
+      (λ e. let one : row.status ≡ 1 = marked in omega arith)))
+
+  -- where the other conditions of a Pass hold, its word is set
+  pass_set : (caller node i word : ℕ) → ¬ (Tells (pass_says t caller node i word) (Some Set))
+  pass_set caller node i word t0 =
+      let t1 = other t0 (λ here. differ is_set Set Known refl refl here.0) in
+      let t2 = other t1.1 (λ here. differ is_set Set Published refl refl here.0) in
+      let t3 = other t2.1 (λ here. differ is_set Set Marked refl refl here.0) in
+      let t4 = other t3.1 (λ here. differ is_set Set InSlot refl refl here.0) in
+      let t5 = other t4.1 (λ here. differ is_set Set NoChange refl refl here.0) in
+      let marked = t3.0 in
+      let in_slot = t4.0 in
+      let same = same_row node in_slot.row marked.row in_slot.published marked.published in
+      let status = ap (λ r. r.status) same ∙ marked.says in
+      ⊎_elim
+      (λ here. here.1 record {
+        known = t1.0;
+        row = in_slot.row;
+        published = in_slot.published;
+        marked = status;
+        in_slot = in_slot.says;
+        no_change = t5.0;
+        set = marked_set node i word in_slot.row in_slot.published
+            (in_row in_slot.row in_slot.published in_slot.says) status;
+      })
+      (λ rest. rest.1)
+      t5.1
+
+  -- where a rebuild has a root, its target is finished
+  draw_finished : (caller rebuild part : ℕ)
+      → ¬ (Tells (draw_says t log caller rebuild part) (Some Finished))
+  draw_finished caller rebuild part t0 =
+      let t1 = other t0 (λ here. differ is_finished Finished Known refl refl here.0) in
+      let t2 = other t1.1 (λ here. differ is_finished Finished Published refl refl here.0) in
+      let t3 = other t2.1 (λ here. differ is_finished Finished Rooted refl refl here.0) in
+      let rooted = t3.0 in
+      let done = rooted_is_finished pairs words log law.enabled rebuild rooted.row rooted.published
+      rooted.says in
+      ⊎_elim
+      (λ here. here.1 record {
+        row = rooted.row;
+        published = rooted.published;
+        says = (done.0, done.1, tt);
+      })
+      (λ rest.
+      let t5 = other rest.1 (λ here. differ is_finished Finished Shared refl refl here.0) in
+      let t6 = other t5.1 (λ here. differ is_finished Finished PartIs refl refl here.0) in
+      let t7 = other t6.1 (λ here. differ is_finished Finished NotPast refl refl here.0) in
+      t7.1)
+      t3.1
+
+  -- so neither is the first that is false
+  pub not_covered : (event : Event) (condition : Condition)
+      → Tells (says_of (start pairs words) log event) (Some condition)
+      → ¬ (IsCovered event condition)
+  not_covered (Pass caller node i word) Set tells k = pass_set caller node i word tells
+  not_covered (Draw caller rebuild part) Finished tells k = draw_finished caller rebuild part tells
+  not_covered _ _ tells k = absurd k
