@@ -5,7 +5,10 @@ use crate::running::run_over;
 use ist_rest::Closed;
 use plain_map::Plain;
 use std::alloc::{AllocError, Global};
+use std::process::Abort;
+use std::sync::Wait;
 use std::test::Fail;
+use std::thread::Threads;
 use tele_generations::{NoShelf, Shelf};
 use tele_lanes::NoGate;
 use tele_made::Maker;
@@ -90,32 +93,42 @@ fn summary_of_made(alloc: Global, count: u64, seed: u64) -> Result<String, Alloc
     format!(in alloc; "made {count} keys {keys} found {found} sum {sum}\n")
 }
 
+/// Makes 20,000 lines by so many workers, which steal where that is 1, and compares the summary.
+fn compare_made<R: Abort + Threads + Wait + Sync>(
+    rt: &R,
+    alloc: Global,
+    workers: &str,
+    steal: &str,
+) -> Result<(), Fail> {
+    let summary = summary_of_made(alloc, 20_000, 1)?;
+    let more = [
+        "--generate",
+        "20000",
+        "--seed",
+        "1",
+        "--workers",
+        workers,
+        "--steal",
+        steal,
+    ];
+    let ran = run_over(rt, alloc, &more, b"", &NoGate, &mut NoShelf)?;
+    assert_eq!(rt; ran.out.bytes(), summary.as_bytes(), "at {more:?}");
+    assert_eq!(rt; ran.outcome.status, 0, "at {more:?}");
+    Ok(())
+}
+
 #[test]
 fn made_lines_are_summed_up_as_one_map_has_them(rt: HostRuntime) -> Result<(), Fail> {
-    let summary = summary_of_made(rt.alloc(), 20_000, 1)?;
-    // how many workers, and whether they steal
-    let rows = [
-        ("1", "0"),
-        ("4", "0"),
-        ("64", "0"),
-        ("1", "1"),
-        ("4", "1"),
-        ("64", "1"),
-    ];
-    for (workers, steal) in rows {
-        let more = [
-            "--workers",
-            workers,
-            "--generate",
-            "20000",
-            "--seed",
-            "1",
-            "--steal",
-            steal,
-        ];
-        let ran = run_over(&rt, rt.alloc(), &more, b"", &NoGate, &mut NoShelf)?;
-        assert_eq!(rt; ran.out.bytes(), summary.as_bytes(), "at {more:?}");
-        assert_eq!(rt; ran.outcome.status, 0, "at {more:?}");
+    for workers in ["1", "4", "64"] {
+        compare_made(&rt, rt.alloc(), workers, "0")?;
+    }
+    Ok(())
+}
+
+#[test]
+fn made_lines_of_stolen_lanes_are_summed_up_so_too(rt: HostRuntime) -> Result<(), Fail> {
+    for workers in ["1", "4", "64"] {
+        compare_made(&rt, rt.alloc(), workers, "1")?;
     }
     Ok(())
 }

@@ -71,7 +71,10 @@ fn the_gate_is_told_of_lanes_by_timestamp_modulo_64(rt: HostRuntime) -> Result<(
     let ran = run_over(&rt, rt.alloc(), &more, input, &gate, &mut NoShelf)?;
     assert_eq!(rt; ran.out.bytes(), b"1 -\n2 -\n3 -\n".as_slice());
     // lanes 0, 5 and 63
-    assert_eq!(rt; gate.lanes.load(Ordering::SeqCst), 1 + (1u64 << 5) + (1u64 << 63));
+    assert_eq!(rt;
+        gate.lanes.load(Ordering::SeqCst),
+        1 + (1u64 << 5) + (1u64 << 63)
+    );
     Ok(())
 }
 
@@ -104,10 +107,17 @@ fn uneven_puts(alloc: Global, count: u64) -> Result<(Vec<u8>, Vec<u8>), AllocErr
 
 #[test]
 fn lanes_of_very_unequal_length_answer_as_one_map(rt: HostRuntime) -> Result<(), Fail> {
-    let (input, output) = uneven_puts(rt.alloc(), 20_000)?;
+    let (input, output) = uneven_puts(rt.alloc(), 3_000)?;
     for workers in ["1", "2", "4", "64"] {
-        let more = ["--workers", workers, "--steal", "1"];
-        let ran = run_over(&rt, rt.alloc(), &more, input.as_slice(), &NoGate, &mut NoShelf)?;
+        let more = ["--workers", workers, "--steal", "1", "--words", "65536"];
+        let ran = run_over(
+            &rt,
+            rt.alloc(),
+            &more,
+            input.as_slice(),
+            &NoGate,
+            &mut NoShelf,
+        )?;
         assert!(rt; ran.out.bytes() == output.as_slice(), "by {workers}");
         assert_eq!(rt; ran.outcome.status, 0, "by {workers}");
     }
