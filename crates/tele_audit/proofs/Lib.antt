@@ -4,3 +4,5 @@ pub mod DumpLemmas
 pub mod FrontLemmas
 pub mod PieceLemmas
 pub mod LawLemmas
+pub mod PackLemmas
+pub mod RunLemmas

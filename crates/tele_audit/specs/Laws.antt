@@ -1,12 +1,20 @@
 -- The laws on dumps. `src/laws.rt` lists them.
 use Rattle.std.specs.Prelude.{◌≡◌, ℕ, ◌<◌, ◌^◌, List}
+use Rattle.std.specs.List.{flat_map}
 use Rattle.ist_core.specs.declared.pairs.Pair.{Pair}
-use Rattle.ist_core.specs.Map.{pairs_between}
+use Rattle.ist_core.specs.Map.{Map, pairs_of, pairs_between, listed}
 use Rattle.ist_words.specs.WordRows.{word_at}
 use Rattle.ist_words.specs.RestingWords.{AreListed}
+use Rattle.tele_lines.specs.declared.items.Version.TheVariants.{One}
+use Rattle.tele_lines.specs.Answer.{pair_text}
 use Rattle.tele_audit.specs.declared.flaws.Flaw.{Flaw}
+use Rattle.tele_audit.specs.declared.jobs.Job.TheVariants.{Pack, Tell}
+use Rattle.tele_audit.specs.declared.jobs.Question.TheVariants.{Between}
+use Rattle.tele_audit.specs.declared.outcomes.TheConstants.{DONE}
 use Rattle.tele_audit.specs.Dumps.{Told, IsLawfulDump, dump_of}
 use Rattle.tele_audit.specs.Flaws.{IsFirstFlaw}
+use Rattle.tele_audit.specs.Packing.{Holds, left_by}
+use Rattle.tele_audit.specs.Runs.{IsDue}
 
 -- a dump of lawful words has no flaw
 abbrev pub LawfulDumpsHaveNoFlaw : Type 0
@@ -33,3 +41,17 @@ DumpsTellTheList =
     → ((place : ℕ) → word_at words place < 2 ^ 64)
     → IsLawfulDump (dump_of words) told → AreListed words first last found
     → found ≡ pairs_between first last told.pairs
+
+-- what `pack` writes is the dump of lawful words, of which the pairs of the map that the lines leave
+-- are told
+abbrev pub PackedDumpsTellTheMap : Type 0
+PackedDumpsTellTheMap =
+    (bytes dump : List ℕ) (m : Map) → left_by bytes ≡ Holds m → IsDue Pack bytes dump DONE
+    → (told : Told) × IsLawfulDump dump told × (told.pairs ≡ pairs_of m)
+
+-- what `list` writes over what `pack` wrote is the interval of the map that the lines leave
+abbrev pub PackedLinesAreListed : Type 0
+PackedLinesAreListed =
+    (bytes dump text : List ℕ) (m : Map) (first last status : ℕ) → left_by bytes ≡ Holds m
+    → IsDue Pack bytes dump DONE → IsDue (Tell (Between first last)) dump text status
+    → (status ≡ DONE) × (text ≡ flat_map (pair_text One) (listed first last m))

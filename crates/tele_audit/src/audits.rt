@@ -47,6 +47,13 @@ impl Audited {
         self.pairs.list(first, last)
     }
 
+    /// How many keys there are.
+    pub fn keys(&self) -> u64
+        ensures value { result ≡ length self.now.pairs }
+    {
+        self.pairs.pairs().len() as u64
+    }
+
     /// How many words of the table are used.
     pub fn used(&self) -> u64
         ensures value { result ≡ self.now.used }

@@ -40,7 +40,11 @@ fn know_lawful(closed: &Closed)
 }
 
 /// Writes the dump of lawful words, of which there are so many.
-fn write_dump<W: WordList, O: Sink>(words: &W, count: u64, out: &mut O) -> Result<(), SinkFault>
+pub(crate) fn write_dump<W: WordList, O: Sink>(
+    words: &W,
+    count: u64,
+    out: &mut O,
+) -> Result<(), SinkFault>
     requires count { count ≡ length (W.list words.now) }
     requires lawful { AreLawfulWords (W.list words.now) }
     ensures whole { OnOk result

@@ -1,7 +1,9 @@
 //! Laws on dumps. The functions take no steps and answer nothing: contracts are laws.
 ghost use Rattle.tele_audit.specs.Laws.{LawfulDumpsHaveNoFlaw, FirstFlawsAreOne};
 ghost use Rattle.tele_audit.specs.Laws.{DumpsTellOneThing, DumpsTellTheList};
+ghost use Rattle.tele_audit.specs.Laws.{PackedDumpsTellTheMap, PackedLinesAreListed};
 
+use ist_rest::laws::standing_words_hold_the_map;
 use ist_words::laws::{lawful_words_break_nowhere, pairs_are_one};
 
 /// A dump of lawful words has no flaw, and other bytes have one first flaw.
@@ -17,5 +19,15 @@ pub fn dumps_tell_the_words()
     ensures one { DumpsTellOneThing }
     ensures listed { DumpsTellTheList }
 {
+    pairs_are_one();
+}
+
+/// What `pack` writes tells of the map that the lines leave, and `list` writes an interval of it.
+pub fn packed_lines_are_listed()
+    ensures told { PackedDumpsTellTheMap }
+    ensures listed { PackedLinesAreListed }
+{
+    standing_words_hold_the_map();
+    lawful_words_break_nowhere();
     pairs_are_one();
 }

@@ -1,22 +1,34 @@
 //! Dumps of closed tables, and the audit of dumps that anyone may have written.
 //!
-//! Read `specs/Dumps.antt` and `specs/Flaws.antt`, then `dumps.rt` and `audits.rt`. Stands on
-//! `ist_core`, `ist_layout`, `ist_words`, `ist_rest`, `tele_io` and `plain_map`.
+//! Read `specs/Dumps.antt` and `specs/Flaws.antt`, then `dumps.rt` and `audits.rt`; of the program
+//! `specs/Runs.antt` and `runs.rt`. Stands on `ist_core`, `ist_math`, `ist_layout`, `ist_links`,
+//! `ist_image`, `ist_words`, `ist_rest`, `plain_map`, `tele_io` and `tele_lines`.
 #![tactic(auto)]
 
 mod audits;
 mod dumps;
 mod flaws;
 mod heads;
+mod jobs;
 pub mod laws;
 mod numbers;
+mod outcomes;
+mod packing;
 mod pieces;
+mod runs;
 mod tables;
 mod taking;
+mod texts;
 
 pub use audits::{Audited, audit};
 pub use dumps::dump;
 pub use flaws::{AuditFault, Flaw};
+pub use outcomes::{BAD_LINE, DONE, FLAWED, NO_MEMORY, READ_FAILED, USAGE, WRITE_FAILED};
+pub use runs::audit_run;
 
+#[cfg(test)]
+mod run_tests;
+#[cfg(test)]
+mod second;
 #[cfg(test)]
 mod tests;

@@ -1,10 +1,11 @@
 //! Bytes that are put together on the stack and go out in one piece.
-ghost use Rattle.std.specs.Prelude.{◌≡◌, ◌+◌, ◌≤◌, [], ◌++◌, length, OnOk, OnErr, IsErrOf};
+ghost use Rattle.std.specs.Prelude.{◌≡◌, ◌+◌, ◌≤◌, [], ◌++◌, decimal, length, OnOk, OnErr, IsErrOf};
 ghost use Rattle.tele_io.specs.Bytes.{HaveRisen, Appends, AppendsPart};
 ghost use Rattle.tele_audit.specs.Dumps.{number_bytes};
 ghost use Rattle.tele_audit.specs.Pieces.{MovesOut};
 
 use arrayvec::ArrayVec;
+use itoa::Buffer;
 use std::marker::Model;
 use tele_io::{Sink, SinkFault, write_whole};
 
@@ -50,6 +51,16 @@ impl Piece {
         ensures added { self.new ≡ self.old ++ number_bytes number }
     {
         self.push(&number.to_le_bytes());
+    }
+
+    /// Adds a number in decimal.
+    pub(crate) fn push_decimal(&mut self, number: u64)
+        requires room { length self.old + 20 ≤ ROOM }
+        ensures added { self.new ≡ self.old ++ decimal number }
+        ensures short { length self.new ≤ length self.old + 20 }
+    {
+        let mut buffer = Buffer::new();
+        self.push(buffer.format(number).as_bytes());
     }
 
     /// The bytes.

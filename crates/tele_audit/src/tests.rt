@@ -1,5 +1,8 @@
 //! Dumps that are laid out byte by byte.
 
+ghost use Rattle.std.specs.Prelude.{◌≤◌};
+
+use crate::second::read_again;
 use crate::{AuditFault, Audited, Flaw, audit};
 use ist_core::Pair;
 use std::alloc::{AllocError, Global};
@@ -117,6 +120,33 @@ fn twenty(alloc: Global) -> Result<Vec<u64>, AllocError> {
 }
 
 #[test]
+fn a_dump_with_one_byte_changed_is_refused_or_lawful(rt: HostRuntime) -> Result<(), Fail> {
+    let words = twenty(rt.alloc())?;
+    let bytes = dump_of(rt.alloc(), 120, words.as_slice())?;
+    assert_eq!(rt; bytes.len(), 872);
+    for (at, byte) in bytes.iter().enumerate() {
+        for change in [0, 1, 2, 3, 8, 128, 255] {
+            let mut changed = bytes.clone()?;
+            if let Some(there) = changed.get_mut(at) {
+                *there = *byte ^ change;
+            }
+            match (
+                audited(&rt, changed.as_slice())?,
+                read_again(rt.alloc(), changed.as_slice())?,
+            ) {
+                (Ok(told), Ok(pairs)) => {
+                    assert_eq!(rt; told.list(0, u64::MAX), pairs.as_slice(), "byte {at}");
+                }
+                (Err(flaw), Err(other)) => assert_eq!(rt; flaw, other, "byte {at}, {change}"),
+                (Ok(_told), Err(other)) => panic!(&rt; "byte {at}, {change}: {other:?}"),
+                (Err(flaw), Ok(_pairs)) => panic!(&rt; "byte {at}, {change}: {flaw:?}"),
+            }
+        }
+    }
+    Ok(())
+}
+
+#[test]
 fn a_part_of_a_dump_is_short(rt: HostRuntime) -> Result<(), Fail> {
     let words = twenty(rt.alloc())?;
     let bytes = dump_of(rt.alloc(), 107, words.as_slice())?;
@@ -128,6 +158,44 @@ fn a_part_of_a_dump_is_short(rt: HostRuntime) -> Result<(), Fail> {
     let mut more = bytes.clone()?;
     more.push(0)?;
     assert_eq!(rt; flaw_of(&rt, more.as_slice())?, Some(Flaw::Long));
+    Ok(())
+}
+
+// So many rows over two slots, each in the second slot of the one before. The last slot has this word,
+// or leads to the last leaf.
+fn chain(alloc: Global, rows: u64, last: Option<u64>) -> Result<Vec<u64>, AllocError>
+    requires few { rows ≤ 1000000 }
+{
+    let end = 4 + rows * 9;
+    let mut words = vec![in alloc; end + 2, 0, 0, 34]?;
+    for i in 0..rows {
+        let base = 4 + i * 9;
+        let next = if i + 1 < rows {
+            (base + 9) * 8 + 2
+        } else {
+            last.unwrap_or((base + 9) * 8 + 1)
+        };
+        for word in [0, 0, 2, 2, i + 1, (base + 7) * 8 + 1, next, i, i * 2] {
+            words.push(word)?;
+        }
+    }
+    words.push(rows)?;
+    words.push(rows * 2)?;
+    Ok(words)
+}
+
+#[test]
+fn a_long_chain_is_audited_and_a_loop_ends(rt: HostRuntime) -> Result<(), Fail> {
+    let words = chain(rt.alloc(), 20000, None)?;
+    let bytes = dump_of(rt.alloc(), 1 << 28, words.as_slice())?;
+    let Ok(told) = audited(&rt, bytes.as_slice())? else {
+        panic!(&rt; "it is lawful")
+    };
+    assert_eq!(rt; told.list(0, u64::MAX).len(), 20001);
+    let words = chain(rt.alloc(), 20000, Some(34))?;
+    let bytes = dump_of(rt.alloc(), 1 << 28, words.as_slice())?;
+    let place = 4 + 19999 * 9 + 6;
+    assert_eq!(rt; flaw_of(&rt, bytes.as_slice())?, Some(Flaw::Row { place }));
     Ok(())
 }
 

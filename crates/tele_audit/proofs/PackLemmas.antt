@@ -1,0 +1,271 @@
+-- What `pack` makes of lines. Serves `packing` and `laws.packed_lines_are_listed`.
+use Rattle.std.proofs.Common.{◌≡◌, ℕ, ◌+◌, ◌-◌, ◌*◌, ◌^◌, ◌<◌, ◌≤◌, Bool, true, false, cond, List, [], ◌∷◌, length}
+use Rattle.std.proofs.Common.{Option, Some, None, refl, sym, ap, ◌∙◌, subst, arith, IfSome, IsSome}
+use Rattle.std.proofs.Common.{inl, inr, flat_map}
+use Rattle.std.proofs.lemmas.List.{length-map}
+use Rattle.std.specs.FinMap as fin
+use Rattle.std.specs.Cmp.{nat_cmp_total}
+use Rattle.std.specs.Ordering.{nat_cmp}
+use Rattle.ist_core.specs.declared.pairs.Pair.{Pair}
+use Rattle.ist_core.specs.declared.commands.Command.{Command}
+use Rattle.ist_core.specs.declared.commands.Command.TheVariants.{Put, Remove, Get}
+use Rattle.ist_core.specs.Images.{IsImage}
+use Rattle.ist_core.specs.Lawful.{CanOpen}
+use Rattle.ist_core.specs.Map.{Map, no_pairs, map_of, map_after, step, pairs_of, pairs_between, listed}
+use Rattle.ist_core.specs.Pieces.{Change}
+use Rattle.ist_core.specs.Resting.{StandsFor}
+use Rattle.ist_core.specs.RowLayout.{next_place, first_row}
+use Rattle.ist_core.specs.Shapes.{ideal_words}
+use Rattle.ist_core.specs.StartLayout.{start}
+use Rattle.ist_links.proofs.QuietLemmas.{start_quiet}
+use Rattle.ist_rest.specs.Laws.{StandingWordsAreLawful}
+use Rattle.ist_words.specs.Laws.{PairsAreOne, LawfulWordsBreakNowhere}
+use Rattle.ist_words.specs.RestingWords.{AreLawful}
+use Rattle.ist_words.specs.WordRows.{word_at}
+use Rattle.plain_map.specs.Rising.{IsRising}
+use Rattle.plain_map.proofs.EntriesLemmas.{pairs_of-map_of}
+use Rattle.tele_lines.specs.declared.items.Cause.{Cause}
+use Rattle.tele_lines.specs.declared.items.Item.{Item}
+use Rattle.tele_lines.specs.declared.items.Item.TheVariants.{Point}
+use Rattle.tele_lines.specs.declared.items.Version.{Version}
+use Rattle.tele_lines.specs.declared.items.Version.TheVariants.{One}
+use Rattle.tele_lines.specs.Answer.{Read, Good, Bad, pair_text}
+use Rattle.tele_lines.specs.Buffers.{unread_of, TellsEndOf}
+use Rattle.tele_lines.specs.Lines.{line_limit, lines_of}
+use Rattle.tele_lines.specs.Progress.{Place, read_at, GoesTo}
+use Rattle.tele_audit.specs.declared.jobs.Job.TheVariants.{Pack, Tell}
+use Rattle.tele_audit.specs.declared.jobs.Question.TheVariants.{Between}
+use Rattle.tele_audit.specs.declared.outcomes.TheConstants.{DONE}
+use Rattle.tele_audit.specs.Dumps.{Told, IsLawfulDump}
+use Rattle.tele_audit.specs.Packing.{Left, Holds, Refuses, behind_lines, left_by, IsNewTable}
+use Rattle.tele_audit.specs.Runs.{IsPacked, IsDue}
+use Rattle.tele_audit.proofs.LawLemmas.{one_told, no_flaw}
+
+-- ---- lines
+
+-- a command adds at most one key
+pub one_more : (m : Map) (c : Command) → fin.len (map_after m c) ≤ fin.len m + 1
+one_more m (Put key value) =
+    (let long = fin.len-insert nat_cmp_total m key value in
+    let high = at (fin.contains_key m key) in omega arith)
+  where
+    at : (b : Bool) → cond b (fin.len m) (fin.len m + 1) ≤ fin.len m + 1
+    at true = omega arith
+    at false = omega arith
+one_more m (Remove key) =
+    (let long = fin.len-remove nat_cmp_total m key in
+    let high = at (fin.contains_key m key) in omega arith)
+  where
+    at : (b : Bool) → cond b (fin.len m - 1) (fin.len m) ≤ fin.len m + 1
+    at true = omega arith
+    at false = omega arith
+one_more m (Get key) = omega arith
+
+-- a point line was carried out
+module _ (m then_m : Map) (command : Command) (reply : Option ℕ)
+    (done : (then_m, reply) ≡ step m command) where
+  pub point_taken : (item : Item) → item ≡ Point command
+      → (number : ℕ) (version : Version) (lines : List Read)
+      → behind_lines m (Good number version item ∷ lines) ≡ behind_lines then_m lines
+  point_taken item is number version lines =
+      ap (λ i. behind_lines m (Good number version i ∷ lines)) is
+      ∙ ap (λ (p : Map × Option ℕ). behind_lines p.0 lines) (sym done)
+
+  pub point_few : fin.len then_m ≤ fin.len m + 1
+  point_few =
+      subst (λ n. fin.len n ≤ fin.len m + 1) (ap (λ (p : Map × Option ℕ). p.0) (sym done))
+      (one_more m command)
+
+-- no key is few
+pub none_few : (pairs : List Pair) (n : ℕ) → pairs ≡ [] → fin.len (map_of pairs) ≤ n
+none_few pairs n none =
+    subst (λ ps. fin.len (map_of ps) ≤ n) (sym none)
+    (let e : fin.len no_pairs ≡ 0 = fin.len-empty nat_cmp ℕ in omega (arith, e))
+
+-- some lines were taken into a map: what it and the lines that are unread leave is what all bytes do
+pub record IsUnderWay (bytes : List ℕ) (m : Map) (place : Place) (unread : Option (List ℕ))
+    : Type 0 where
+  pub rest : List ℕ
+  pub leaves : unread ≡ Some rest
+  pub same : behind_lines m (read_at place (lines_of rest)) ≡ left_by bytes
+
+-- before the first line
+abbrev pub first_place : Place
+first_place = record { limit = line_limit; count = 0; mode = None }
+
+all_unread : (left : Option (List ℕ))
+    → IfSome left (λ bytes. IsUnderWay bytes no_pairs first_place (unread_of [] false left))
+all_unread None = tt
+all_unread (Some bytes) = record { rest = bytes; leaves = refl; same = refl }
+
+pub way_first : (left : Option (List ℕ)) (kept : List ℕ) (ended : Bool) (place : Place) (m : Map)
+    → kept ≡ [] → ended ≡ false → place ≡ first_place → m ≡ no_pairs
+    → IfSome left (λ bytes. IsUnderWay bytes m place (unread_of kept ended left))
+way_first left kept ended place m none going first empty =
+    let P = λ (kept : List ℕ) (ended : Bool) (place : Place) (m : Map).
+    IfSome left (λ bytes. IsUnderWay bytes m place (unread_of kept ended left)) in
+    subst (λ n. P kept ended place n) (sym empty)
+    (subst (λ p. P kept ended p no_pairs) (sym first)
+    (subst (λ e. P kept e first_place no_pairs) (sym going)
+    (subst (λ k. P k false first_place no_pairs) (sym none) (all_unread left))))
+
+module _ (m : Map) (old : Place) (unread : Option (List ℕ)) where
+  -- one more line
+  pub way_on : (left later : Option (List ℕ)) (then_m : Map) (new : Place) (ended : Bool)
+      (number : ℕ) (version : Version) (item : Item)
+      → IfSome left (λ bytes. IsUnderWay bytes m old unread)
+      → IfSome unread
+      (λ bytes. GoesTo old new ended (Good number version item ∷ []) bytes later)
+      → ((number : ℕ) (version : Version) (lines : List Read)
+      → behind_lines m (Good number version item ∷ lines) ≡ behind_lines then_m lines)
+      → IfSome left (λ bytes. IsUnderWay bytes then_m new later)
+  way_on None later then_m new ended number version item way goes taken = tt
+  way_on (Some bytes) later then_m new ended number version item way goes taken =
+      let next : GoesTo old new ended (Good number version item ∷ []) way.rest later =
+      subst (λ u. IfSome u
+      (λ bytes. GoesTo old new ended (Good number version item ∷ []) bytes later)) way.leaves goes
+      in
+      record {
+        rest = next.rest;
+        leaves = next.left;
+        same = sym (taken number version (read_at new (lines_of next.rest)))
+            ∙ ap (behind_lines m) (sym next.reads) ∙ way.same;
+      }
+
+  -- no line asks for more
+  pub way_done : (left : Option (List ℕ)) → IfSome left (λ bytes. IsUnderWay bytes m old unread)
+      → IfSome unread (λ bytes. read_at old (lines_of bytes) ≡ [])
+      → IfSome left (λ bytes. left_by bytes ≡ Holds m)
+  way_done None way none = tt
+  way_done (Some bytes) way none =
+      let here : read_at old (lines_of way.rest) ≡ [] =
+      subst (λ u. IfSome u (λ bytes. read_at old (lines_of bytes) ≡ [])) way.leaves none in
+      sym way.same ∙ ap (behind_lines m) here
+
+  -- a line is bad
+  pub way_bad : (left : Option (List ℕ)) (number : ℕ) (cause : Cause)
+      → IfSome left (λ bytes. IsUnderWay bytes m old unread)
+      → IfSome unread (λ bytes. read_at old (lines_of bytes) ≡ Bad number cause ∷ [])
+      → IfSome left (λ bytes. left_by bytes ≡ Refuses number cause)
+  way_bad None number cause way bad = tt
+  way_bad (Some bytes) number cause way bad =
+      let here : read_at old (lines_of way.rest) ≡ Bad number cause ∷ [] =
+      subst (λ u. IfSome u (λ bytes. read_at old (lines_of bytes) ≡ Bad number cause ∷ [])) way.leaves
+      bad in
+      sym way.same ∙ ap (behind_lines m) here
+
+-- the source has nothing left once its end was told
+pub whole_if : (left now : Option (List ℕ)) (ended : Bool) → (IsSome left → TellsEndOf ended now)
+    → ended ≡ true → IfSome left (λ _. now ≡ Some [])
+whole_if None now ended tells is = tt
+whole_if (Some bytes) now ended tells is = (tells refl).none is
+
+-- ---- new tables
+
+-- the words of a new table stand for its pairs, and no call
+abbrev stands_new : (m : Map) (words : List ℕ) → IsNewTable m words
+    → StandsFor words (pairs_of m) []
+stands_new m words table = record {
+  log = [];
+  lawful = record { opens = table.opens; enabled = tt };
+  image = table.image;
+  resolved = λ caller base change e owner. absurd (start_quiet (pairs_of m) (length words) base
+      (Change change) e);
+  calls = [];
+  told_are = refl;
+  at_rest = refl;
+  stand = tt;
+}
+
+-- there are as many pairs as keys
+pub length-pairs_of : (m : Map) → length (pairs_of m) ≡ fin.len m
+length-pairs_of m = length-map {A = ℕ × ℕ} (fin.entries m) (λ e. record { key = e.0; value = e.1 })
+    ∙ sym (fin.len-entries m)
+
+-- a table may begin with so many
+pub can_open : (pairs plain : List Pair) (m : Map) (first ideal : ℕ) → pairs ≡ plain
+    → plain ≡ pairs_of m → IsRising plain → fin.len m ≤ 2 ^ 24 → first ≡ first_row
+    → ideal ≡ ideal_words (length pairs) → ideal ≤ 9 * length pairs → CanOpen pairs (first + ideal)
+can_open pairs plain m first ideal same is rising few e f most =
+    let long = length-pairs_of m in
+    let a = ap (λ (ps : List Pair). length ps) same in
+    let b = ap (λ (ps : List Pair). length ps) is in
+    record {
+      rising = subst IsRising (sym same) rising;
+      room = omega (arith, e, f);
+      within = omega (arith, a, b, long, few, e, most);
+    }
+
+-- the image of a table of these pairs, with no word more than they need
+pub table_laid : (pairs : List Pair) (m : Map) (words : List ℕ) (count : ℕ) → pairs ≡ pairs_of m
+    → CanOpen pairs count → count ≡ first_row + ideal_words (length pairs) → length words ≡ count
+    → IsImage (start pairs count) words → ((place : ℕ) → word_at words place < 2 ^ 64)
+    → IsNewTable m words
+table_laid pairs m words count is opens least size image fit = record {
+  opens = subst (λ ps. CanOpen ps (length words)) is
+      (subst (λ n. CanOpen pairs n) (sym size) opens);
+  fit = fit;
+  size = size ∙ least ∙ ap (λ (ps : List Pair). first_row + ideal_words (length ps)) is;
+  image = subst (λ ps. IsImage (start ps (length words)) words) is
+      (subst (λ n. IsImage (start pairs n) words) (sym size) image);
+}
+
+-- they hold its pairs, and are lawful at rest
+pub lawful_new : StandingWordsAreLawful → (m : Map) (words : List ℕ) → IsNewTable m words
+    → AreLawful words (pairs_of m)
+lawful_new law m words table =
+    subst (λ pairs. AreLawful words pairs) (pairs_of-map_of (pairs_of m) table.opens.rising)
+    (law words (pairs_of m) [] (stands_new m words table))
+
+-- ---- the laws
+
+-- what was packed
+due_packed : (bytes dump : List ℕ) → IsDue Pack bytes dump DONE → IsPacked bytes dump DONE
+due_packed bytes dump due = elim due [
+  | inl packed ↦ packed
+  | inr bad ↦ absurd (omega (arith, bad.status_is))
+]
+
+same_left : (m n : Map) (left : Left) → left ≡ Holds m → left ≡ Holds n → m ≡ n
+same_left m n left e f = cc (e, f)
+
+-- the dump tells the pairs of the map
+pub packed_told : StandingWordsAreLawful → (bytes dump : List ℕ) (m : Map) → left_by bytes ≡ Holds m
+    → IsDue Pack bytes dump DONE
+    → (told : Told) × IsLawfulDump dump told × (told.pairs ≡ pairs_of m)
+packed_told law bytes dump m is due =
+    let packed = due_packed bytes dump due in
+    let words = packed.words in (
+      record {
+        words = length words;
+        used = word_at words next_place;
+        pairs = pairs_of packed.m;
+      },
+      record {
+        table = words;
+        fit = packed.table.fit;
+        lawful = lawful_new law packed.m words packed.table;
+        dumped = packed.text_is;
+        words = refl;
+        used = refl;
+      },
+      ap pairs_of (same_left packed.m m (left_by bytes) packed.left is),
+    )
+
+-- and a list has an interval of them
+pub packed_listed : StandingWordsAreLawful → LawfulWordsBreakNowhere → PairsAreOne
+    → (bytes dump text : List ℕ) (m : Map) (first last status : ℕ) → left_by bytes ≡ Holds m
+    → IsDue Pack bytes dump DONE → IsDue (Tell (Between first last)) dump text status
+    → (status ≡ DONE) × (text ≡ flat_map (pair_text One) (listed first last m))
+packed_listed law nowhere one bytes dump text m first last status is due answer =
+    let told = packed_told law bytes dump m is due in
+    elim answer [
+      | inl a ↦ (
+        a.status_is,
+        a.text_is
+            ∙ ap (λ (t : Told). flat_map (pair_text One) (pairs_between first last t.pairs))
+            (one_told one dump a.told told.0 a.lawful told.1)
+            ∙ ap (λ ps. flat_map (pair_text One) (pairs_between first last ps)) told.2,
+      )
+      | inr f ↦ absurd (no_flaw dump told.0 told.1 nowhere f.flaw f.first)
+    ]

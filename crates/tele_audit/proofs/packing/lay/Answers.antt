@@ -1,0 +1,41 @@
+use Rattle.std.proofs.Common.{◌+◌, ◌∙◌, ap, length, arith, List}
+use Rattle.ist_core.specs.declared.pairs.Pair.{Pair}
+use Rattle.ist_core.specs.Map.{map_of}
+use Rattle.tele_audit.proofs.PackLemmas.{length-pairs_of, can_open, table_laid, lawful_new}
+use Rattle.tele_audit.proofs.packing.lay.Goals as goal
+
+-- there are as many pairs as keys
+pub ideal_words-requires : goal.ideal_words-requires
+ideal_words-requires c =
+    let all = ap (λ (ps : List Pair). length ps) c.pairs-pairs.ensures.all in
+    let of_map = ap (λ (ps : List Pair). length ps) c.pairs-pairs.ensures.of_map in
+    let long = length-pairs_of (map_of c.args.plain.now) in
+    record { fits = omega (arith, all, of_map, long, c.requires.few) }
+
+-- a table may begin with them
+pub lay_image-requires : goal.lay_image-requires
+lay_image-requires c =
+    let pairs = c.pairs-pairs.ensures in
+    record {
+      opens = can_open _ _ (map_of c.args.plain.now) _ _ pairs.all pairs.of_map pairs.rising
+          c.requires.few c.from.ensures c.ideal_words.ensures.value c.ideal_words.ensures.most;
+    }
+
+-- its words are those of a new table
+pub returns-clause-table : goal.returns-clause-table
+returns-clause-table c =
+    let pairs = c.pairs-pairs.ensures in
+    table_laid _ (map_of c.args.plain.now) c.in_ok-words.words.items
+    (c.from.result + c.ideal_words.result) (pairs.all ∙ pairs.of_map)
+    (can_open _ _ (map_of c.args.plain.now) _ _ pairs.all pairs.of_map pairs.rising
+    c.requires.few c.from.ensures c.ideal_words.ensures.value c.ideal_words.ensures.most)
+    (omega (arith, c.from.ensures, c.ideal_words.ensures.value))
+    c.in_ok-words.ensures.size c.in_ok-words.ensures.image c.know_fit.ensures.fit
+
+-- and lawful at rest
+pub returns-clause-lawful : goal.returns-clause-lawful
+returns-clause-lawful c = (
+  _,
+  lawful_new c.standing_words_hold_the_map.ensures.lawful (map_of c.args.plain.now)
+      c.in_ok-words.words.items (returns-clause-table c),
+)

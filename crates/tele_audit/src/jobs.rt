@@ -1,0 +1,79 @@
+//! What a command line asks for. Its words are read by hand.
+ghost use Rattle.std.specs.Prelude.{◌≡◌, map, string_bytes};
+ghost use Rattle.tele_lines.specs.Numerals.{numeral_value};
+ghost use Rattle.tele_audit.specs.Jobs.{job_of, job_named, job_between};
+
+/// What is asked of a dump.
+#[derive(Clone, Copy, Debug, PartialEq, Eq, Drop)]
+pub(crate) enum Question {
+    /// How many keys, used words and words there are.
+    Counts,
+    /// The pairs from one key to another, both included.
+    Between { first: u64, last: u64 },
+}
+
+/// What a run is to do.
+#[derive(Clone, Copy, Debug, PartialEq, Eq, Drop)]
+pub(crate) enum Job {
+    /// To say that the words are refused.
+    Refuse,
+    /// To read lines, and to write the dump of a table of their pairs.
+    Pack,
+    /// To read a dump, and to answer a question about it.
+    Tell(Question),
+}
+
+/// What the words of a command line ask for, the program's name first.
+pub(crate) fn read_job(words: &[String]) -> Job
+    ensures value { result ≡ job_of (map string_bytes words.now) }
+{
+    match words {
+        [_, word] => named(word.as_str()),
+        [_, word, first, last] => interval(word.as_str(), first.as_str(), last.as_str()),
+        _ => Job::Refuse,
+    }
+}
+
+/// What one word asks for.
+fn named(word: &str) -> Job
+    ensures value { result ≡ job_named word.now }
+{
+    if word == "pack" {
+        Job::Pack
+    } else if word == "check" {
+        Job::Tell(Question::Counts)
+    } else {
+        Job::Refuse
+    }
+}
+
+/// What a word and two more ask for.
+fn interval(word: &str, first: &str, last: &str) -> Job
+    ensures value { result ≡ job_between word.now first.now last.now }
+{
+    if word != "list" {
+        return Job::Refuse;
+    }
+    match (number(first.as_bytes()), number(last.as_bytes())) {
+        (Some(first), Some(last)) => Job::Tell(Question::Between { first, last }),
+        _ => Job::Refuse,
+    }
+}
+
+/// The number that some bytes are: one or more ASCII digits that say less than 2^64.
+fn number(bytes: &[u8]) -> Option<u64>
+    ensures value { result ≡ numeral_value bytes.now }
+{
+    if bytes.is_empty() {
+        return None;
+    }
+    let mut value: u64 = 0;
+    for &byte in bytes {
+        if !byte.is_ascii_digit() {
+            return None;
+        }
+        let digit = u64::from(byte - b'0');
+        value = value.checked_mul(10)?.checked_add(digit)?;
+    }
+    Some(value)
+}

@@ -1,0 +1,123 @@
+//! What the program writes about a dump.
+ghost use Rattle.std.specs.Prelude.{◌≡◌, ◌≤◌, length, Err, OnOk, OnErr};
+ghost use Rattle.std.specs.List.{flat_map};
+ghost use Rattle.tele_io.specs.Bytes.{HaveRisen, Appends, AppendsPart};
+ghost use Rattle.tele_lines.specs.declared.items.Version.TheVariants.{One};
+ghost use Rattle.tele_lines.specs.Answer.{pair_text};
+ghost use Rattle.tele_audit.specs.Runs.{counts_text, said, flaw_word, flaw_text};
+
+use crate::audits::Audited;
+use crate::flaws::Flaw;
+use crate::jobs::Question;
+use crate::pieces::Piece;
+use ist_core::Pair;
+use tele_io::{Sink, SinkFault, write_whole};
+
+/// The line that tells how many keys, used words and words there are.
+fn counts_line(told: &Audited) -> Piece
+    ensures value { result ≡ counts_text told.now }
+{
+    let mut line = Piece::new();
+    line.push(b"keys ");
+    line.push_decimal(told.keys());
+    line.push(b" used ");
+    line.push_decimal(told.used());
+    line.push(b" words ");
+    line.push_decimal(told.words());
+    line.push(b"\n");
+    line
+}
+
+/// The line of a pair.
+fn pair_line(pair: Pair) -> Piece
+    ensures value { result ≡ pair_text One pair }
+{
+    let mut line = Piece::new();
+    line.push_decimal(pair.key);
+    line.push(b" ");
+    line.push_decimal(pair.value);
+    line.push(b"\n");
+    line
+}
+
+/// The word for a flaw. For a row its place comes behind it.
+fn flaw_words(flaw: Flaw) -> Piece
+    ensures value { result ≡ flaw_word flaw }
+    ensures short { length result ≤ 24 }
+{
+    let mut words = Piece::new();
+    match flaw {
+        Flaw::Magic => words.push(b"magic"),
+        Flaw::Short => words.push(b"short"),
+        Flaw::Size => words.push(b"size"),
+        Flaw::Used => words.push(b"used"),
+        Flaw::Long => words.push(b"long"),
+        Flaw::Anchor => words.push(b"anchor"),
+        Flaw::Row { place } => {
+            words.push(b"row ");
+            words.push_decimal(place);
+        }
+    }
+    words
+}
+
+/// The line that names a flaw.
+fn flaw_line(flaw: Flaw) -> Piece
+    ensures value { result ≡ flaw_text flaw }
+{
+    let mut line = Piece::new();
+    line.push(b"! dump ");
+    line.push(flaw_words(flaw).as_slice());
+    line.push(b"\n");
+    line
+}
+
+/// Writes each pair on a line of its own.
+fn write_pairs<O: Sink>(out: &mut O, pairs: &[Pair]) -> Result<(), SinkFault>
+    ensures printed { OnOk result (Appends (O.written out.old) (O.written out.new)
+        (flat_map (pair_text One) pairs.now)) }
+    ensures failed { result ≡ Err SinkFault.Failed →
+        HaveRisen (O.faults out.old) (O.faults out.new) }
+    ensures part { OnErr result (AppendsPart (O.written out.old) (O.written out.new)
+        (flat_map (pair_text One) pairs.now)) }
+    ensures counted { O.faults out.old ≤ O.faults out.new }
+{
+    for pair in pairs {
+        let line = pair_line(*pair);
+        write_whole(out, line.as_slice())?;
+    }
+    Ok(())
+}
+
+/// Writes the answer to a question about a dump.
+pub(crate) fn write_answer<O: Sink>(
+    out: &mut O,
+    question: Question,
+    told: &Audited,
+) -> Result<(), SinkFault>
+    ensures printed { OnOk result (Appends (O.written out.old) (O.written out.new)
+        (said question told.now)) }
+    ensures failed { result ≡ Err SinkFault.Failed →
+        HaveRisen (O.faults out.old) (O.faults out.new) }
+    ensures part { OnErr result (AppendsPart (O.written out.old) (O.written out.new)
+        (said question told.now)) }
+    ensures counted { O.faults out.old ≤ O.faults out.new }
+{
+    match question {
+        Question::Counts => write_whole(out, counts_line(told).as_slice()),
+        Question::Between { first, last } => write_pairs(out, told.list(first, last)),
+    }
+}
+
+/// Writes the line that names a flaw.
+pub(crate) fn write_flaw<O: Sink>(out: &mut O, flaw: Flaw) -> Result<(), SinkFault>
+    ensures printed { OnOk result (Appends (O.written out.old) (O.written out.new)
+        (flaw_text flaw)) }
+    ensures failed { result ≡ Err SinkFault.Failed →
+        HaveRisen (O.faults out.old) (O.faults out.new) }
+    ensures part { OnErr result (AppendsPart (O.written out.old) (O.written out.new)
+        (flaw_text flaw)) }
+    ensures counted { O.faults out.old ≤ O.faults out.new }
+{
+    write_whole(out, flaw_line(flaw).as_slice())
+}

@@ -1,0 +1,33 @@
+//! The program `tele_dump`: it packs lines into the dump of a table, checks a dump, and lists it.
+//!
+//! Everything that it does is `tele_audit::audit_run`, whose contract says what is written for what is
+//! read.
+#![tactic(auto)]
+
+use std::process::ExitCode;
+use std::{env, io};
+use tele_audit::audit_run;
+use tele_io::{ReadSource, WriteSink};
+
+/// The status where the arguments can't be had. `audit_run` never answers it.
+const NO_ARGUMENTS: u8 = 1;
+
+/// The words of the command line, the program's name first.
+fn words(rt: &HostRuntime) -> io::Result<Vec<String>> {
+    let mut words = Vec::new(rt.alloc());
+    for word in env::args(rt)? {
+        words.push(word)?;
+    }
+    Ok(words)
+}
+
+fn main(rt: HostRuntime) -> ExitCode {
+    let words = match words(&rt) {
+        Ok(words) => words,
+        Err(_) => return ExitCode::from(NO_ARGUMENTS),
+    };
+    let mut source = ReadSource::new(rt.stdin());
+    let mut out = WriteSink::new(rt.stdout());
+    let status = audit_run(rt.alloc(), words.as_slice(), &mut source, &mut out);
+    ExitCode::from(status)
+}
