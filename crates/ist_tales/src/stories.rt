@@ -94,12 +94,18 @@ fn tales_that_have_no_order_are_refused(rt: HostRuntime) -> Result<(), Fail> {
     let put_201 = (Put(1, 201), Some(101));
     let end = [AT_201];
     // what each thread was told, the pairs at the close, what is wrong
-    let cases: [(&[(Asked, Reply)], &[(Asked, Reply)], &[Pair], Misfit); 8] = [
+    let cases: [(&[(Asked, Reply)], &[(Asked, Reply)], &[Pair], Misfit); 9] = [
         (
             &[put_101],
             &[(Put(1, 201), Some(100))],
             &end,
             Misfit::ReplacedTwice { value: 100 },
+        ),
+        (
+            &[(Remove(1), Some(100)), (Put(1, 101), None)],
+            &[(Remove(1), Some(101)), (Put(1, 101), None)],
+            &[AT_101],
+            Misfit::WrittenTwice { value: 101 },
         ),
         (&[put_101], &[put_201], &[AT_101], Misfit::NotAtClose),
         (&[put_101], &[put_201], &[], Misfit::NotAtClose),
