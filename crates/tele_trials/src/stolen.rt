@@ -92,7 +92,8 @@ fn uneven_puts(alloc: Global, count: u64) -> Result<(Vec<u8>, Vec<u8>), AllocErr
     let mut input = Vec::new(alloc);
     let mut output = Vec::new(alloc);
     let mut plain = Plain::new(alloc);
-    for line in 1..count + 1 {
+    for number in 0..count {
+        let line = number + 1;
         let key = key_of(line);
         let put = format!(in alloc; "P {key} {line}\n")?;
         input.extend_from_slice(put.as_bytes())?;
