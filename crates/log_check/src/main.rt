@@ -16,6 +16,8 @@ mod refusal_tests;
 #[cfg(test)]
 mod samples;
 #[cfg(test)]
+mod share_tests;
+#[cfg(test)]
 mod tests;
 mod verdicts;
 
