@@ -1,7 +1,7 @@
 #!/bin/bash
-# Tests of log_check on logs of a million events with a stack of 256 KB: a chain of pair rows, also with an event too many, a
-# rebuild of all of it up to its Root, puts of one caller beside many that each hold a row, and such callers alone. Each may
-# take 60 seconds. The last line is 'N passed, M failed'.
+# Tests of log_check on small logs, lawful, unlawful and out of form (log_cases.py), and on logs of a million events with a stack of
+# 256 KB: a chain of pair rows, also with an event too many, a rebuild of all of it up to its Root, puts of one caller beside
+# many that each hold a row, and such callers alone. Each may take 60 seconds. The last line is 'N passed, M failed'.
 set -u
 here=$(cd -P -- "$(dirname -- "$0")/.." && pwd)
 program=$here/crates/log_check/out/log_check
@@ -31,6 +31,11 @@ check() {
 if [ ! -x "$program" ] || [ -n "$(find "$here"/crates/*/src -newer "$program" -print -quit)" ]; then
     (cd "$here/crates/log_check" && rt run -- --version) >"$all/built" 2>&1 || cat "$all/built"
 fi
+small=$(python3 "$here/tests/log_cases.py" "$program")
+counts=$(sed -n '$s/^\([0-9]*\) passed, \([0-9]*\) failed$/\1 \2/p' <<<"$small")
+counts=${counts:-0 1}
+passed=$((passed + ${counts% *})) failed=$((failed + ${counts#* }))
+sed '$d' <<<"$small"
 # A first put takes 11 words and each other 18, the rebuild 14 and its root 603, and each caller's row 2. The word in the
 # anchor's slot is 8 times the base of the first pair row, and 2 more, or of the rebuild, and 4 more.
 make_log chain 143000

@@ -8,8 +8,6 @@ mod clocks;
 mod command;
 mod plans;
 mod runs;
-#[cfg(test)]
-mod tests;
 mod workers;
 
 use command::{Job, read_words};

@@ -10,8 +10,6 @@ mod faults;
 mod plans;
 mod rounds;
 mod runs;
-#[cfg(test)]
-mod tests;
 mod workers;
 
 use command::{Job, read_words};

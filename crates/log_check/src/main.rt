@@ -11,14 +11,6 @@ mod faults;
 mod fields;
 mod kinds;
 mod logs;
-#[cfg(test)]
-mod refusal_tests;
-#[cfg(test)]
-mod samples;
-#[cfg(test)]
-mod share_tests;
-#[cfg(test)]
-mod tests;
 mod verdicts;
 
 use answers::answer_to;

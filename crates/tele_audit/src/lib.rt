@@ -25,10 +25,3 @@ pub use dumps::dump;
 pub use flaws::{AuditFault, Flaw};
 pub use outcomes::{BAD_LINE, DONE, FLAWED, NO_MEMORY, READ_FAILED, USAGE, WRITE_FAILED};
 pub use runs::audit_run;
-
-#[cfg(test)]
-mod run_tests;
-#[cfg(test)]
-mod second;
-#[cfg(test)]
-mod tests;

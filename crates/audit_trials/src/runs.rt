@@ -1,10 +1,10 @@
 //! The program over sources and sinks in memory.
 
-use crate::{BAD_LINE, DONE, FLAWED, READ_FAILED, USAGE, WRITE_FAILED, audit_run};
 use ist_core::{Command, Pair};
 use plain_map::Plain;
 use std::alloc::{AllocError, Global};
 use std::test::Fail;
+use tele_audit::{BAD_LINE, DONE, FLAWED, READ_FAILED, USAGE, WRITE_FAILED, audit_run};
 use tele_io::{MemorySink, MemorySource};
 
 // The words of a command line: the program's name, and these.

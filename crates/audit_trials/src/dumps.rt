@@ -3,11 +3,11 @@
 ghost use Rattle.std.specs.Prelude.{◌≤◌};
 
 use crate::second::read_again;
-use crate::{AuditFault, Audited, Flaw, audit};
 use ist_core::Pair;
 use std::alloc::{AllocError, Global};
 use std::process::Abort;
 use std::test::Fail;
+use tele_audit::{AuditFault, Audited, Flaw, audit};
 use tele_io::MemorySource;
 
 // The dump of a table of so many words that has these used words.

@@ -1,9 +1,9 @@
 //! A second reading of dumps, in plain code, that the tests compare with: it reads each number from the
 //! bytes anew, keeps the rows that were read in a list, and the way to each slot whole.
 
-use crate::flaws::Flaw;
 use ist_core::Pair;
 use std::alloc::{AllocError, Global};
+use tele_audit::Flaw;
 
 /// The most slots that are visited.
 const SLOTS: u64 = 4096;
