@@ -1,0 +1,297 @@
+#!/usr/bin/env python3
+"""Dumps, lawful and flawed, as tele_dump packs, checks and lists them.
+
+    python3 tests/dumps.py
+
+Run behind `rt ci`, which leaves the program; elsewhere it is built first. Each byte of a dump of twenty pairs is changed to six
+others, and what is said of it is compared with a second reading, in this file. The last line is 'N passed, M failed'.
+"""
+import os
+import subprocess
+import sys
+import tempfile
+from pathlib import Path
+
+TOP = Path(__file__).resolve().parent.parent
+DONE, USAGE, BAD_LINE, READ_FAILED, WRITE_FAILED, FLAWED = 0, 2, 3, 4, 5, 8
+MOST = 2**64 - 1
+HIGH = 2**28
+count = {True: 0, False: 0}
+
+
+def check(what, told, wanted):
+    count[told == wanted] += 1
+    if told != wanted:
+        print(f"{what}: wanted {str(wanted)[:300]}, and got {str(told)[:300]}")
+
+
+def program():
+    path = TOP / "crates/tele_dump/out/tele_dump"
+    newest = max(file.stat().st_mtime for file in TOP.glob("crates/*/src/*.rt"))
+    if not path.is_file() or path.stat().st_mtime < newest:
+        subprocess.run(["rt", "run", "--", "check"], cwd=TOP / "crates/tele_dump", stdin=subprocess.DEVNULL, stdout=subprocess.DEVNULL)
+    return path
+
+
+PROGRAM = program()
+
+
+def run(words, data, **environment):
+    """The status of a run over these bytes, and what it writes."""
+    ran = subprocess.run([PROGRAM, *words], input=data, capture_output=True, timeout=120, env={**os.environ, **environment})
+    return ran.returncode, ran.stdout
+
+
+def dump_of(size, words):
+    """The dump of a table of so many words that has these used words."""
+    return b"CISTDUMP" + b"".join(word.to_bytes(8, "little") for word in (size, *words))
+
+
+# The second reading: it keeps the way to each slot whole, and the rows that were read in a list.
+
+
+class Flawed(Exception):
+    """The word for a flaw."""
+
+
+def read_again(data):
+    """The pairs of a dump."""
+    number = lambda at: int.from_bytes(data[at : at + 8], "little")
+    size, used, length = number(8), number(16), len(data)
+    whole = 16 + 8 * used
+    for is_flaw, word in (
+        (data[:8] != b"CISTDUMP", "magic"),
+        (length < 16, "short"),
+        (not 4 <= size <= HIGH, "size"),
+        (length < 24, "short"),
+        (not 4 <= used <= size, "used"),
+        (length < whole, "short"),
+        (length > whole, "long"),
+        (number(32) != 0, "anchor"),
+    ):
+        if is_flaw:
+            raise Flawed(word)
+    words = [number(16 + 8 * place) for place in range(used)]
+    rows, pairs, left = [], [], [(3, words[3], 2, [])]
+    while left:
+        place, word, node, way = left.pop()
+        try:
+            read_slot(words, rows, pairs, left, place, word, node, way)
+        except (Flawed, IndexError):
+            raise Flawed(f"row {place}") from None
+    return pairs
+
+
+def claim(words, rows, base, size):
+    """The words of a row lie in bounds, and apart from the rows that were read."""
+    if base < 4 or base + size > words[0] or any(base < other + long and other < base + size for other, long in rows):
+        raise Flawed
+    rows.append((base, size))
+
+
+def read_slot(words, rows, pairs, left, place, word, node, way):
+    if word % 8 == 3:
+        change = word // 8
+        claim(words, rows, change, 9)
+        if words[change] > 2:
+            raise Flawed
+        word = words[change + (5 if words[change] == 1 else 4)]
+    base, kind = divmod(word, 8)
+    if word == 0:
+        return
+    if kind == 1:
+        claim(words, rows, base, 2)
+        key = words[base]
+        for row, index in way:
+            if sum(words[row + 3 + i] <= key for i in range(1, words[row + 2])) != index:
+                raise Flawed
+        pairs.append((key, words[base + 1]))
+        return
+    if kind == 4:
+        claim(words, rows, base, 5)
+        base = words[base]
+    elif kind != 2:
+        raise Flawed
+    if base < 4:
+        raise Flawed
+    degree = words[base + 2]
+    if not 2 <= degree <= words[0]:
+        raise Flawed
+    claim(words, rows, base, 2 * degree + 3)
+    status = words[base]
+    if not (status <= 1 or status % 4 == 3 and status // 4 < 2**32) or words[base + 3] < 2 or base <= node:
+        raise Flawed
+    keys = words[base + 4 : base + 3 + degree]
+    if any(low >= high for low, high in zip(keys, keys[1:])):
+        raise Flawed
+    for i in reversed(range(degree)):
+        at = base + 3 + degree + i
+        left.append((at, words[at], base, [*way, (base, i)]))
+
+
+def said(data):
+    """What `list 0 18446744073709551615` is to say of these bytes, with its status."""
+    try:
+        return DONE, "".join(f"{key} {value}\n" for key, value in read_again(data)).encode()
+    except Flawed as flaw:
+        return FLAWED, f"! dump {flaw}\n".encode()
+
+
+ALL = ("list", "0", str(MOST))
+ONE = (6, 0, 0, 33, 5, 7)
+
+
+def first_flaws():
+    # the number of words, the used words, the flaw
+    for size, words, flaw in [
+        (6, ONE, None),
+        (HIGH, ONE, None),
+        (HIGH, (6, 9, 0, 33, 0, 7), None),
+        (6, (6, 0, 0, 34, 5, 7), "row 3"),
+        (6, (6, 0, 0, 41, 5, 7), "row 3"),
+        (6, (6, 0, 1, 34, 5, 7), "anchor"),
+        (6, (6, 0, 1, 33, 5, 7, 0), "long"),
+        (6, (6, 0, 1, 33, 5), "short"),
+        (HIGH, (HIGH, 0, 0, 33), "short"),
+        (6, (7, 0, 0, 33, 5, 7), "used"),
+        (6, (3, 0, 0), "used"),
+        (3, (3, 0, 0), "size"),
+        (HIGH + 1, ONE, "size"),
+        (3, (), "size"),
+    ]:
+        text = f"! dump {flaw}\n" if flaw else f"keys 1 used {words[0]} words {size}\n"
+        check(f"{size} words, {words}", run(["check"], dump_of(size, words)), (FLAWED if flaw else DONE, text.encode()))
+    check("no byte", run(["check"], b""), (FLAWED, b"! dump magic\n"))
+
+
+def words_of_a_command_line():
+    # the words, the status, what is written of the dump of one pair
+    for words, status, text in [
+        ([], USAGE, "! usage\n"),
+        (["Check"], USAGE, "! usage\n"),
+        (["checks"], USAGE, "! usage\n"),
+        (["list"], USAGE, "! usage\n"),
+        (["list", "5"], USAGE, "! usage\n"),
+        (["list", "5", "+9"], USAGE, "! usage\n"),
+        (["list", "", "9"], USAGE, "! usage\n"),
+        (["list", "0", "18446744073709551616"], USAGE, "! usage\n"),
+        (["list", "0", "9", "9"], USAGE, "! usage\n"),
+        (["check", "check"], USAGE, "! usage\n"),
+        (["check", "0", "9"], USAGE, "! usage\n"),
+        (["pack", "0"], USAGE, "! usage\n"),
+        (["list", "005", str(MOST)], DONE, "5 7\n"),
+        (["list", "9", "0"], DONE, ""),
+        (["list", "0", "9"], DONE, "5 7\n"),
+        (["list", "5", "5"], DONE, "5 7\n"),
+        (["list", "6", "9"], DONE, ""),
+        (["list", "0", "4"], DONE, ""),
+    ]:
+        check(f"{words}", run(words, dump_of(6, ONE)), (status, text.encode()))
+
+
+def packed_lines():
+    check("one line", run(["pack"], b"P 5 7"), (DONE, dump_of(6, ONE)))
+    # the lines, what their dump lists
+    for lines, listed in [
+        ("", ""),
+        ("# none\n\nI 0 9\nG 5\nR 5", ""),
+        ("P 5 7\nP 6 8\nI 0 9\nR 5\nP 6 9\nP 4 1\n", "4 1\n6 9\n"),
+        (f"P {MOST} 0\r\nP 0 1\r\n", f"0 1\n{MOST} 0\n"),
+        ("V 2\nP -1 -2\n", "9223372036854775807 9223372036854775806\n"),
+    ]:
+        status, dump = run(["pack"], lines.encode())
+        check(f"pack {lines!r}", (status, *run(ALL, dump)), (DONE, DONE, listed.encode()))
+    # the lines, what is written of the first bad one
+    for lines, text in [
+        ("P 5 7\nQ 5\nP", "! 2 letter\n"),
+        ("\nP 5", "! 2 fields\n"),
+        ("P 5 -7", "! 1 number\n"),
+        ("P 5 7\nV 2\n", "! 2 letter\n"),
+    ]:
+        check(f"pack {lines!r}", run(["pack"], lines.encode()), (BAD_LINE, text.encode()))
+    seed, plain, lines = 1, {}, []
+    for _ in range(20_000):
+        seed = (seed * 6_364_136_223_846_793_005 + 1) % 2**64
+        key, value = (seed >> 32) % 700, (seed >> 40) % 1000
+        if value % 5 == 0:
+            plain.pop(key, None)
+            lines.append(f"R {key}\n")
+        else:
+            plain[key] = value
+            lines.append(f"P {key} {value}\n")
+    status, dump = run(["pack"], "".join(lines).encode())
+    listed = "".join(f"{key} {plain[key]}\n" for key in sorted(plain) if 100 <= key <= 600).encode()
+    check("many lines", (status, *run(["list", "100", "600"], dump)), (DONE, DONE, listed))
+
+
+def twenty():
+    """A row over 4 rows over 5 leaves each. Their keys are 0, 10, 20 and so on."""
+    words = [107, 4, 0, 34, 0, 3, 4, 20, 50, 100, 150, 122, 226, 330, 434]
+    for part in range(4):
+        words += [3, 0, 5, 5]
+        words += [(5 * part + j) * 10 for j in range(1, 5)]
+        words += [(67 + (5 * part + j) * 2) * 8 + 1 for j in range(5)]
+    for i in range(20):
+        words += [10 * i, 1000 + i]
+    return words
+
+
+def changed_bytes():
+    whole = dump_of(120, twenty())
+    check("the dump of twenty pairs", (len(whole), run(ALL, whole)), (872, (DONE, b"".join(b"%d %d\n" % (10 * i, 1000 + i) for i in range(20)))))
+    for at in range(len(whole)):
+        for change in (1, 2, 3, 8, 128, 255):
+            data = bytearray(whole)
+            data[at] ^= change
+            check(f"byte {at}, {change}", run(ALL, bytes(data)), said(bytes(data)))
+
+
+def parts():
+    whole = dump_of(107, twenty())
+    for length in range(len(whole)):
+        check(f"{length} bytes", run(["check"], whole[:length]), (FLAWED, b"! dump magic\n" if length < 8 else b"! dump short\n"))
+    check("a byte more", run(["check"], whole + b"\0"), (FLAWED, b"! dump long\n"))
+
+
+def chain(rows, last=None):
+    """So many rows over two slots, each in the second slot of the one before. The last slot has this word, or leads to a leaf."""
+    words = [4 + 9 * rows + 2, 0, 0, 34]
+    for i in range(rows):
+        base = 4 + 9 * i
+        below = (base + 9) * 8 + 2 if i + 1 < rows else last or (base + 9) * 8 + 1
+        words += [0, 0, 2, 2, i + 1, (base + 7) * 8 + 1, below, i, 2 * i]
+    return words + [rows, 2 * rows]
+
+
+def chains():
+    status, listed = run(ALL, dump_of(HIGH, chain(20_000)))
+    check("a long chain", (status, listed.count(b"\n")), (DONE, 20_001))
+    check("a loop", run(["check"], dump_of(HIGH, chain(20_000, last=34))), (FLAWED, f"! dump row {4 + 9 * 19_999 + 6}\n".encode()))
+
+
+def refusals(room):
+    """Each read of one byte and each write is refused in its turn."""
+    library = str(Path(room) / "refuse.so")
+    subprocess.run(["cc", "-O1", "-shared", "-fPIC", "-o", library, TOP / "tests/refuse.c", "-ldl"], check=True)
+    # the words, the bytes
+    for words, data in [(["check"], dump_of(6, ONE)), (["pack"], b"P 5 7\nP 6 8\n"), (["list", "0", "9"], dump_of(6, ONE))]:
+        whole = run(words, data)
+        for number in range(1, len(data) + 2):
+            told = run(words, data, LD_PRELOAD=library, PIECES="1", REFUSE="read", REFUSE_AT=str(number))
+            check(f"{words}, read {number} refused", told, (READ_FAILED, b""))
+        for number in range(1, len(whole[1]) + 2):
+            told = run(words, data, LD_PRELOAD=library, PIECES="1", REFUSE="write", REFUSE_AT=str(number))
+            wanted = (WRITE_FAILED, whole[1][: number - 1]) if number <= len(whole[1]) else whole
+            check(f"{words}, write {number} refused", told, wanted)
+
+
+first_flaws()
+words_of_a_command_line()
+packed_lines()
+changed_bytes()
+parts()
+chains()
+with tempfile.TemporaryDirectory() as room:
+    refusals(room)
+print(f"{count[True]} passed, {count[False]} failed")
+sys.exit(1 if count[False] else 0)
