@@ -6,6 +6,8 @@
 #
 # PROGRAM is the built program: `python3 tools/build.py ist_bench` makes out/ist_bench. bench/tree.rs is built by rustc.
 set -u
+# Both as `./tele` runs the program: the heap is kept, in huge pages.
+export GLIBC_TUNABLES=${GLIBC_TUNABLES-glibc.malloc.mmap_max=0:glibc.malloc.trim_threshold=8589934592:glibc.malloc.hugetlb=1}
 program=$(readlink -f -- "$1") seed=${2-1}
 here=$(cd -P -- "$(dirname -- "$0")" && pwd)
 all=$(mktemp -d "${TMPDIR:-/tmp}/tree.XXXXXX")

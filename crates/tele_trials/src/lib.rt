@@ -1,7 +1,6 @@
 //! Runs of the whole program, and rounds on trees: tests alone.
 //!
-//! Read `running.rt`, then `meetings.rt`, `stolen.rt`, `full_trees.rt`, `sizes.rt` and
-//! `long_inputs.rt`. Stands on `tele_run` and `tele_trees`.
+//! Read `running.rt`, then `meetings.rt`, `stolen.rt`, `full_trees.rt` and `long_inputs.rt`. Stands on `tele_run` and `tele_trees`.
 #![tactic(auto)]
 
 #[cfg(test)]
@@ -12,7 +11,5 @@ mod long_inputs;
 mod meetings;
 #[cfg(test)]
 mod running;
-#[cfg(test)]
-mod sizes;
 #[cfg(test)]
 mod stolen;

@@ -3,15 +3,10 @@ ghost use Rattle.std.specs.Prelude.{None};
 
 use crate::running::run_over;
 use ist_rest::Closed;
-use plain_map::Plain;
 use std::alloc::{AllocError, Global};
-use std::process::Abort;
-use std::sync::Wait;
 use std::test::Fail;
-use std::thread::Threads;
-use tele_generations::{NoShelf, Shelf};
+use tele_generations::Shelf;
 use tele_lanes::NoGate;
-use tele_made::Maker;
 
 /// The seconds of a day.
 const DAY: u64 = 86_400;
@@ -72,63 +67,5 @@ fn a_day_of_readings_takes_six_trees(rt: HostRuntime) -> Result<(), Fail> {
     // 86,400 lines are five rounds of 16,384 and one of 4,480; the last tree isn't given away
     assert_eq!(rt; shelf.given, 5);
     assert!(rt; ran.outcome.last.is_some());
-    Ok(())
-}
-
-/// The summary of so many made lines, by a map of one thread.
-fn summary_of_made(alloc: Global, count: u64, seed: u64) -> Result<String, AllocError> {
-    let mut plain = Plain::new(alloc);
-    let mut maker = Maker::new(seed);
-    let mut found: u64 = 0;
-    for _ in 0..count {
-        if plain.apply(maker.make())?.is_some() {
-            found = found.wrapping_add(1);
-        }
-    }
-    let keys = plain.pairs().len();
-    let sum = plain
-        .pairs()
-        .iter()
-        .fold(0u64, |sum, pair| sum.wrapping_add(pair.value));
-    format!(in alloc; "made {count} keys {keys} found {found} sum {sum}\n")
-}
-
-/// Makes 20,000 lines by so many workers, which steal where that is 1, and compares the summary.
-fn compare_made<R: Abort + Threads + Wait + Sync>(
-    rt: &R,
-    alloc: Global,
-    workers: &str,
-    steal: &str,
-) -> Result<(), Fail> {
-    let summary = summary_of_made(alloc, 20_000, 1)?;
-    let more = [
-        "--generate",
-        "20000",
-        "--seed",
-        "1",
-        "--workers",
-        workers,
-        "--steal",
-        steal,
-    ];
-    let ran = run_over(rt, alloc, &more, b"", &NoGate, &mut NoShelf)?;
-    assert_eq!(rt; ran.out.bytes(), summary.as_bytes(), "at {more:?}");
-    assert_eq!(rt; ran.outcome.status, 0, "at {more:?}");
-    Ok(())
-}
-
-#[test]
-fn made_lines_are_summed_up_as_one_map_has_them(rt: HostRuntime) -> Result<(), Fail> {
-    for workers in ["1", "4", "64"] {
-        compare_made(&rt, rt.alloc(), workers, "0")?;
-    }
-    Ok(())
-}
-
-#[test]
-fn made_lines_of_stolen_lanes_are_summed_up_so_too(rt: HostRuntime) -> Result<(), Fail> {
-    for workers in ["1", "4", "64"] {
-        compare_made(&rt, rt.alloc(), workers, "1")?;
-    }
     Ok(())
 }

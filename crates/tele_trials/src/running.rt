@@ -45,30 +45,6 @@ pub(crate) fn run_over<R: Threads + Wait + Sync, G: Gate + Sync, H: Shelf<Closed
     Ok(Ran { out, outcome })
 }
 
-/// Runs over these bytes by so many workers, which steal where that is 1, with so many words at most
-/// in a first tree.
-pub(crate) fn run_sized<R: Threads + Wait + Sync>(
-    rt: &R,
-    alloc: Global,
-    workers: u32,
-    steal: u32,
-    words: u32,
-    input: &[u8],
-) -> Result<Ran, AllocError> {
-    let workers = format!(in alloc; "{workers}")?;
-    let words = format!(in alloc; "{words}")?;
-    let steal = format!(in alloc; "{steal}")?;
-    let more = [
-        "--workers",
-        workers.as_str(),
-        "--words",
-        words.as_str(),
-        "--steal",
-        steal.as_str(),
-    ];
-    run_over(rt, alloc, &more, input, &NoGate, &mut NoShelf)
-}
-
 /// The size of a tree and how much of it was used.
 pub(crate) fn size(tree: &Closed) -> (u64, u64) {
     (tree.word_count(), tree.used())

@@ -2,9 +2,7 @@
 
 use crate::meetings::{Meeting, callers};
 use crate::running::{pairs_in, run_over};
-use ist_core::{Command, Pair};
-use plain_map::Plain;
-use std::alloc::{AllocError, Global};
+use ist_core::Pair;
 use std::sync::atomic::{AtomicU64, Ordering};
 use std::test::Fail;
 use tele_generations::NoShelf;
@@ -75,52 +73,5 @@ fn the_gate_is_told_of_lanes_by_timestamp_modulo_64(rt: HostRuntime) -> Result<(
         gate.lanes.load(Ordering::SeqCst),
         1 + (1u64 << 5) + (1u64 << 63)
     );
-    Ok(())
-}
-
-/// The key of a line: of a hundred lines one goes to its own lane, and all others to lane 0.
-fn key_of(line: u64) -> u64 {
-    if line % 100 == 0 {
-        line / 100
-    } else {
-        64 * (line % 97)
-    }
-}
-
-/// So many puts, as lines and as what a map of one thread answers to them.
-fn uneven_puts(alloc: Global, count: u64) -> Result<(Vec<u8>, Vec<u8>), AllocError> {
-    let mut input = Vec::new(alloc);
-    let mut output = Vec::new(alloc);
-    let mut plain = Plain::new(alloc);
-    for number in 0..count {
-        let line = number + 1;
-        let key = key_of(line);
-        let put = format!(in alloc; "P {key} {line}\n")?;
-        input.extend_from_slice(put.as_bytes())?;
-        let reply = match plain.apply(Command::Put { key, value: line })? {
-            Some(value) => format!(in alloc; "{line} {value}\n")?,
-            None => format!(in alloc; "{line} -\n")?,
-        };
-        output.extend_from_slice(reply.as_bytes())?;
-    }
-    Ok((input, output))
-}
-
-#[test]
-fn lanes_of_very_unequal_length_answer_as_one_map(rt: HostRuntime) -> Result<(), Fail> {
-    let (input, output) = uneven_puts(rt.alloc(), 3_000)?;
-    for workers in ["1", "2", "4", "64"] {
-        let more = ["--workers", workers, "--steal", "1", "--words", "65536"];
-        let ran = run_over(
-            &rt,
-            rt.alloc(),
-            &more,
-            input.as_slice(),
-            &NoGate,
-            &mut NoShelf,
-        )?;
-        assert!(rt; ran.out.bytes() == output.as_slice(), "by {workers}");
-        assert_eq!(rt; ran.outcome.status, 0, "by {workers}");
-    }
     Ok(())
 }
