@@ -1,11 +1,13 @@
 #!/usr/bin/env python3
-"""Large lawful logs for `log_check`, in five shapes.
+"""Large lawful logs for `log_check`, in six shapes.
 
     python3 bench/logs.py chain N       N puts of rising keys, so that pair rows hang one below the other
     python3 bench/logs.py root N        the same, and a rebuild at the anchor: all rows are marked, passed and finished, and its Root
     python3 bench/logs.py callers N     N callers that each hold a row
     python3 bench/logs.py crowd N       the same, and N puts of rising keys of one caller among them
     python3 bench/logs.py rebuilds N    N rebuilds of four pairs at the anchor, one behind the other; each builds three rows
+    python3 bench/logs.py sizes N       N puts of rising keys, and a rebuild at each row but the last eight, whose targets are finished
+                                        with as many numbers of keys; and N callers that each begin a build
 """
 import math
 import sys
@@ -42,29 +44,42 @@ class Log:
         return row, to, word
 
 
-def chain(log, puts):
-    """Answers the pair rows from the top on, each with its base and the words in its slots."""
+def chain(log, puts, counted=0):
+    """Answers the pair rows from the top on, each with its base and the words in its slots. Each put is counted at the last rows."""
     _, _, leaf = log.put(2, 0, 0, 1, False)
     node, index, rows = 2, 0, []
     for key in range(2, puts + 1):
         row, to, word = log.put(node, index, leaf, key, True)
         if rows:
             rows[-1][2] = to
+        for above, _, _ in rows[len(rows) - min(counted, len(rows)):]:
+            log.say(f"Count 0 {above}")
         rows.append([row, leaf, word])
         node, index, leaf = row, 1, word
     return rows
 
 
-def rebuild(log, rows):
-    top, keys = rows[0][0], len(rows) + 1
+def start(log, target, node, index):
+    """Starts a rebuild of a row in a slot, and answers the base of the rebuild."""
     row, change = log.reserve(0, 5), log.reserve(0, 9)
-    log.say(f"Install 0 {change} {change}=0,3,2,0,{top * 8 + 2},{row * 8 + 4},0,0,0;{row}={top},2,0,7,0")
+    log.say(f"Install 0 {change} {change}=0,3,{node},{index},{target * 8 + 2},{row * 8 + 4},0,0,0;{row}={target},{node},{index},7,0")
     log.decide(change)
+    return row
+
+
+def freeze(log, rows):
+    """Marks, passes and finishes all rows."""
     for base, left, right in rows:
         for line in (f"Mark 0 {base}", f"Pass 0 {base} 0 {left}", f"Pass 0 {base} 1 {right}"):
             log.say(line)
     for above, (base, _, _) in enumerate(reversed(rows)):
         log.say(f"Finish 0 {base} {above + 2}")
+
+
+def rebuild(log, rows):
+    keys = len(rows) + 1
+    row = start(log, rows[0][0], 2, 0)
+    freeze(log, rows)
     degree = max(2, math.isqrt(keys))
     if keys >= 256:
         root = log.reserve(0, 2 * degree + 3)
@@ -83,9 +98,7 @@ def rebuilds(log, number):
     """Each rebuild of the tree over four leaves replaces the row that the one before it has made."""
     top, parts, leaves = 4, (11, 22), (145, 161, 233, 249)
     for _ in range(number):
-        row, change = log.reserve(0, 5), log.reserve(0, 9)
-        log.say(f"Install 0 {change} {change}=0,3,2,0,{top * 8 + 2},{row * 8 + 4},0,0,0;{row}={top},2,0,7,0")
-        log.decide(change)
+        row = start(log, top, 2, 0)
         log.say(f"Mark 0 {top}")
         for i, part in enumerate(parts):
             log.say(f"Pass 0 {top} {i} {part * 8 + 2}")
@@ -104,6 +117,22 @@ def rebuilds(log, number):
         log.decide(change)
 
 
+def sizes(log, number):
+    """Each row that was counted eight times is due. Its rebuild stands in the slot of the row above it."""
+    rows = chain(log, number, 8)
+    node, index = 2, 0
+    for above, row in zip([None, *rows], rows[:-8]):
+        word = start(log, row[0], node, index) * 8 + 4
+        if above:
+            above[2] = word
+        node, index = row[0], 1
+    freeze(log, rows)
+    for caller in range(1, number + 1):
+        log.say(f"Enter {caller}")
+        log.reserve(caller, 11)
+        log.reserve(caller, 2)
+
+
 def main():
     shape, number, log = sys.argv[1], int(sys.argv[2]), Log()
     if shape == "rebuilds":
@@ -116,6 +145,8 @@ def main():
             callers(log, number, 1)
         if shape == "rebuilds":
             rebuilds(log, number)
+        elif shape == "sizes":
+            sizes(log, number)
         else:
             rows = chain(log, number)
         if shape == "root":

@@ -138,6 +138,8 @@ slots_apart past slots ways pairs words log it =
       updates = it.updates;
       refused = it.refused;
       started = it.started;
+      targets = it.targets;
+      lists = it.lists;
       builds = it.builds;
     }
 

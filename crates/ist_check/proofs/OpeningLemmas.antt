@@ -23,6 +23,9 @@ use Rattle.ist_check_events.specs.Remembering.{
   KnowsUpdates,
   KnowsRefusals,
   KnowsStarts,
+  IsTargeted,
+  KnowsTargets,
+  KnowsLists,
   seen_builds,
 }
 use Rattle.ist_check_state.specs.Remembered.{TellsBuilds}
@@ -75,6 +78,25 @@ module _ (pairs : List Pair) (words : ℕ) where
     λ h. absurd
         (unstarted rebuild h),
   )
+
+  untargeted : (node : ℕ) → ¬ (IsTargeted (start pairs words) node)
+  untargeted node it = unstarted it.rebuild it.started
+
+  pub no_targets : (set : BTreeSet ℕ) → set.keys ≡ [] → KnowsTargets set (start pairs words)
+  no_targets set empty node = (
+    λ h. absurd (holds_none set node empty h),
+    λ it. absurd (untargeted node it),
+  )
+
+  pub no_lists : (set : BTreeSet ℕ) → set.keys ≡ [] → KnowsLists set [] (start pairs words)
+  no_lists set empty =
+      record {
+        keys = λ k. (
+          λ h. absurd (holds_none set k empty h),
+          λ it. absurd (untargeted it.node it.targeted),
+        );
+        building = λ l. (λ b. absurd (unstarted b.rebuild b.started), λ a. absurd a);
+      }
 
   pub no_refusals : (set : BTreeSet ℕ) → set.keys ≡ [] → KnowsRefusals set (start pairs words)
   no_refusals set empty caller node _ _ = (

@@ -10,8 +10,9 @@ ghost use Rattle.ist_check.specs.Knowing.{Remembers};
 
 use ist_check_events::{Past, Replica};
 use ist_check_state::{
-    remember_build, remember_call, remember_draw, remember_okay, remember_pass, remember_refusal,
-    remember_start, remember_update, slots_of_start, ways_of_start,
+    remember_build, remember_call, remember_draw, remember_lists, remember_okay, remember_pass,
+    remember_refusal, remember_start, remember_target, remember_update, slots_of_start,
+    ways_of_start,
 };
 use ist_core::Event;
 use std::alloc::{AllocError, Global};
@@ -41,6 +42,9 @@ pub(crate) fn open_past(alloc: Global, replica: &Replica) -> Result<Past, AllocE
         started: BTreeSet::new(alloc),
         builds: Vec::new(alloc),
         since: BTreeMap::new(alloc),
+        targets: BTreeSet::new(alloc),
+        counts: BTreeSet::new(alloc),
+        lists: Vec::new(alloc),
     })
 }
 
@@ -69,5 +73,14 @@ pub(crate) fn remember(
     remember_update(alloc, replica, &mut past.updates, event)?;
     remember_refusal(replica, &mut past.refused, event)?;
     remember_start(replica, &mut past.started, event)?;
+    remember_lists(
+        alloc,
+        replica,
+        &past.targets,
+        &mut past.counts,
+        &mut past.lists,
+        event,
+    )?;
+    remember_target(replica, &mut past.targets, event)?;
     remember_build(alloc, &mut past.builds, &mut past.since, event)
 }

@@ -1,43 +1,35 @@
 //! When held rows may be given up.
-ghost use Rattle.std.specs.Prelude.{◌≡◌, ◌↔◌, ℕ, IsTrue, IfOk, List, map};
+ghost use Rattle.std.specs.Prelude.{◌≡◌, ◌↔◌, IsTrue, map};
 ghost use Rattle.std.specs.Ordering.{nat_cmp};
 ghost use Rattle.std.specs.BTreeMap as tree;
-ghost use Rattle.ist_core.specs.Elements.{Among, Distinct};
+ghost use Rattle.ist_core.specs.Elements.{Distinct};
 ghost use Rattle.ist_core.specs.Snapshots.{Snapshot};
 ghost use Rattle.ist_core.specs.Logs.{Log};
 ghost use Rattle.ist_core.specs.Building.{CanLose, LosesPair, LosesBuild, HoldsSizes, IsBeaten};
 ghost use Rattle.ist_check_builds.specs.Losing.{HasRowAbove, IsTooLate, IsOneTooLate};
 ghost use Rattle.ist_check_events.specs.Mirroring.{Mirrors};
-ghost use Rattle.ist_check_events.specs.Remembering.{KnowsStarts, KnowsBuilds, seen_builds};
+ghost use Rattle.ist_check_events.specs.Remembering.{KnowsLists, KnowsBuilds, seen_builds};
 
-use ist_check_events::{Past, Replica, are_same, building_lists, holds_row};
+use ist_check_events::{Past, Replica, holds_row, is_listed};
 use ist_layout::PAIR_WORDS;
-use std::alloc::{AllocError, Global};
 
 /// May the caller give up the rows at these bases?
-pub fn can_lose(
-    alloc: Global,
-    replica: &Replica,
-    past: &Past,
-    caller: u64,
-    bases: &[u64],
-) -> Result<bool, AllocError>
-    ensures exact { IfOk result (λ may. (t : Snapshot) (log : Log) → Mirrors replica.now t
-        → KnowsStarts past.now.started t
+pub fn can_lose(replica: &Replica, past: &Past, caller: u64, bases: &[u64]) -> bool
+    ensures exact { (t : Snapshot) (log : Log) → Mirrors replica.now t
+        → KnowsLists past.now.counts (map (λ v. v.items) past.now.lists.items) t
         → KnowsBuilds past.now.since (map (λ v. v.items) past.now.builds.items) log
-        → (IsTrue may ↔ CanLose t log caller bases.now)) }
+        → (IsTrue result ↔ CanLose t log caller bases.now) }
 {
     if caller >= replica.callers {
-        return Ok(false);
+        return false;
     }
     if loses_pair(replica, caller, bases) {
-        return Ok(true);
+        return true;
     }
     if !are_distinct(bases) {
-        return Ok(false);
+        return false;
     }
-    let lists = building_lists(alloc, replica, past)?;
-    Ok(is_one_too_late(replica, past, caller, bases, lists.as_slice()))
+    is_one_too_late(replica, past, caller, bases, past.lists.as_slice())
 }
 
 /// Is one of the lists that of the sizes of rows at these bases that come too late?
@@ -118,18 +110,6 @@ fn has_row_above(replica: &Replica, base: u64) -> bool
         None => false,
         Some((node, _)) => *node > base,
     }
-}
-
-/// Is the list one of these?
-fn is_listed(lists: &[Vec<u64>], sizes: &[u64]) -> bool
-    ensures exact { IsTrue result ↔ Among sizes.now (map (λ v. v.items) lists.now) }
-{
-    for list in lists {
-        if are_same(sizes, list.as_slice()) {
-            return true;
-        }
-    }
-    false
 }
 
 /// Did another caller put a build of these sizes in place, behind the last of the caller?

@@ -1,13 +1,12 @@
--- Shapes, the building lists of one rebuild, and each number once. Serves `shapes.rt`.
+-- Shapes, the building lists of one rebuild, and each list once. Serves `shapes.rt`.
 use Rattle.std.proofs.Common.{◌≡◌, ◌↔◌, ◌∙◌, ◌+◌, ◌-◌, ◌*◌, ◌%◌, ◌<◌, ◌≤◌, ◌⊎◌, ℕ, zero, suc, Bool}
-use Rattle.std.proofs.Common.{true, false, nat_lt, if◌then◌else◌, List, [], ◌∷◌, ◌++◌, length}
-use Rattle.std.proofs.Common.{get_or, take, map, refl, sym, ap, subst, inl, inr, ⊎_elim}
+use Rattle.std.proofs.Common.{true, false, nat_lt, if◌then◌else◌, List, [], ◌∷◌, ◌++◌}
+use Rattle.std.proofs.Common.{map, refl, sym, ap, subst, inl, inr, ⊎_elim}
 use Rattle.std.proofs.Common.{append_assoc, append-nil, arith}
 use Rattle.std.specs.List.{flat_map, range_with_len}
 use Rattle.std.proofs.lemmas.Bool.{cases_lt}
 use Rattle.std.proofs.lemmas.Bool.Decides.{nat_tests}
 use Rattle.std.proofs.lemmas.Grind.{flat_map-append}
-use Rattle.std.proofs.lemmas.List.{take_more}
 use Rattle.std.proofs.lemmas.List.FromFn.{map-range_with_len_more}
 use Rattle.ist_core.specs.Arithmetic.{degree, part_len, part_lens}
 use Rattle.ist_core.specs.RowLayout.{inner_words}
@@ -109,39 +108,35 @@ build_listed k _ two (build_part j n m) =
     (grind (arith, nat_tests))
     (inr (⊎_elim (λ e. inl (ap shape e)) (λ e. inr (inl (ap shape e))) (part_first_or_last k j m)))
 
--- ---- each number once
+-- ---- each list once
 
-pub once_more : (xs old new : List ℕ) (i n : ℕ) → i < length xs
-    → ((x : ℕ) → Among x new ↔ (Among x old ⊎ (x ≡ get_or xs i n)))
-    → ((x : ℕ) → Among x old ↔ Among x (take i xs)) → (x : ℕ)
-    → Among x new ↔ Among x (take (i + 1) xs)
-once_more xs old new i n h added so x =
-    let whole = take_more xs i n h in (
-      (λ a.
-          subst (Among x) (sym whole)
-          (⊎_elim (λ b. among_left x (take i xs) (get_or xs i n ∷ []) ((so x).0 b))
-          (λ e. among_right x (take i xs) (get_or xs i n ∷ []) (inl e)) ((added x).0 a))),
-      (λ a.
-          (added x).1
-          (⊎_elim (λ b. inl ((so x).1 b)) (λ c. inr (⊎_elim (λ e. e) (λ n. absurd n) c))
-          (among-append x (take i xs) (get_or xs i n ∷ []) (subst (Among x) whole a)))),
-    )
+-- what is among them needn't be added
+pub list_known : (xs : List (List ℕ)) (n : List ℕ) → Among n xs → (x : List ℕ)
+    → Among x xs ↔ (Among x xs ⊎ (x ≡ n))
+list_known xs n a x = (inl, (λ h. ⊎_elim (λ b. b) (λ e. subst (λ y. Among y xs) (sym e) a) h))
 
-pub once_known : (xs : List ℕ) (n : ℕ) → Among n xs → (x : ℕ) → Among x xs ↔ (Among x xs ⊎ (x ≡ n))
-once_known xs n a x = (inl, (λ h. ⊎_elim (λ b. b) (λ e. subst (λ y. Among y xs) (sym e) a) h))
-
-pub once_pushed : (xs new : List ℕ) (n : ℕ) → new ≡ xs ++ n ∷ [] → (x : ℕ)
+pub list_pushed : (xs new : List (List ℕ)) (n : List ℕ) → new ≡ xs ++ n ∷ [] → (x : List ℕ)
     → Among x new ↔ (Among x xs ⊎ (x ≡ n))
-once_pushed xs new n e x =
+list_pushed xs new n e x =
     subst (λ ys. Among x ys ↔ (Among x xs ⊎ (x ≡ n))) (sym e) (
       (λ a. ⊎_elim inl (λ c. inr (⊎_elim (λ i. i) (λ none. absurd none) c))
           (among-append x xs (n ∷ []) a)),
       (λ h. ⊎_elim (among_left x xs (n ∷ [])) (λ i. among_right x xs (n ∷ []) (inl i)) h),
     )
 
+-- to some lists one was added
+abbrev pub AddsList : List (List ℕ) → List (List ℕ) → List ℕ → Type 0
+AddsList old new n = (l : List ℕ) → Among l new ↔ (Among l old ⊎ (l ≡ n))
+
+pub adds_same : (old new : List (List ℕ)) (a b : List ℕ) → a ≡ b → AddsList old new a → AddsList old new b
+adds_same old new a b e adds = subst (AddsList old new) e adds
+
 -- ---- what the code adds
 
-pub lists_small : (k : ℕ) → 2 ≤ k → k < share_from → shape k ∷ [] ≡ lists_of k
+lists_few : (k : ℕ) → k < 2 → [] ≡ lists_of k
+lists_few k n = let a : nat_lt k 2 ≡ true = grind (arith, nat_tests) in rw a refl
+
+lists_small : (k : ℕ) → 2 ≤ k → k < share_from → shape k ∷ [] ≡ lists_of k
 lists_small k n m =
     let a : nat_lt k 2 ≡ false = grind (arith, nat_tests) in
     let b : nat_lt k share_from ≡ true = grind (arith, nat_tests) in
@@ -155,18 +150,52 @@ lists_large k n m =
     let b : nat_lt k share_from ≡ false = grind (arith, nat_tests) in
     rw (a, b) refl
 
--- the top row alone, and behind it the shapes of the first part and of the last
-pub lists_whole : (k d first last : ℕ) (old mid next out : List (List ℕ)) → 2 ≤ k → share_from ≤ k
-    → d ≡ degree k
-    → mid ≡ old ++ ((2 * d + 3) ∷ []) ∷ [] → first ≡ part_len k 0 → next ≡ mid ++ shape first ∷ []
-    → last ≡ part_len k (d - 1) → out ≡ next ++ shape last ∷ [] → out ≡ old ++ lists_of k
-lists_whole k d first last old mid next out n m e p f i l o =
-    let top = (2 * d + 3) ∷ [] in
-    o ∙ ap (λ xs. xs ++ shape last ∷ []) i ∙ ap (λ xs. (xs ++ shape first ∷ []) ++ shape last ∷ [])
-    p
-    ∙ append_assoc (old ++ top ∷ []) (shape first ∷ []) (shape last ∷ [])
-    ∙ append_assoc old (top ∷ []) (shape first ∷ shape last ∷ [])
-    ∙ ap (λ x. old ++ top ∷ shape x ∷ shape last ∷ []) f
-    ∙ ap (λ x. old ++ top ∷ shape (part_len k 0) ∷ shape x ∷ []) l
-    ∙ ap (λ x. old ++ ((2 * x + 3) ∷ []) ∷ shape (part_len k 0) ∷ shape (part_len k (x - 1)) ∷ []) e
-    ∙ ap (λ xs. old ++ xs) (lists_large k n m)
+-- to some lists the building lists of k keys were added
+abbrev pub AddsLists : List (List ℕ) → List (List ℕ) → ℕ → Type 0
+AddsLists old new k = (l : List ℕ) → Among l new ↔ (Among l old ⊎ Among l (lists_of k))
+
+-- of fewer than two keys there are none
+pub adds_none : (k : ℕ) → k < 2 → (lists : List (List ℕ)) → AddsLists lists lists k
+adds_none k n lists l =
+    subst (λ (xs : List (List ℕ)). Among l lists ↔ (Among l lists ⊎ Among l xs)) (lists_few k n)
+    (inl, (λ h. ⊎_elim (λ a. a) (λ none. absurd none) h))
+
+-- of few keys there is one
+pub adds_one : (k : ℕ) → 2 ≤ k → k < share_from → (old new : List (List ℕ))
+    → AddsList old new (shape k) → AddsLists old new k
+adds_one k n m old new adds l =
+    subst (λ (xs : List (List ℕ)). Among l new ↔ (Among l old ⊎ Among l xs)) (lists_small k n m) (
+      (λ a. ⊎_elim inl (λ e. inr (inl e)) ((adds l).0 a)),
+      (λ h. (adds l).1 (⊎_elim inl (λ c. inr (⊎_elim (λ e. e) (λ none. absurd none) c)) h)),
+    )
+
+-- of many keys there are the top row alone, and the shapes of the first part and of the last
+pub adds_three : (k d first last : ℕ) (old mid next new : List (List ℕ)) → 2 ≤ k → share_from ≤ k
+    → d ≡ degree k → first ≡ part_len k 0 → last ≡ part_len k (d - 1)
+    → AddsList old mid (inner_words d ∷ []) → AddsList mid next (shape first)
+    → AddsList next new (shape last) → AddsLists old new k
+adds_three k d first last old mid next new n m e f g top one two l =
+    subst (λ (xs : List (List ℕ)). Among l new ↔ (Among l old ⊎ Among l xs))
+    (same ∙ lists_large k n m) (
+      (λ h.
+          ⊎_elim
+          (λ x.
+          ⊎_elim (λ y. ⊎_elim inl (λ t. inr (inl t)) ((top l).0 y)) (λ s. inr (inr (inl s)))
+          ((one l).0 x))
+          (λ s. inr (inr (inr (inl s)))) ((two l).0 h)),
+      (λ h. ⊎_elim (λ x. (two l).1 (inl ((one l).1 (inl ((top l).1 (inl x)))))) listed h),
+    )
+  where
+    same : (inner_words d ∷ []) ∷ shape first ∷ shape last ∷ []
+        ≡ (inner_words (degree k) ∷ []) ∷ shape (part_len k 0)
+        ∷ shape (part_len k (degree k - 1)) ∷ []
+    same =
+        ap (λ x. (inner_words d ∷ []) ∷ shape x ∷ shape last ∷ []) f
+        ∙ ap (λ x. (inner_words d ∷ []) ∷ shape (part_len k 0) ∷ shape x ∷ []) g
+        ∙ ap (λ x. (inner_words x ∷ []) ∷ shape (part_len k 0) ∷ shape (part_len k (x - 1)) ∷ []) e
+
+    listed : Among l ((inner_words d ∷ []) ∷ shape first ∷ shape last ∷ []) → Among l new
+    listed (inl t) = (two l).1 (inl ((one l).1 (inl ((top l).1 (inr t)))))
+    listed (inr (inl s)) = (two l).1 (inl ((one l).1 (inr s)))
+    listed (inr (inr (inl s))) = (two l).1 (inr s)
+    listed (inr (inr (inr none))) = absurd none

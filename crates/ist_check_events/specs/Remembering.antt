@@ -13,14 +13,15 @@ use Rattle.ist_core.specs.Elements.{Among}
 use Rattle.ist_core.specs.Pieces.{Change}
 use Rattle.ist_core.specs.Logs.{Log, Ever, Happened, Okays, Passes, Draws, Counts}
 use Rattle.ist_core.specs.Links.{IsChild, Linked, WasLinked, WasLedTo, WasOnChain}
-use Rattle.ist_core.specs.Rebuilding.{IsStarted}
+use Rattle.ist_core.specs.Rebuilding.{IsStarted, IsFinishedWith}
 use Rattle.ist_core.specs.Deciding.{IsUpdateOf, SaysYes}
 use Rattle.ist_core.specs.Building.{IsBeaten}
-use Rattle.ist_core.specs.Marking.{IsCalled}
+use Rattle.ist_core.specs.Marking.{HasTarget, IsCalled}
 use Rattle.ist_check_events.specs.declared.pasts.LastUpdate.{LastUpdate}
 use Rattle.ist_check_events.specs.declared.pasts.Slot.{Slot}
 use Rattle.ist_check_events.specs.declared.pasts.Way.{Way}
 use Rattle.ist_check_events.specs.Answers.{FindsGreatest, Holds}
+use Rattle.ist_check_events.specs.Searching.{AreBuilding}
 
 -- numbers of two words, as one key
 abbrev pub pair_key : ℕ → ℕ → ℕ
@@ -120,6 +121,33 @@ KnowsRefusals refused t =
 -- the set is that of the started rebuilds
 abbrev pub KnowsStarts : BTreeSet ℕ → Snapshot → Type 0
 KnowsStarts started t = (rebuild : ℕ) → Holds started rebuild ↔ IsStarted t rebuild
+
+-- ---- targets and building lists
+
+-- the node is the target of a started rebuild
+pub record IsTargeted (t : Snapshot) (node : ℕ) : Type 0 where
+  pub rebuild : ℕ
+  pub of : HasTarget t rebuild node
+  pub started : IsStarted t rebuild
+
+-- the set is that of these targets
+abbrev pub KnowsTargets : BTreeSet ℕ → Snapshot → Type 0
+KnowsTargets targets t = (node : ℕ) → Holds targets node ↔ IsTargeted t node
+
+-- one of these targets is finished with k keys
+pub record HasFinishedTarget (t : Snapshot) (k : ℕ) : Type 0 where
+  pub node : ℕ
+  pub targeted : IsTargeted t node
+  pub finished : IsFinishedWith t node k
+
+-- the set has with how many keys these targets are finished, and the lists are the building lists
+pub record KnowsLists (counts : BTreeSet ℕ) (lists : List (List ℕ)) (t : Snapshot) : Type 0 where
+  pub keys : (k : ℕ) → Holds counts k ↔ HasFinishedTarget t k
+  pub building : AreBuilding t lists
+
+-- in the second state targets are finished with so many keys as in the first, and with those of which P holds
+abbrev pub GainsKeys : Snapshot → Snapshot → (ℕ → Type 0) → Type 0
+GainsKeys t u P = (k : ℕ) → HasFinishedTarget u k ↔ (HasFinishedTarget t k ⊎ P k)
 
 -- ---- builds
 

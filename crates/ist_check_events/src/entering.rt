@@ -1,15 +1,14 @@
 //! When a caller may enter, and when a row may be reserved.
-ghost use Rattle.std.specs.Prelude.{◌↔◌, IsTrue, IfOk};
+ghost use Rattle.std.specs.Prelude.{◌↔◌, IsTrue, IfOk, map};
 ghost use Rattle.ist_core.specs.Snapshots.{Snapshot};
 ghost use Rattle.ist_core.specs.Enabled.{CanEnter, CanReserve};
 ghost use Rattle.ist_check_events.specs.Mirroring.{Mirrors};
-ghost use Rattle.ist_check_events.specs.Remembering.{KnowsStarts};
+ghost use Rattle.ist_check_events.specs.Remembering.{KnowsLists};
 
 use crate::fairness::{are_all_spare, is_fair};
 use crate::held::sizes_held;
 use crate::pasts::Past;
 use crate::replicas::Replica;
-use crate::shapes::building_lists;
 use std::alloc::{AllocError, Global};
 
 /// Callers have numbers below this one.
@@ -32,7 +31,8 @@ pub fn can_reserve(
     size: u64,
 ) -> Result<bool, AllocError>
     ensures exact { IfOk result (λ may. (t : Snapshot) → Mirrors replica.now t
-        → KnowsStarts past.now.started t → (IsTrue may ↔ CanReserve t caller base size)) }
+        → KnowsLists past.now.counts (map (λ v. v.items) past.now.lists.items) t
+        → (IsTrue may ↔ CanReserve t caller base size)) }
 {
     if caller >= replica.callers || base != replica.next {
         return Ok(false);
@@ -46,6 +46,5 @@ pub fn can_reserve(
     if are_all_spare(sizes.as_slice()) {
         return Ok(true);
     }
-    let lists = building_lists(alloc, replica, past)?;
-    is_fair(alloc, lists.as_slice(), room, sizes.as_slice())
+    is_fair(alloc, past.lists.as_slice(), room, sizes.as_slice())
 }

@@ -30,13 +30,13 @@ pub use entering::{can_enter, can_reserve};
 pub use fairness::are_same;
 pub use held::{HeldTable, hold, let_go, no_rows, rows_held};
 pub use installing::can_install;
-pub use marking::{can_finish, can_mark, can_pass};
+pub use marking::{can_finish, can_mark, can_pass, target_keys};
 pub use naming::{inner_of_word, leaf_of_word, names_nothing, rebuild_of_word};
 pub use nodes::{finished_keys, holds_at, is_open, slot_holds};
 pub use pasts::{LastUpdate, Past, Slot, Way, pair_key};
 pub use replicas::Replica;
 pub use rows::{change_of_words, holds_row, holds_rows};
-pub use shapes::building_lists;
+pub use shapes::{add_keys, is_listed};
 pub use shares::{degree_of, part_len_of};
 
 #[cfg(test)]

@@ -146,8 +146,8 @@ fn keys_of_word(replica: &Replica, word: u64) -> Option<u64>
     }
 }
 
-/// With how many keys the target of the rebuild is finished.
-fn target_keys(replica: &Replica, rebuild: u64) -> Option<u64>
+/// With how many keys the target of the rebuild is finished, if it is.
+pub fn target_keys(replica: &Replica, rebuild: u64) -> Option<u64>
     ensures exact { (t : Snapshot) → Mirrors replica.now t
         → FindsOne (λ k. TargetFinishedWith t rebuild k) result }
 {

@@ -55,6 +55,12 @@ pub struct Past {
     pub builds: Vec<Vec<u64>>,
     /// How many of these came up to the last Root, Place or Lose of a caller.
     pub since: BTreeMap<u64, u64>,
+    /// The targets of the rebuilds that were started.
+    pub targets: BTreeSet<u64>,
+    /// With how many keys such targets are finished.
+    pub counts: BTreeSet<u64>,
+    /// The building lists for these numbers of keys, each once.
+    pub lists: Vec<Vec<u64>>,
 }
 
 /// Two words as one key of a table.

@@ -3,7 +3,7 @@ ghost use Rattle.std.specs.Prelude.{IfOk, map};
 ghost use Rattle.ist_core.specs.Snapshots.{Snapshot};
 ghost use Rattle.ist_core.specs.Logs.{Log};
 ghost use Rattle.ist_check_events.specs.Mirroring.{Mirrors};
-ghost use Rattle.ist_check_events.specs.Remembering.{KnowsStarts, KnowsDraws, KnowsBuilds};
+ghost use Rattle.ist_check_events.specs.Remembering.{KnowsStarts, KnowsLists, KnowsDraws, KnowsBuilds};
 ghost use Rattle.ist_check_builds.specs.Standing.{HeldAreFree};
 ghost use Rattle.ist_check_reasons.specs.Failing.{Tells};
 ghost use Rattle.ist_check_reasons.specs.Conditions.{root_says, draw_says, place_says, lose_says};
@@ -95,21 +95,14 @@ pub fn place_fails(
 }
 
 /// Which condition of a Lose fails first?
-pub fn lose_fails(
-    alloc: Global,
-    replica: &Replica,
-    past: &Past,
-    caller: u64,
-    bases: &[u64],
-) -> Result<Option<Condition>, AllocError>
-    ensures exact { IfOk result (λ fails. (t : Snapshot) (log : Log) → Mirrors replica.now t
-        → KnowsStarts past.now.started t
+pub fn lose_fails(replica: &Replica, past: &Past, caller: u64, bases: &[u64]) -> Option<Condition>
+    ensures exact { (t : Snapshot) (log : Log) → Mirrors replica.now t
+        → KnowsLists past.now.counts (map (λ v. v.items) past.now.lists.items) t
         → KnowsBuilds past.now.since (map (λ v. v.items) past.now.builds.items) log
-        → Tells (lose_says t log caller bases.now) fails) }
+        → Tells (lose_says t log caller bases.now) result }
 {
-    let may = can_lose(alloc, replica, past, caller, bases)?;
-    Ok(first_failing(&[
+    first_failing(&[
         test_of(Condition::Known, is_known(replica, caller)),
-        test_of(Condition::Cause, may),
-    ]))
+        test_of(Condition::Cause, can_lose(replica, past, caller, bases)),
+    ])
 }

@@ -52,7 +52,7 @@ use Rattle.ist_check_state.proofs.StartedLemmas.{started_newly, start_begun}
 
 module _ (t u : Snapshot) (grows : AllGrow t.pieces u.pieces) (rebuild node : ℕ) where
   -- a target of a rebuild stays one
-  target_stays : HasTarget t rebuild node → HasTarget u rebuild node
+  pub target_stays : HasTarget t rebuild node → HasTarget u rebuild node
   target_stays it =
       let on = rebuild_there t.pieces u.pieces grows rebuild it.row it.published in
       record { row = on.0; published = on.1; target_is = on.2.target ∙ it.target_is }
@@ -141,7 +141,7 @@ module _ (pairs : List Pair) (words : ℕ) where
         (passed_rebuild law.opens log law.enabled.0 above i word rebuild named is) of
 
     -- so was a target of a rebuild that a change starts, where the change stood before
-    started_of : (base rebuild : ℕ) → StartsRebuild (table log) base rebuild
+    pub started_of : (base rebuild : ℕ) → StartsRebuild (table log) base rebuild
         → HasTarget (table (event ∷ log)) rebuild node → HasTarget (table log) rebuild node
     started_of base rebuild k of =
         target_before _ _ grows rebuild node

@@ -7,6 +7,8 @@ use Rattle.ist_core.specs.Pieces.{Change}
 use Rattle.ist_core.specs.Snapshots.{Snapshot}
 use Rattle.ist_core.specs.Marking.{HasTarget}
 use Rattle.ist_check_events.proofs.MirrorLemmas.{one_change}
+use Rattle.ist_check_events.specs.Passing.{TargetFinishedWith}
+use Rattle.ist_check_state.specs.Remembered.{StartsFinished}
 use Rattle.ist_check_state.specs.Calls.{StartCalls, WordCalls, names_row, names_rebuild}
 
 -- what is added may be said in other words
@@ -33,6 +35,25 @@ start_calls t base rebuild node row e kind to = (
       sym k.starts.to ∙ ap (λ r. ref_of r.to) same ∙ to in
       let is : k.rebuild ≡ rebuild = cc in
       subst (λ x. HasTarget t x node) is k.of),
+)
+
+-- and it starts one whose target is finished, where that rebuild's is
+pub start_finished : (t : Snapshot) (base rebuild k : ℕ) (row : ChangeRow)
+    → t.pieces base ≡ Some (Change row) → row.kind ≡ start_kind
+    → ref_of row.to ≡ Some (RebuildAt rebuild)
+    → TargetFinishedWith t rebuild k ↔ StartsFinished t base k
+start_finished t base rebuild k row e kind to = (
+  (λ of. record {
+    rebuild = rebuild;
+    starts = record { change = row; published = e; kind = kind; to = to };
+    finished = of;
+  }),
+  (λ f.
+      let same = one_change (t.pieces base) f.starts.change row f.starts.published e in
+      let reads : Some (RebuildAt f.rebuild) ≡ Some (RebuildAt rebuild) =
+      sym f.starts.to ∙ ap (λ r. ref_of r.to) same ∙ to in
+      let is : f.rebuild ≡ rebuild = cc in
+      subst (λ x. TargetFinishedWith t x k) is f.finished),
 )
 
 -- a word of a rebuild calls the rebuild's targets

@@ -15,6 +15,9 @@ pub mod LinkTableLemmas
 pub mod CallLemmas
 pub mod CallEventLemmas
 pub mod CallingLemmas
+pub mod FinishingLemmas
+pub mod TargetedLemmas
+pub mod ListingLemmas
 pub mod YesLemmas
 pub mod UpdateLemmas
 pub mod UpdateEventLemmas

@@ -22,12 +22,7 @@ use Rattle.std.proofs.Common.{
   ⊎_elim,
   arith,
 }
-use Rattle.std.proofs.Common.{eqb, cond}
-use Rattle.std.proofs.lemmas.Bool.Decides.{eqb_tells}
-use Rattle.std.proofs.lemmas.Grind.{common_steps}
-use Rattle.std.specs.Ordering.{nat_cmp}
-use Rattle.std.specs.BTreeMap.{is_at}
-use Rattle.std.specs.BTreeSet.{BTreeSet, contains}
+use Rattle.std.specs.BTreeSet.{BTreeSet}
 use Rattle.ist_core.specs.declared.pairs.Pair.{Pair}
 use Rattle.ist_core.specs.declared.events.Event.{Event}
 use Rattle.ist_core.specs.declared.events.Event.TheVariants.{Decide}
@@ -156,17 +151,3 @@ module _ (pairs : List Pair) (words : ℕ) (log : Log) where
             on = k.on;
             refused = refl;
           }
-
--- a set behind an insertion
-pub held_behind : (old new : BTreeSet ℕ) (k q : ℕ)
-    → contains nat_cmp new q ≡ cond (is_at (nat_cmp k) q) true (contains nat_cmp old q)
-    → Holds new q ↔ (Holds old q ⊎ (q ≡ k))
-held_behind old new k q u = at (eqb_tells q k)
-  where
-    at : ◌⊎◌ ((eqb q k ≡ true) × (q ≡ k)) ((eqb q k ≡ false) × (q ≢ k)) → Holds new q
-        ↔ (Holds old q ⊎ (q ≡ k))
-    at (inl e) = let same = e.1 in ((λ h. inr same), (λ h. grind (arith, common_steps, u)))
-    at (inr e) =
-        let other : contains nat_cmp new q ≡ contains nat_cmp old q = let ne = e.1 in grind
-        (arith, common_steps, u) in
-        ((λ h. inl (sym other ∙ h)), (λ s. ⊎_elim (λ h. other ∙ h) (λ is. absurd (e.1 is)) s))

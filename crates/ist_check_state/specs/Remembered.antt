@@ -3,6 +3,7 @@ use Rattle.std.specs.Prelude.{◌≡◌, ◌≤◌, ℕ, List, length, Some}
 use Rattle.std.specs.Ordering.{nat_cmp}
 use Rattle.std.specs.BTreeMap as tree
 use Rattle.std.specs.BTreeMap.{BTreeMap}
+use Rattle.ist_check_events.specs.Passing.{TargetFinishedWith}
 use Rattle.ist_check_events.specs.Remembering.{seen_builds, KnowsBuilds}
 use Rattle.ist_core.specs.declared.states.ChangeRow.{ChangeRow}
 use Rattle.ist_core.specs.References.{RebuildAt, ref_of}
@@ -29,6 +30,12 @@ pub record StartsRebuild (t : Snapshot) (base rebuild : ℕ) : Type 0 where
   pub published : t.pieces base ≡ Some (Change change)
   pub kind : change.kind ≡ start_kind
   pub to : ref_of change.to ≡ Some (RebuildAt rebuild)
+
+-- the change, if it is decided yes, starts a rebuild whose target is finished with k keys
+pub record StartsFinished (t : Snapshot) (base k : ℕ) : Type 0 where
+  pub rebuild : ℕ
+  pub starts : StartsRebuild t base rebuild
+  pub finished : TargetFinishedWith t rebuild k
 
 -- the change, if it is decided no, is one of the caller's on the node
 pub record Refuses (t : Snapshot) (base caller node : ℕ) : Type 0 where

@@ -43,7 +43,7 @@ pub fn remember_call(
 }
 
 /// Adds the target of the rebuild that the change starts, if it starts one.
-fn call_by_start(
+pub(crate) fn call_by_start(
     replica: &Replica,
     called: &mut BTreeSet<u64>,
     change: u64,

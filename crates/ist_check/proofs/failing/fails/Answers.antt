@@ -30,7 +30,7 @@ returns-in-Reserve c =
           let past = knows.remembers in
           subst (λ e. Tells (says_of (start pairs words) log e) fails)
           (sym i.is)
-          (exact (state_of pairs words log) knows.mirrors past.started))
+          (exact (state_of pairs words log) knows.mirrors past.lists))
           c.reserve_fails.ensures.exact;
     }
 
@@ -137,15 +137,13 @@ returns-in-Draw c =
 pub returns-in-Lose : goal.returns-in-Lose
 returns-in-Lose c =
     record {
-      exact =
-          if_ok c.lose_fails.result _ _
-          (λ fails exact pairs words log knows.
+      exact = λ pairs words log knows.
           let i = c.in-Lose in
           let past = knows.remembers in
-          subst (λ e. Tells (says_of (start pairs words) log e) fails)
+          subst (λ e. Tells (says_of (start pairs words) log e) c.lose_fails.result)
           (ap (Lose i.caller) c.as_slice-in-Lose.ensures.value ∙ sym i.is)
-          (exact (state_of pairs words log) log knows.mirrors past.started past.builds.0))
-          c.lose_fails.ensures.exact;
+          (c.lose_fails.ensures.exact (state_of pairs words log) log knows.mirrors past.lists
+          past.builds.0);
     }
 
 pub returns-in-Root : goal.returns-in-Root

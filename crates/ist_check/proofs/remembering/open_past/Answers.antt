@@ -1,4 +1,6 @@
 use Rattle.std.proofs.Common.{[], map, sym, subst}
+use Rattle.ist_core.specs.StartLayout.{start}
+use Rattle.ist_check_events.specs.Remembering.{KnowsLists}
 use Rattle.ist_check_state.specs.Remembered.{TellsBuilds}
 use Rattle.ist_check.proofs.OpeningLemmas as opening
 use Rattle.ist_check.proofs.remembering.open_past.Goals as goal
@@ -13,6 +15,9 @@ returns-clause-exact c pairs words opens mirrors =
       updates = opening.no_updates pairs words c.new-5.result c.new-5.ensures.empty;
       refused = opening.no_refusals pairs words c.new-6.result c.new-6.ensures.empty;
       started = opening.no_starts pairs words c.new-7.result c.new-7.ensures.empty;
+      targets = opening.no_targets pairs words c.new-10.result c.new-10.ensures.empty;
+      lists = subst (λ items. KnowsLists c.new-11.result (map (λ v. v.items) items) (start pairs words))
+          (sym c.new-12.ensures.items) (opening.no_lists pairs words c.new-11.result c.new-11.ensures.empty);
       builds = subst (λ items. TellsBuilds c.new-9.result (map (λ v. v.items) items) [])
           (sym c.new-8.ensures.items) (opening.no_builds c.new-9.result c.new-9.ensures.empty);
     }

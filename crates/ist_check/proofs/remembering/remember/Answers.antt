@@ -17,6 +17,8 @@ returns-clause-exact c =
       updates = c.in_ok-remember_update.ensures.exact pairs words log law mirrors past.updates;
       refused = c.in_ok-remember_refusal.ensures.exact pairs words log law mirrors past.refused;
       started = c.in_ok-remember_start.ensures.exact pairs words log law mirrors past.started;
+      targets = c.in_ok-remember_target.ensures.exact pairs words log law mirrors past.targets;
+      lists = c.in_ok-remember_lists.ensures.exact pairs words log law mirrors past.targets past.lists;
       builds = builds log past.builds;
     })
     c.remember_build.ensures.exact

@@ -37,7 +37,7 @@ returns c =
           c.if-loses_pair.false in
           let once = c.are_distinct.ensures.exact.0 c.if-not-are_distinct.false in
           let lists = subst (λ xs. AreBuilding t (map (λ v. v.items) xs))
-          (sym c.as_slice.ensures.value) (c.in_ok-lists.ensures.exact t h s) in
+          (sym c.as_slice.ensures.value) s.building in
           iff_trans (c.is_one_too_late.ensures.exact t log h k) (lose_is t log c.args.caller
           c.args.bases.now known _ no_pair once lists);
     }

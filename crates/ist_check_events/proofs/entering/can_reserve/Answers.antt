@@ -35,7 +35,7 @@ returns c =
           let room : t.words ≡ t.next + (c.args.replica.now.words - c.args.replica.now.next) = omega
           arith in
           let lists = subst (λ xs. AreBuilding t (map (λ v. v.items) xs))
-          (sym c.as_slice-2.ensures.value) (c.in_ok-lists.ensures.exact t h k) in
+          (sym c.as_slice-2.ensures.value) k.building in
           let held = h.held.callers c.args.caller in
           let sizes : c.as_slice-3.result.now ≡ sizes_held t c.args.caller ++ c.args.size ∷ [] =
           c.as_slice-3.ensures.value ∙ c.in_ok-push.ensures.items

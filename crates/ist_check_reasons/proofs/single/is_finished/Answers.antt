@@ -1,4 +1,4 @@
-use Rattle.std.proofs.Common.{sym, ap, subst}
+use Rattle.std.proofs.Common.{sym, subst}
 use Rattle.ist_core.specs.Rebuilding.{IsFinishedWith}
 use Rattle.ist_check_events.proofs.AnswerLemmas.{never}
 use Rattle.ist_check_events.proofs.MirrorLemmas.{rebuild_stands, one_rebuild}

@@ -2,7 +2,7 @@ use Rattle.std.proofs.Common.{◌∙◌, ⊎_elim, refl, sym, subst, map}
 use Rattle.ist_core.specs.Elements.{Among}
 use Rattle.ist_check_events.proofs.AnswerLemmas.{is_not}
 use Rattle.ist_check_events.proofs.ListLemmas.{among_item, among_more}
-use Rattle.ist_check_builds.proofs.giving_up.is_listed.Goals as goal
+use Rattle.ist_check_events.proofs.shapes.is_listed.Goals as goal
 
 pub returns-then-are_same : goal.returns-then-are_same
 returns-then-are_same c =

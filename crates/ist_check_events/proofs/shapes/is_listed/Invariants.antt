@@ -1,6 +1,6 @@
 use Rattle.std.proofs.Common.{map, take}
 use Rattle.ist_core.specs.Elements.{Among}
-use Rattle.ist_check_builds.proofs.giving_up.is_listed.Given as goal
+use Rattle.ist_check_events.proofs.shapes.is_listed.Given as goal
 
 -- none of the lists so far is the one
 abbrev pub invariant-loop-list : goal.invariant-loop-list

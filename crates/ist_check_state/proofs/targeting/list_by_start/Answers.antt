@@ -1,0 +1,26 @@
+use Rattle.std.proofs.Common.{map}
+use Rattle.ist_check_events.proofs.TargetLemmas.{lists_stay}
+use Rattle.ist_check_state.specs.Remembered.{StartsFinished}
+use Rattle.ist_check_state.proofs.TableLemmas.{on_success}
+use Rattle.ist_check_state.proofs.ListingLemmas.{gains_one}
+use Rattle.ist_check_state.proofs.targeting.list_by_start.Goals as goal
+
+pub returns-in-None : goal.returns-in-None
+returns-in-None c =
+    record {
+      exact = λ t u mirrors gains known.
+          lists_stay t u (StartsFinished t c.args.change) gains c.args.counts.now
+          (map (λ v. v.items) c.args.lists.now.items)
+          (λ k starts. absurd (c.in-None.ensures.exact t mirrors k starts)) known;
+    }
+
+pub returns-in-Some : goal.returns-in-Some
+returns-in-Some c =
+    record {
+      exact = on_success c.add_keys.result
+          (λ adds t u mirrors gains known.
+          adds t u
+          (gains_one t u (StartsFinished t c.args.change) c.in-Some.keys
+          (c.in-Some.ensures.exact t mirrors) gains) known)
+          c.add_keys.ensures.exact;
+    }

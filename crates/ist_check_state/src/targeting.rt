@@ -1,0 +1,117 @@
+//! What the checker remembers of the targets of started rebuilds, and the building lists for them.
+ghost use Rattle.std.specs.Prelude.{◌∷◌, ℕ, List, OnOk, map};
+ghost use Rattle.ist_core.specs.declared.pairs.Pair.{Pair as APair};
+ghost use Rattle.ist_core.specs.Snapshots.{Snapshot};
+ghost use Rattle.ist_core.specs.Logs.{Log};
+ghost use Rattle.ist_core.specs.Lawful.{Lawful, state_of};
+ghost use Rattle.ist_check_events.specs.Answers.{FindsOne};
+ghost use Rattle.ist_check_events.specs.Mirroring.{Mirrors};
+ghost use Rattle.ist_check_events.specs.Remembering.{KnowsTargets, KnowsLists, GainsKeys};
+ghost use Rattle.ist_check_state.specs.Remembered.{StartsFinished};
+
+use crate::calling::call_by_start;
+use ist_check_events::{Replica, add_keys, rebuild_of_word, target_keys};
+use ist_core::Event;
+use ist_layout::START_KIND;
+use std::alloc::{AllocError, Global};
+use std::collections::BTreeSet;
+
+/// Remembers the target of the rebuild that a Decide starts. The replica is that of the state
+/// before.
+pub fn remember_target(
+    replica: &Replica,
+    targets: &mut BTreeSet<u64>,
+    event: &Event,
+) -> Result<(), AllocError>
+    ensures exact { OnOk result ((pairs : List APair) → (words : ℕ) → (log : Log)
+        → Lawful pairs words (event.now ∷ log)
+        → Mirrors replica.now (state_of pairs words log)
+        → KnowsTargets targets.old (state_of pairs words log)
+        → KnowsTargets targets.new (state_of pairs words (event.now ∷ log))) }
+{
+    match event {
+        Event::Decide { change, yes, .. } => {
+            if !*yes {
+                return Ok(());
+            }
+            call_by_start(replica, targets, *change)
+        }
+        _ => Ok(()),
+    }
+}
+
+/// Remembers with how many keys such a target comes to be finished, and the building lists for this
+/// number: a Finish may finish one, and that of the rebuild which a Decide starts may be finished
+/// already. The replica and the targets are those of the state before.
+pub fn remember_lists(
+    alloc: Global,
+    replica: &Replica,
+    targets: &BTreeSet<u64>,
+    counts: &mut BTreeSet<u64>,
+    lists: &mut Vec<Vec<u64>>,
+    event: &Event,
+) -> Result<(), AllocError>
+    ensures exact { OnOk result ((pairs : List APair) → (words : ℕ) → (log : Log)
+        → Lawful pairs words (event.now ∷ log)
+        → Mirrors replica.now (state_of pairs words log)
+        → KnowsTargets targets.now (state_of pairs words log)
+        → KnowsLists counts.old (map (λ v. v.items) lists.old.items) (state_of pairs words log)
+        → KnowsLists counts.new (map (λ v. v.items) lists.new.items)
+        (state_of pairs words (event.now ∷ log))) }
+{
+    match event {
+        Event::Decide { change, yes, .. } => {
+            if !*yes {
+                return Ok(());
+            }
+            list_by_start(alloc, replica, counts, lists, *change)
+        }
+        Event::Finish { node, keys, .. } => {
+            if !targets.contains(node) {
+                return Ok(());
+            }
+            add_keys(alloc, counts, lists, *keys)
+        }
+        _ => Ok(()),
+    }
+}
+
+/// Adds with how many keys the target of the rebuild is finished that the change starts, if it
+/// starts one with such a target, and the building lists for this number.
+fn list_by_start(
+    alloc: Global,
+    replica: &Replica,
+    counts: &mut BTreeSet<u64>,
+    lists: &mut Vec<Vec<u64>>,
+    change: u64,
+) -> Result<(), AllocError>
+    ensures exact { OnOk result ((t u : Snapshot) → Mirrors replica.now t
+        → GainsKeys t u (StartsFinished t change)
+        → KnowsLists counts.old (map (λ v. v.items) lists.old.items) t
+        → KnowsLists counts.new (map (λ v. v.items) lists.new.items) u) }
+{
+    match keys_by_start(replica, change) {
+        None => Ok(()),
+        Some(keys) => add_keys(alloc, counts, lists, keys),
+    }
+}
+
+/// With how many keys the target of the rebuild is finished that the change starts, if it starts
+/// one, and this is finished.
+fn keys_by_start(replica: &Replica, change: u64) -> Option<u64>
+    ensures exact { (t : Snapshot) → Mirrors replica.now t
+        → FindsOne (StartsFinished t change) result }
+{
+    match replica.changes.get(&change) {
+        None => None,
+        Some(row) => {
+            if row.kind != START_KIND {
+                return None;
+            }
+            match rebuild_of_word(row.to) {
+                None => None,
+                Some(rebuild) => target_keys(replica, rebuild),
+            }
+        }
+    }
+}
