@@ -59,6 +59,22 @@ wanted "a line of eight million bytes" "3" $? is "! 1 long"
 { echo "P 1 2" && head -c 8000000 /dev/zero; } | "$program" "${small[@]}" >"$all/out"
 wanted "bytes of zero behind a line" "3" $? is $'1 -\n! 2 long'
 
+# A reply comes out of a pipe before the next line is sent.
+coproc pair { exec "$program" "${small[@]}"; }
+running=$pair_PID
+: >"$all/out"
+for line in "I 0 9" "P 3 5"$'\n'"I 3 3" "I 4 9"; do
+    echo "$line" >&"${pair[1]}"
+    # as many lines of reply as there are lines, and one for the pair
+    for ((n = 0; n < (${#line} > 6 ? 3 : 1); n++)); do
+        read -r -t 20 reply <&"${pair[0]}" || reply=none
+        echo "$reply" >>"$all/out"
+    done
+done
+exec {pair[1]}>&-
+wait "$running"
+wanted "a reply before the next line" "0" $? is $'1 0\n2 -\n3 1\n3 5\n4 0'
+
 # Bytes of any kind, from a fixed seed: pieces of them, and pieces that have the letters and digits of good lines.
 python3 - "$all" <<'PY'
 import random, sys
@@ -121,6 +137,14 @@ for number in {1..60}; do
 done
 # Each of the first words, of what the run takes, of the threads, which it can do without; and the last numbers are of no call.
 wanted "each allocation" "0 1" $((${came[1]:-0} >= 4 && ${came[7]:-0} >= 20 && ${came[0]:-0} >= 10 ? 0 : 2)) true
+
+# Each round goes out by one write.
+printf '%s\n' "P 2 1" "I 0 9" "P 3 1" "I 0 9" >"$all/in"
+printf '%s\n' "1 -" "2 1" "2 1" "3 -" "4 2" "2 1" "3 1" >"$all/whole"
+for number in 1 2 3; do
+    refusing write "$number" "$([ "$number" = 3 ] && echo 0 || echo 5)" --workers 2
+    has "round $number refused" $((number == 3 ? 28 : 12 * number - 12))
+done
 
 # Trees that run full: forty puts in rounds of ten, on first trees of 64 words.
 awk 'BEGIN { for (i = 1; i <= 40; i++) { print "P " i * 7 % 41 " " i; if (i % 10 == 0) print "I 0 1" } }' >"$all/in"

@@ -6,7 +6,7 @@
 use std::process::ExitCode;
 use std::{env, io};
 use tele_generations::NoShelf;
-use tele_io::{ReadSource, WriteSink};
+use tele_io::{BufferedSink, ReadSource, WriteSink};
 use tele_lanes::NoGate;
 use tele_run::run;
 
@@ -28,7 +28,7 @@ fn main(rt: HostRuntime) -> ExitCode {
         Err(_) => return ExitCode::from(NO_ARGUMENTS),
     };
     let mut source = ReadSource::new(rt.stdin());
-    let mut out = WriteSink::new(rt.stdout());
+    let mut out = BufferedSink::new(WriteSink::new(rt.stdout()), rt.alloc());
     let mut shelf = NoShelf;
     let outcome = run(
         &rt,

@@ -1,5 +1,6 @@
 -- What is appended in parts. Serves `write_whole`, and whoever appends one text behind another.
-use Rattle.std.proofs.Common.{◌≡◌, ℕ, ◌+◌, ◌-◌, ◌≤◌, List, [], ◌++◌, length, take, drop, Option, Some, None, sym, ◌∙◌, ap, subst, append_assoc, arith}
+use Rattle.std.proofs.Common.{◌≡◌, ℕ, ◌+◌, ◌-◌, ◌≤◌, List, [], ◌++◌, length, take, drop, Option, Some, None, Result, Ok, Err, OnOk, sym, ◌∙◌, ap, subst, append_assoc, take_all, arith}
+use Rattle.std.specs.Prelude.{OnErr}
 use Rattle.std.proofs.lemmas.List.{take_rest, length-drop, append-nil, length-append, take-append-le}
 use Rattle.std.proofs.Math.Seq.{take-add, take-append-add}
 use Rattle.tele_io.specs.Bytes.{Appends, AppendsPart}
@@ -65,3 +66,25 @@ AppendsPart-longer before now first second part =
       subst (Appends before now)
           (sym (take-append-le n first second part.1)) part.2,
     )
+
+-- all bytes of a piece were taken
+pub whole_of_all : {E : Type 0} (r : Result Unit E) (before now : Option (List ℕ)) (bytes : List ℕ) (n : ℕ)
+    → OnOk r (n ≡ length bytes) → Appends before now (take n bytes) → OnOk r (Appends before now bytes)
+whole_of_all (Ok x) before now bytes n all taken =
+    subst (Appends before now) (take_all n bytes (omega (arith, all))) taken
+whole_of_all (Err e) before now bytes n all taken = tt
+
+-- or some of them
+pub part_of_some : {E : Type 0} (r : Result Unit E) (before now : Option (List ℕ)) (bytes : List ℕ) (n : ℕ)
+    → n ≤ length bytes → Appends before now (take n bytes) → OnErr r (AppendsPart before now bytes)
+part_of_some (Ok x) before now bytes n within taken = tt
+part_of_some (Err e) before now bytes n within taken = (n, within, taken)
+
+-- what was written whole was written in part
+pub AppendsPart-whole : (before now : Option (List ℕ)) (bytes : List ℕ)
+    → Appends before now bytes → AppendsPart before now bytes
+AppendsPart-whole before now bytes whole = (
+  length bytes,
+  omega arith,
+  subst (Appends before now) (sym (take_all (length bytes) bytes (omega arith))) whole,
+)

@@ -1,6 +1,8 @@
--- What a stream tells behind a step that kept it and one that need not. Serves `read_on` and `write_on`.
-use Rattle.std.proofs.Common.{ℕ, List, Option, Some, None, subst}
-use Rattle.tele_io.specs.Bytes.{Keeps, Gives, Appends}
+-- What a stream tells behind a step that kept it and one that need not. Serves `read_on` and `write_on`, and
+-- whoever passes on what was written.
+use Rattle.std.proofs.Common.{ℕ, List, [], take, Option, Some, None, subst}
+use Rattle.tele_io.specs.Bytes.{Keeps, Gives, Appends, AppendsPart}
+use Rattle.tele_io.proofs.AppendsLemmas.{Appends-nothing, AppendsPart-nothing}
 
 -- what was kept twice was kept
 pub keeps_keeps : (before middle now : Option (List ℕ))
@@ -21,3 +23,26 @@ pub keeps_appends : (before middle now : Option (List ℕ)) (bytes : List ℕ)
 keeps_appends None middle now bytes kept taken = tt
 keeps_appends (Some start) middle now bytes kept taken =
     subst (λ m. Appends m now bytes) kept taken
+
+-- what was appended before was kept
+pub appends_keeps : (before middle now : Option (List ℕ)) (bytes : List ℕ)
+    → Appends before middle bytes → Keeps middle now → Appends before now bytes
+appends_keeps None middle now bytes taken kept = tt
+appends_keeps (Some start) None now bytes taken kept = absurd (cc taken)
+appends_keeps (Some start) (Some xs) now bytes taken kept = cc (taken, kept)
+
+-- or a part of it
+pub part_keeps : (before middle now : Option (List ℕ)) (bytes : List ℕ)
+    → AppendsPart before middle bytes → Keeps middle now → AppendsPart before now bytes
+part_keeps before middle now bytes part kept =
+    (part.0, part.1, appends_keeps before middle now (take part.0 bytes) part.2 kept)
+
+-- nothing was written
+pub appends_none : (before now : Option (List ℕ)) → Keeps before now → Appends before now []
+appends_none before now kept = appends_keeps before before now [] (Appends-nothing before) kept
+
+-- so a part of anything was
+pub part_none : (before now : Option (List ℕ)) (bytes : List ℕ)
+    → Keeps before now → AppendsPart before now bytes
+part_none before now bytes kept =
+    part_keeps before before now bytes (AppendsPart-nothing before bytes) kept

@@ -1,2 +1,3 @@
 pub mod AppendsLemmas
 pub mod KeepsLemmas
+pub mod BufferLemmas

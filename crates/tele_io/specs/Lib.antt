@@ -2,3 +2,4 @@
 pub mod Bytes
 pub mod Objects
 pub mod Streams
+pub mod Buffers

@@ -1,10 +1,11 @@
 //! Where bytes come from and where they go, with counts of what went wrong on the way.
 //!
 //! Read `specs/Bytes.antt`, `sources.rt` and `sinks.rt`, and then `whole.rt`. The objects in memory
-//! are in `quiet.rt` and `memory.rt`, the adapters over a reader and a writer in `streams.rt`.
-//! Stands on nothing.
+//! are in `quiet.rt` and `memory.rt`, the adapters over a reader and a writer in `streams.rt`, and the
+//! one that holds bytes back in `buffered.rt`. Stands on nothing.
 #![tactic(auto)]
 
+mod buffered;
 mod calls;
 mod memory;
 mod quiet;
@@ -13,6 +14,7 @@ mod sources;
 mod streams;
 mod whole;
 
+pub use buffered::{BufferedSink, HELD_LIMIT};
 pub use memory::{MemorySink, MemorySource};
 pub use quiet::{QuietSink, QuietSource};
 pub use sinks::{Sink, SinkFault};
@@ -23,6 +25,7 @@ pub use whole::write_whole;
 #[cfg(test)]
 mod tests {
     use super::*;
+    use std::alloc::{AllocError, Global};
     use std::fs::File;
     use std::io::{Cursor, Error, ErrorKind, Read, Result as IoResult, Write};
     use std::test::Fail;
@@ -122,6 +125,117 @@ mod tests {
         let mut sink = WriteSink::new(File::open(&rt, ".")?);
         assert_eq!(rt; sink.write(b"abc"), Err(SinkFault::Failed));
         Ok(())
+    }
+
+    /// So many bytes, none of which is its neighbour.
+    fn bytes_to(alloc: Global, len: usize) -> Result<Vec<u8>, AllocError> {
+        let mut bytes = Vec::new(alloc);
+        for place in 0..len {
+            bytes.push((place % 251) as u8)?;
+        }
+        Ok(bytes)
+    }
+
+    #[test]
+    fn a_buffer_holds_what_fits_and_passes_on_the_rest(rt: HostRuntime) -> Result<(), Fail> {
+        let all = bytes_to(rt.alloc(), 131_073)?;
+        // how many bytes each piece has, how many are passed on behind them, how many are held
+        let rows: [(&[usize], usize, usize); 8] = [
+            (&[1], 0, 1),
+            (&[65_536], 0, 65_536),
+            (&[65_537], 65_537, 0),
+            (&[65_535, 1], 0, 65_536),
+            (&[65_536, 1], 65_536, 1),
+            (&[1, 65_536], 1, 65_536),
+            (&[1, 65_537], 65_538, 0),
+            (&[65_537, 65_536], 65_537, 65_536),
+        ];
+        for (pieces, passed, held) in rows {
+            let mut out = BufferedSink::new(QuietSink::new(rt.alloc()), rt.alloc());
+            let mut taken = 0;
+            for piece in pieces {
+                let next = taken + *piece;
+                assert!(rt; next <= all.len());
+                assert_eq!(rt;
+                    write_whole(&mut out, &all[taken..next]),
+                    Ok(()),
+                    "of {pieces:?}"
+                );
+                taken = next;
+            }
+            assert_eq!(rt;
+                out.inner().bytes(),
+                &all[..passed],
+                "passed on of {pieces:?}"
+            );
+            assert_eq!(rt; out.held().len(), held, "held of {pieces:?}");
+            assert_eq!(rt; out.pass_on(), Ok(()));
+            assert_eq!(rt;
+                out.inner().bytes(),
+                &all[..taken],
+                "of {pieces:?}, passed on"
+            );
+            assert_eq!(rt; out.held(), b"".as_slice());
+        }
+        Ok(())
+    }
+
+    #[test]
+    fn a_buffer_loses_nothing_where_a_write_fails(rt: HostRuntime) -> Result<(), Fail> {
+        // each write of the sink behind in its turn, of five pieces and the last passing on; and none
+        for fails in 0..6 {
+            let inner = MemorySink::new(rt.alloc(), [fails].to_vec(rt.alloc())?);
+            let mut out = BufferedSink::new(inner, rt.alloc());
+            let mut taken = Vec::new(rt.alloc());
+            for number in 0..5 {
+                let piece = vec![in rt.alloc(); number as u8; 40_000]?;
+                let refused = fails + 1 == number;
+                let written = write_whole(&mut out, &piece);
+                assert_eq!(rt;
+                    written.is_err(),
+                    refused,
+                    "piece {number}, where write {fails} fails"
+                );
+                if !refused {
+                    taken.extend_from_slice(&piece)?;
+                }
+                let mut known = out.inner().bytes().to_vec(rt.alloc())?;
+                known.extend_from_slice(out.held())?;
+                assert_eq!(rt; known.as_slice(), taken.as_slice(), "behind piece {number}");
+            }
+            let refused = fails == 4;
+            assert_eq!(rt;
+                out.pass_on().is_err(),
+                refused,
+                "where write {fails} fails"
+            );
+            assert_eq!(rt; out.pass_on(), Ok(()));
+            assert_eq!(rt;
+                out.inner().bytes(),
+                taken.as_slice(),
+                "where write {fails} fails"
+            );
+        }
+        Ok(())
+    }
+
+    #[test]
+    fn a_buffer_keeps_what_a_full_writer_leaves(rt: HostRuntime) {
+        let mut room = [b'-'; 5];
+        let mut out = BufferedSink::new(WriteSink::new(room.as_mut_slice()), rt.alloc());
+        // the piece, the answer to passing it on, what is held then
+        let rows = [
+            (b"abc", Ok(()), b"".as_slice()),
+            (b"def", Err(SinkFault::Failed), b"f".as_slice()),
+            (b"ghi", Err(SinkFault::Failed), b"fghi".as_slice()),
+        ];
+        for (piece, answer, held) in rows {
+            assert_eq!(rt; write_whole(&mut out, piece), Ok(()));
+            assert_eq!(rt; out.pass_on(), answer, "behind {piece:?}");
+            assert_eq!(rt; out.held(), held, "behind {piece:?}");
+        }
+        drop(out);
+        assert_eq!(rt; &room, b"abcde");
     }
 
     /// What signals interrupt so many times; then a read gives the byte `x`, and a write takes one.

@@ -1,5 +1,5 @@
 //! A source and a sink in memory that fail at the calls that they are told.
-ghost use Rattle.std.specs.Prelude.{◌≡◌, ◌<◌, ◌≤◌, ◌↔◌, min, [], ◌++◌, length, take, drop, Some, IsTrue, IsErr, IfOk, OnOk, OnErr, IsErrOf};
+ghost use Rattle.std.specs.Prelude.{◌≡◌, ◌<◌, ◌≤◌, ◌↔◌, min, [], ◌++◌, length, take, drop, Some, IsTrue, IsErr, IsOk, IfOk, OnOk, OnErr, IsErrOf};
 ghost use Rattle.tele_io.specs.Bytes.{HaveRisen};
 ghost use Rattle.tele_io.specs.Objects.{Supply, Store, schedule_of, fails_next, after_call};
 
@@ -113,6 +113,8 @@ impl MemorySink {
 impl Sink for MemorySink {
     ghost written = { λ s. Some s.taken };
 
+    ghost held = { λ _. [] };
+
     ghost faults = { λ s. s.schedule.faults };
 
     fn write(&mut self, bytes: &[u8]) -> Result<usize, SinkFault>
@@ -131,5 +133,12 @@ impl Sink for MemorySink {
             return Err(SinkFault::Failed);
         }
         self.bytes.write(bytes)
+    }
+
+    fn pass_on(&mut self) -> Result<(), SinkFault>
+        ensures never { IsOk result }
+        ensures unchanged { self.new ≡ self.old }
+    {
+        Ok(())
     }
 }

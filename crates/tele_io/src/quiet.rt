@@ -1,5 +1,5 @@
 //! A source and a sink in memory that have no faults.
-ghost use Rattle.std.specs.Prelude.{◌≡◌, ℕ, ◌<◌, ◌≤◌, min, List, [], ◌++◌, length, take, drop, Ok, Some, vec_len, IfOk, OnOk, OnErr, IfErr};
+ghost use Rattle.std.specs.Prelude.{◌≡◌, ℕ, ◌<◌, ◌≤◌, min, List, [], ◌++◌, length, take, drop, Ok, Some, vec_len, IsOk, IfOk, OnOk, OnErr, IfErr};
 
 use super::sinks::{Sink, SinkFault};
 use super::sources::{Failed, Source};
@@ -94,6 +94,8 @@ impl QuietSink {
 impl Sink for QuietSink {
     ghost written = { λ s. Some s };
 
+    ghost held = { λ _. [] };
+
     ghost faults = { λ _. 0 };
 
     fn write(&mut self, bytes: &[u8]) -> Result<usize, SinkFault>
@@ -106,5 +108,12 @@ impl Sink for QuietSink {
             Ok(()) => Ok(bytes.len()),
             Err(_) => Err(SinkFault::Memory),
         }
+    }
+
+    fn pass_on(&mut self) -> Result<(), SinkFault>
+        ensures never { IsOk result }
+        ensures unchanged { self.new ≡ self.old }
+    {
+        Ok(())
     }
 }

@@ -1,5 +1,5 @@
 //! A source over a reader of std, and a sink over a writer of std.
-ghost use Rattle.std.specs.Prelude.{◌≡◌, ◌<◌, ◌≤◌, length, take, is_err, if◌then◌else◌, IfOk, OnErr, IfErr};
+ghost use Rattle.std.specs.Prelude.{◌≡◌, ◌<◌, ◌≤◌, [], length, take, is_err, if◌then◌else◌, IsOk, IfOk, OnErr, IfErr};
 ghost use Rattle.tele_io.specs.Bytes.{HaveRisen, Gives, Appends, Keeps, raised};
 ghost use Rattle.tele_io.specs.Streams.{reader_of, read_faults, writer_of, write_faults};
 
@@ -105,6 +105,8 @@ impl<W: Write> WriteSink<W> {
 impl<W: Write> Sink for WriteSink<W> {
     ghost written = { λ s. W.contents (writer_of s) };
 
+    ghost held = { λ _. [] };
+
     ghost faults = { write_faults };
 
     fn write(&mut self, bytes: &[u8]) -> Result<usize, SinkFault>
@@ -128,6 +130,13 @@ impl<W: Write> Sink for WriteSink<W> {
             self.faults = self.faults.saturating_add(1);
         }
         taken
+    }
+
+    fn pass_on(&mut self) -> Result<(), SinkFault>
+        ensures never { IsOk result }
+        ensures unchanged { self.new ≡ self.old }
+    {
+        Ok(())
     }
 }
 

@@ -1,5 +1,5 @@
 //! Writing a piece whole.
-ghost use Rattle.std.specs.Prelude.{◌≡◌, ◌≤◌, [], OnOk, OnErr, IsOk, IsErrOf};
+ghost use Rattle.std.specs.Prelude.{◌≡◌, ◌≤◌, [], length, take, OnOk, OnErr, IsOk, IsErrOf};
 ghost use Rattle.tele_io.specs.Bytes.{HaveRisen, Appends, AppendsPart};
 
 use super::sinks::{Sink, SinkFault};
@@ -8,7 +8,6 @@ use super::sinks::{Sink, SinkFault};
 ///
 /// At the first refusal it stops and hands the refusal on. The bytes that were taken before are a
 /// prefix of the piece, and stay taken.
-#[tactic(auto, using(crate::proofs::AppendsLemmas::appends))]
 pub fn write_whole<O: Sink>(out: &mut O, bytes: &[u8]) -> Result<(), SinkFault>
     ensures whole { OnOk result (Appends (O.written out.old) (O.written out.new) bytes.now) }
 
@@ -19,9 +18,29 @@ pub fn write_whole<O: Sink>(out: &mut O, bytes: &[u8]) -> Result<(), SinkFault>
     ensures counted { O.faults out.old ≤ O.faults out.new }
     ensures idle { bytes.now ≡ [] → IsOk result × (out.new ≡ out.old) }
 {
+    let (_, written) = write_out(out, bytes);
+    written
+}
+
+/// Writes bytes until all are taken or the sink refuses, and says how many were taken.
+#[tactic(auto, using(crate::proofs::AppendsLemmas::appends))]
+pub(crate) fn write_out<O: Sink>(out: &mut O, bytes: &[u8]) -> (usize, Result<(), SinkFault>)
+    ensures within { result.0 ≤ length bytes.now }
+    ensures all { OnOk result.1 (result.0 ≡ length bytes.now) }
+    ensures taken { Appends (O.written out.old) (O.written out.new) (take result.0 bytes.now) }
+
+    ensures failed { IsErrOf result.1 SinkFault.Failed
+        → HaveRisen (O.faults out.old) (O.faults out.new) }
+
+    ensures counted { O.faults out.old ≤ O.faults out.new }
+    ensures idle { bytes.now ≡ [] → IsOk result.1 × (out.new ≡ out.old) }
+{
     let mut taken = 0;
     while taken < bytes.len() {
-        taken += out.write(&bytes[taken..])?;
+        match out.write(&bytes[taken..]) {
+            Ok(n) => taken += n,
+            Err(fault) => return (taken, Err(fault)),
+        }
     }
-    Ok(())
+    (taken, Ok(()))
 }

@@ -3,6 +3,7 @@ pub mod AnswerLemmas
 pub mod RepliesLemmas
 pub mod TakeLemmas
 pub mod StepLemmas
+pub mod PassLemmas
 pub mod JobLemmas
 pub mod MadeLemmas
 pub mod DueLemmas

@@ -3,8 +3,9 @@ use Rattle.std.proofs.Common.{◌≡◌, ℕ, ◌<◌, List, [], ◌∷◌, ◌+
 use Rattle.std.specs.Prelude.{Option}
 use Rattle.std.proofs.lemmas.List.{map-append}
 use Rattle.ist_core.specs.Map.{Map, replay, listed}
-use Rattle.tele_io.specs.Bytes.{Appends}
+use Rattle.tele_io.specs.Bytes.{Appends, Keeps}
 use Rattle.tele_io.proofs.AppendsLemmas.{Appends-nothing, Appends-append}
+use Rattle.tele_io.proofs.KeepsLemmas.{appends_none}
 use Rattle.tele_lanes.specs.declared.task_lists.Task.{Task}
 use Rattle.tele_lanes.specs.Lines.{commands_of}
 use Rattle.tele_lines.specs.declared.items.Item.TheVariants.{Point, Interval}
@@ -22,6 +23,17 @@ pub stay_open : (m : Map) (lines : List Read) (before : Option (List ℕ)) → T
 stay_open m lines before = record {
   printed = [];
   writes = Appends-nothing before;
+  text = λ more. refl;
+  status = λ more. refl;
+  whole = λ more. refl;
+}
+
+-- lines that stay open, where what was written stays taken
+pub stay_kept : (m : Map) (lines : List Read) (before now : Option (List ℕ)) → Keeps before now
+    → Takes m lines before now m lines
+stay_kept m lines before now kept = record {
+  printed = [];
+  writes = appends_none before now kept;
   text = λ more. refl;
   status = λ more. refl;
   whole = λ more. refl;

@@ -3,8 +3,9 @@
 use Rattle.std.proofs.Common.{◌≡◌, ℕ, ◌<◌, List, [], ◌++◌, Bool, true, false, refl, sym, ◌∙◌, ap, subst, append_assoc, append-nil, length}
 use Rattle.std.specs.Prelude.{Option, Some, None, IfSome, option_map, if◌then◌else◌}
 use Rattle.ist_core.specs.Map.{no_pairs}
-use Rattle.tele_io.specs.Bytes.{Appends, AppendsPart}
+use Rattle.tele_io.specs.Bytes.{Appends, AppendsPart, Keeps}
 use Rattle.tele_io.proofs.AppendsLemmas.{Appends-nothing}
+use Rattle.tele_io.proofs.KeepsLemmas.{part_none}
 use Rattle.tele_lines.specs.declared.reader.Lines.{Lines}
 use Rattle.tele_lines.specs.Lines.{line_limit, lines_of, whole_lines}
 use Rattle.tele_lines.specs.Answer.{Read, text_of, status_of}
@@ -56,6 +57,12 @@ part_if was next lines given None ended before written left is good goes part = 
 part_if was next lines given (Some bytes) ended before written left is good goes part =
     part_of_due was lines given bytes (read_at next (lines_of goes.rest)) before written is
     goes.reads good part
+
+-- nothing was written, which is a part of what is due
+pub none_if : (was : Moment) (unread before written : Option (List ℕ)) → Keeps before written
+    → IfSome unread (λ bytes. AppendsPart before written (due was bytes).text)
+none_if was None before written kept = tt
+none_if was (Some bytes) before written kept = part_none before written (due was bytes).text kept
 
 -- the last lines were answered
 pub ended_if : (was : Moment) (lines last : List Read) (unread : Option (List ℕ)) (ending : ℕ)

@@ -1,5 +1,5 @@
 //! A run over made lines: the same rounds, no reply printed, and a summary at the end.
-ghost use Rattle.std.specs.Prelude.{◌≡◌, ◌+◌, ◌≤◌, ◌^◌, ◌⊎◌, [], is_some, length, IfOk, OnOk};
+ghost use Rattle.std.specs.Prelude.{◌≡◌, ◌+◌, ◌≤◌, ◌^◌, ◌⊎◌, [], Err, is_some, length, IfOk, OnOk, OnErr};
 ghost use Rattle.std.specs.List.{count_by};
 ghost use Rattle.std.specs.List.Sorted.{IsStrictlyIncreasing};
 ghost use Rattle.ist_core.specs.Map.{replay, replies};
@@ -19,7 +19,7 @@ use std::alloc::{AllocError, Global};
 use std::sync::Wait;
 use std::thread::Threads;
 use tele_generations::Shelf;
-use tele_io::Sink;
+use tele_io::{Sink, SinkFault};
 use tele_lanes::{Answer, Gate, Task};
 use tele_made::{Maker, Summary, print_summary, sum_of};
 use tele_trees::TreeTables;
@@ -45,6 +45,7 @@ pub(crate) fn make_all<R: Threads + Wait + Sync, G: Gate + Sync, H: Shelf<Closed
         (made_rounds count seed) (H.kept shelf.old) (H.kept shelf.new)
         result.last result.fulls }
     ensures none { ¬ (IsAnswer result.status) → HasNoTable result }
+    ensures passed_on { ¬ (IsCutShort result.status) → O.held out.new ≡ [] }
     ensures part { IsCutShort result.status → AppendsPart (O.written out.old) (O.written out.new)
         (summary_text (summary_of count seed)) }
 
@@ -56,13 +57,31 @@ pub(crate) fn make_all<R: Threads + Wait + Sync, G: Gate + Sync, H: Shelf<Closed
 {
     let mut round = round;
     let status = match summarize(rt, gate, tables, shelf, &mut round, count, seed) {
-        Ok(summary) => match print_summary(out, alloc, summary) {
+        Ok(summary) => match end_with_summary(out, alloc, summary) {
             Ok(()) => ANSWERED,
             Err(fault) => refused(fault),
         },
         Err(AllocError) => NO_MEMORY,
     };
     ended(status, round)
+}
+
+/// Prints a summary, and passes it on.
+#[tactic(auto, using(crate::proofs::PassLemmas::passes))]
+fn end_with_summary<O: Sink>(out: &mut O, alloc: Global, summary: Summary) -> Result<(), SinkFault>
+    ensures printed { OnOk result (Appends (O.written out.old) (O.written out.new)
+        (summary_text summary)) }
+    ensures passed_on { OnOk result (O.held out.new ≡ []) }
+
+    ensures failed { result ≡ Err SinkFault.Failed →
+        HaveRisen (O.faults out.old) (O.faults out.new) }
+    ensures part { OnErr result (AppendsPart (O.written out.old) (O.written out.new)
+        (summary_text summary)) }
+
+    ensures counted { O.faults out.old ≤ O.faults out.new }
+{
+    print_summary(out, alloc, summary)?;
+    out.pass_on()
 }
 
 /// Makes lines from a seed, answers them in rounds, and sums up.

@@ -1,11 +1,13 @@
-//! The replies of a round, printed.
-ghost use Rattle.std.specs.Prelude.{◌≡◌, ◌≤◌, Err, OnOk, OnErr};
+//! The replies of a round, printed; and the last line of a round, behind which all are passed on.
+ghost use Rattle.std.specs.Prelude.{◌≡◌, ◌≤◌, [], Err, OnOk, OnErr};
 ghost use Rattle.tele_io.specs.Bytes.{HaveRisen, Appends, AppendsPart};
+ghost use Rattle.tele_lines.specs.Answer.{interval_text, bad_text};
 ghost use Rattle.tele_run.specs.Open.{answers_text};
 
+use ist_core::Pair;
 use tele_io::{Sink, SinkFault};
 use tele_lanes::Answer;
-use tele_lines::{Version, print_answer};
+use tele_lines::{Cause, Version, print_answer, print_bad, print_interval};
 
 /// Prints each answer on a line of its own, in order.
 pub(crate) fn print_answers<O: Sink>(
@@ -27,4 +29,45 @@ pub(crate) fn print_answers<O: Sink>(
         print_answer(out, version, answer.line, answer.reply)?;
     }
     Ok(())
+}
+
+/// Prints the reply to the interval line that ends a round, and passes on all that was taken.
+#[tactic(auto, using(crate::proofs::PassLemmas::passes))]
+pub(crate) fn end_with_pairs<O: Sink>(
+    out: &mut O,
+    version: Version,
+    line: u64,
+    pairs: &[Pair],
+) -> Result<(), SinkFault>
+    ensures printed { OnOk result (Appends (O.written out.old) (O.written out.new)
+        (interval_text version line pairs.now)) }
+    ensures passed_on { OnOk result (O.held out.new ≡ []) }
+
+    ensures failed { result ≡ Err SinkFault.Failed →
+        HaveRisen (O.faults out.old) (O.faults out.new) }
+    ensures part { OnErr result (AppendsPart (O.written out.old) (O.written out.new)
+        (interval_text version line pairs.now)) }
+
+    ensures counted { O.faults out.old ≤ O.faults out.new }
+{
+    print_interval(out, version, line, pairs)?;
+    out.pass_on()
+}
+
+/// Prints that a line is bad, which ends the run, and passes on all that was taken.
+#[tactic(auto, using(crate::proofs::PassLemmas::passes))]
+pub(crate) fn end_with_bad<O: Sink>(out: &mut O, line: u64, cause: Cause) -> Result<(), SinkFault>
+    ensures printed { OnOk result (Appends (O.written out.old) (O.written out.new)
+        (bad_text line cause)) }
+    ensures passed_on { OnOk result (O.held out.new ≡ []) }
+
+    ensures failed { result ≡ Err SinkFault.Failed →
+        HaveRisen (O.faults out.old) (O.faults out.new) }
+    ensures part { OnErr result (AppendsPart (O.written out.old) (O.written out.new)
+        (bad_text line cause)) }
+
+    ensures counted { O.faults out.old ≤ O.faults out.new }
+{
+    print_bad(out, line, cause)?;
+    out.pass_on()
 }

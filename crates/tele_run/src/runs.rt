@@ -1,5 +1,5 @@
 //! The top call.
-ghost use Rattle.std.specs.Prelude.{◌≡◌, ℕ, ◌≤◌, ◌^◌, ◌⊎◌, [], Some, map, string_bytes, IfSome};
+ghost use Rattle.std.specs.Prelude.{◌≡◌, ℕ, ◌≤◌, ◌^◌, ◌⊎◌, [], Some, map, string_bytes, IfSome, OnOk, OnErr, IsErrOf};
 ghost use Rattle.tele_io.specs.Bytes.{HaveRisen, Appends, AppendsPart};
 ghost use Rattle.tele_lines.specs.Answer.{answer, usage_text};
 ghost use Rattle.tele_made.specs.Summaries.{summary_of, summary_text};
@@ -22,7 +22,7 @@ use std::alloc::{AllocError, Global};
 use std::sync::Wait;
 use std::thread::Threads;
 use tele_generations::Shelf;
-use tele_io::{Sink, Source, write_whole};
+use tele_io::{Sink, SinkFault, Source, write_whole};
 use tele_lanes::Gate;
 use tele_lines::Lines;
 use tele_trees::TreeTables;
@@ -36,8 +36,9 @@ use tele_trees::TreeTables;
 /// too. With made lines no reply is written, and a summary at the end. The source is read in neither.
 ///
 /// Lines are answered in rounds, in the order in which they came. A round ends behind an interval
-/// line, when it has 16,384 point lines, before a bad line, and at the end of the input. The statuses
-/// of a run over lines that are read are these:
+/// line, when it has 16,384 point lines, before a bad line, and at the end of the input. Behind each
+/// round, and before it returns with status 0, 2, 3 or 4, it tells the sink to pass on what it took.
+/// The statuses of a run over lines that are read are these:
 ///
 /// - 0, the input was read to its end, or 3, a bad line was reached: the answer to the bytes of the
 ///   source was written;
@@ -81,6 +82,9 @@ pub fn run<R: Threads + Wait + Sync, S: Source, O: Sink, G: Gate + Sync, H: Shel
     // After a failed read the replies to the whole rounds of the lines that had come stand written.
     ensures stops { result.status ≡ READ_FAILED → IfSome (S.left source.old) (λ bytes.
         Stops bytes (S.left source.new) (O.written out.old) (O.written out.new)) }
+
+    // Unless the text was cut short, the sink holds nothing back.
+    ensures passed_on { ¬ (IsCutShort result.status) → O.held out.new ≡ [] }
 
     // Cut short, a prefix of the text stands written.
     ensures part { job_of (map string_bytes words.now) ≡ Job.Read → IsCutShort result.status →
@@ -164,6 +168,7 @@ fn work<R: Threads + Wait + Sync, S: Source, O: Sink, G: Gate + Sync, H: Shelf<C
 
     ensures stops { result.status ≡ READ_FAILED → IfSome (S.left source.old) (λ bytes.
         Stops bytes (S.left source.new) (O.written out.old) (O.written out.new)) }
+    ensures passed_on { ¬ (IsCutShort result.status) → O.held out.new ≡ [] }
     ensures part { plan.job ≡ Job.Read → IsCutShort result.status →
         IfSome (S.left source.old) (λ bytes.
         AppendsPart (O.written out.old) (O.written out.new) (answer bytes).text) }
@@ -205,6 +210,7 @@ fn work<R: Threads + Wait + Sync, S: Source, O: Sink, G: Gate + Sync, H: Shelf<C
 /// Writes that the words are refused, and gives the status.
 fn refuse<O: Sink>(out: &mut O) -> u8
     ensures usage { result ≡ USAGE → Appends (O.written out.old) (O.written out.new) usage_text }
+    ensures passed_on { ¬ (IsCutShort result) → O.held out.new ≡ [] }
     ensures part { IsCutShort result →
         AppendsPart (O.written out.old) (O.written out.new) usage_text }
 
@@ -213,10 +219,26 @@ fn refuse<O: Sink>(out: &mut O) -> u8
 
     ensures counted { O.faults out.old ≤ O.faults out.new }
 {
-    match write_whole(out, b"! usage\n") {
+    match end_with_usage(out) {
         Ok(()) => USAGE,
         Err(fault) => refused(fault),
     }
+}
+
+/// Prints that the words are refused, and passes it on.
+#[tactic(auto, using(crate::proofs::PassLemmas::passes))]
+fn end_with_usage<O: Sink>(out: &mut O) -> Result<(), SinkFault>
+    ensures printed { OnOk result (Appends (O.written out.old) (O.written out.new) usage_text) }
+    ensures passed_on { OnOk result (O.held out.new ≡ []) }
+
+    ensures failed { IsErrOf result SinkFault.Failed →
+        HaveRisen (O.faults out.old) (O.faults out.new) }
+    ensures part { OnErr result (AppendsPart (O.written out.old) (O.written out.new) usage_text) }
+
+    ensures counted { O.faults out.old ≤ O.faults out.new }
+{
+    write_whole(out, b"! usage\n")?;
+    out.pass_on()
 }
 
 /// Answers all lines.
@@ -240,6 +262,7 @@ fn answer_all<R: Threads + Wait + Sync, G: Gate + Sync, H: Shelf<Closed>, S: Sou
 
     ensures stops { result.status ≡ READ_FAILED → IfSome (S.left source.old) (λ bytes.
         Stops bytes (S.left source.new) (O.written out.old) (O.written out.new)) }
+    ensures passed_on { ¬ (IsCutShort result.status) → O.held out.new ≡ [] }
     ensures part { IsCutShort result.status → IfSome (S.left source.old) (λ bytes.
         AppendsPart (O.written out.old) (O.written out.new) (answer bytes).text) }
 

@@ -15,7 +15,7 @@ ghost use Rattle.tele_run.specs.Due.{due, rounds_due, moment_of, Takes, RunsTo, 
 ghost use Rattle.tele_run.specs.Due.{TakesRounds, RunsRounds};
 
 use crate::outcomes::{ANSWERED, BAD_LINE, NO_MEMORY, READ_FAILED, WRITE_FAILED};
-use crate::replies::print_answers;
+use crate::replies::{end_with_bad, end_with_pairs, print_answers};
 use crate::rounds::{Round, close};
 use ist_rest::Closed;
 use std::alloc::AllocError;
@@ -24,7 +24,7 @@ use std::thread::Threads;
 use tele_generations::Shelf;
 use tele_io::{Sink, SinkFault, Source};
 use tele_lanes::{Gate, Task};
-use tele_lines::{Cause, Item, Line, LineFault, Lines, Version, print_bad, print_interval};
+use tele_lines::{Cause, Item, Line, LineFault, Lines, Version};
 use tele_trees::TreeTables;
 
 /// The status at a refusal of the sink, or at want of memory.
@@ -39,7 +39,7 @@ pub(crate) fn refused(fault: SinkFault) -> u8
 }
 
 /// Reads the next line that asks for something, takes it into the open round, and answers the round
-/// if it ends there. `Some` is the status with which the run ends.
+/// if it ends there; then nothing is held back. `Some` is the status with which the run ends.
 pub(crate) fn step<R: Threads + Wait + Sync, G: Gate + Sync, H: Shelf<Closed>, S: Source, O: Sink>(
     rt: &R,
     gate: &G,
@@ -69,6 +69,11 @@ pub(crate) fn step<R: Threads + Wait + Sync, G: Gate + Sync, H: Shelf<Closed>, S
         IfSome (unread lines.old (S.left source.old)) (λ bytes.
         AppendsPart (O.written out.old) (O.written out.new)
         (due (moment_of lines.old round.old) bytes).text)) }
+
+    // Behind a round that ended, and behind the run, nothing is held back.
+    ensures passed_on { IfNone result (round.new.tasks ≡ [] → O.held out.new ≡ []) }
+    ensures all_passed_on { IfSome result (λ status.
+        ¬ (IsCutShort status) → O.held out.new ≡ []) }
 
     // The tables of the rounds that were run are all, and in order.
     ensures ran { IfNone result (IfSome (unread lines.old (S.left source.old)) (λ bytes.
@@ -116,7 +121,7 @@ pub(crate) fn step<R: Threads + Wait + Sync, G: Gate + Sync, H: Shelf<Closed>, S
             Ok(()) => None,
             Err(fault) => Some(refused(fault)),
         },
-        Ok(None) => match answer(rt, gate, tables, shelf, round, lines.version(), out) {
+        Ok(None) => match end_round(rt, gate, tables, shelf, round, lines.version(), out) {
             Ok(()) => Some(ANSWERED),
             Err(fault) => Some(refused(fault)),
         },
@@ -136,11 +141,15 @@ pub(crate) fn step<R: Threads + Wait + Sync, G: Gate + Sync, H: Shelf<Closed>, S
                 Err(fault) => Some(refused(fault)),
             }
         }
-        Err(LineFault::Read) => Some(READ_FAILED),
+        Err(LineFault::Read) => match out.pass_on() {
+            Ok(()) => Some(READ_FAILED),
+            Err(fault) => Some(refused(fault)),
+        },
     }
 }
 
-/// Takes a line into the round. Where the round ends there, its lines are answered.
+/// Takes a line into the round. Where the round ends there, its lines are answered, and the replies
+/// passed on.
 fn take<R: Threads + Wait + Sync, G: Gate + Sync, H: Shelf<Closed>, O: Sink>(
     rt: &R,
     gate: &G,
@@ -165,6 +174,7 @@ fn take<R: Threads + Wait + Sync, G: Gate + Sync, H: Shelf<Closed>, O: Sink>(
         (asked version round.new.tasks)) }
     ensures open { OnOk result (length round.new.tasks < round_limit) }
     ensures before { OnOk result (IsOpenBefore (line.number + 1) round.new) }
+    ensures passed_on { OnOk result (round.new.tasks ≡ [] → O.held out.new ≡ []) }
 
     ensures failed { result ≡ Err SinkFault.Failed →
         HaveRisen (O.faults out.old) (O.faults out.new) }
@@ -184,19 +194,19 @@ fn take<R: Threads + Wait + Sync, G: Gate + Sync, H: Shelf<Closed>, O: Sink>(
                 return Err(SinkFault::Memory);
             }
             if round.is_full() {
-                answer(rt, gate, tables, shelf, round, version, out)
+                end_round(rt, gate, tables, shelf, round, version, out)
             } else {
                 Ok(())
             }
         }
         Item::Interval { first, last } => {
             answer(rt, gate, tables, shelf, round, version, out)?;
-            print_interval(out, version, line.number, round.list(first, last))
+            end_with_pairs(out, version, line.number, round.list(first, last))
         }
     }
 }
 
-/// Answers the lines of the round, and names the bad line behind them.
+/// Answers the lines of the round, names the bad line behind them, and passes all of it on.
 fn name<R: Threads + Wait + Sync, G: Gate + Sync, H: Shelf<Closed>, O: Sink>(
     rt: &R,
     gate: &G,
@@ -213,6 +223,7 @@ fn name<R: Threads + Wait + Sync, G: Gate + Sync, H: Shelf<Closed>, O: Sink>(
 
     ensures printed { OnOk result (Appends (O.written out.old) (O.written out.new)
         (text_of (map_in round.old) (asked version round.old.tasks ++ Bad line cause ∷ []))) }
+    ensures passed_on { OnOk result (O.held out.new ≡ []) }
     ensures ran { OnOk result (RunsOn (λ table. table) round.old (H.kept shelf.old) round.new
         (H.kept shelf.new) (round_for round.old.tasks)) }
 
@@ -224,7 +235,43 @@ fn name<R: Threads + Wait + Sync, G: Gate + Sync, H: Shelf<Closed>, O: Sink>(
     ensures counted { O.faults out.old ≤ O.faults out.new }
 {
     answer(rt, gate, tables, shelf, round, version, out)?;
-    print_bad(out, line, cause)
+    end_with_bad(out, line, cause)
+}
+
+/// Answers the lines of the round, which ends with them, and passes the replies on.
+#[tactic(auto, using(crate::proofs::PassLemmas::passes))]
+fn end_round<R: Threads + Wait + Sync, G: Gate + Sync, H: Shelf<Closed>, O: Sink>(
+    rt: &R,
+    gate: &G,
+    tables: &mut TreeTables,
+    shelf: &mut H,
+    round: &mut Round,
+    version: Version,
+    out: &mut O,
+) -> Result<(), SinkFault>
+    requires rising { IsStrictlyIncreasing (task_lines round.old.tasks) }
+    requires few { length round.old.pairs + length round.old.tasks ≤ 2 ^ 24 }
+
+    ensures printed { OnOk result (Appends (O.written out.old) (O.written out.new)
+        (text_of (map_in round.old) (asked version round.old.tasks))) }
+    ensures passed_on { OnOk result (O.held out.new ≡ []) }
+    ensures behind { OnOk result
+        (map_in round.new ≡ replay (map_in round.old) (commands_of round.old.tasks)) }
+    ensures none { OnOk result (round.new.tasks ≡ []) }
+    ensures ran { OnOk result (RunsOn (λ table. table) round.old (H.kept shelf.old) round.new
+        (H.kept shelf.new) (round_for round.old.tasks)) }
+    ensures few { OnOk result
+        (length round.new.pairs ≤ length round.old.pairs + length round.old.tasks) }
+
+    ensures failed { result ≡ Err SinkFault.Failed →
+        HaveRisen (O.faults out.old) (O.faults out.new) }
+    ensures part { OnErr result (AppendsPart (O.written out.old) (O.written out.new)
+        (text_of (map_in round.old) (asked version round.old.tasks))) }
+
+    ensures counted { O.faults out.old ≤ O.faults out.new }
+{
+    answer(rt, gate, tables, shelf, round, version, out)?;
+    out.pass_on()
 }
 
 /// Answers the lines of the round, and prints the replies in their order.

@@ -5,7 +5,7 @@ use Rattle.tele_made.specs.Summaries.{summary_of, summary_text}
 use Rattle.tele_run.specs.Causes.{IsCutShort}
 use Rattle.tele_run.specs.declared.outcomes.TheConstants.{ANSWERED}
 use Rattle.tele_run.proofs.made.make_all.Goals as goal
-use Rattle.tele_run.proofs.made.make_all.Goals.{in-Ok+in-Ok-print_summary, in-Ok+in-Err-print_summary, in-Err}
+use Rattle.tele_run.proofs.made.make_all.Goals.{in-Ok+in-Ok-end_with_summary, in-Ok+in-Err-end_with_summary, in-Err}
 
 -- a text that was written whole isn't cut short
 not_cut : (status : ℕ) → status ≡ ANSWERED → IsCutShort status → ⊥
@@ -19,11 +19,11 @@ returns-clause-part g c cut =
     let text = summary_text (summary_of c.args.count c.args.seed) in
     let before = g.O.Sink.written c.args.out.now in
     elim c.match-summarize.branch [
-      | in-Ok+in-Ok-print_summary w ↦ absurd (not_cut _ w.status-is was_cut)
-      | in-Ok+in-Err-print_summary w ↦
+      | in-Ok+in-Ok-end_with_summary w ↦ absurd (not_cut _ w.status-is was_cut)
+      | in-Ok+in-Err-end_with_summary w ↦
           subst (λ out. AppendsPart before (g.O.Sink.written out) text) (sym w.out-is)
-          (subst (λ s. AppendsPart before (g.O.Sink.written w.print_summary.new.out) (summary_text s))
-          w.in-Ok.ensures.value w.in-Err-print_summary.ensures.part)
+          (subst (λ s. AppendsPart before (g.O.Sink.written w.end_with_summary.new.out) (summary_text s))
+          w.in-Ok.ensures.value w.in-Err-end_with_summary.ensures.part)
       | in-Err w ↦
           subst (λ out. AppendsPart before (g.O.Sink.written out) text) (sym w.out-is)
           (AppendsPart-nothing before text)

@@ -68,6 +68,16 @@ returns-in-Some-clause-part g c cut =
     on_and_part_if _ _ _ _ _ _ _ c.loop-status.invariant.due
     (c.in-Some.ensures.part (subst IsCutShort c.ended.ensures.status cut))
 
+-- there is no last table where nothing was answered
+pub returns-in-Some-clause-no_last : goal.returns-in-Some-clause-no_last
+returns-in-Some-clause-no_last g c none =
+    c.ended.ensures.none (λ is. none (subst IsAnswer (sym c.ended.ensures.status) is))
+
+-- nothing is held back
+pub returns-in-Some-clause-passed_on : goal.returns-in-Some-clause-passed_on
+returns-in-Some-clause-passed_on g c whole =
+    c.in-Some.ensures.all_passed_on (λ cut. whole (subst IsCutShort (sym c.ended.ensures.status) cut))
+
 -- the rounds of all lines were run
 pub returns-in-Some-clause-last : goal.returns-in-Some-clause-last
 returns-in-Some-clause-last g c is =

@@ -15,7 +15,7 @@ returns-in_err-answer-clause-part g c =
 -- the round was answered, and the bad line named
 pub returns-clause-printed : goal.returns-clause-printed
 returns-clause-printed g c =
-    on_ok c.print_bad.result c.print_bad.ensures.printed
+    on_ok c.end_with_bad.result c.end_with_bad.ensures.printed
     (text_then c.args.version (map_in c.args.round.now) c.args.round.now.tasks
     (Bad c.args.line c.args.cause ∷ []) _ _ _
     c.in_ok-answer.ensures.printed)
@@ -23,7 +23,7 @@ returns-clause-printed g c =
 -- or a part of what names it was written
 pub returns-clause-part : goal.returns-clause-part
 returns-clause-part g c =
-    on_err c.print_bad.result c.print_bad.ensures.part
+    on_err c.end_with_bad.result c.end_with_bad.ensures.part
     (part_then c.args.version (map_in c.args.round.now) c.args.round.now.tasks
     (Bad c.args.line c.args.cause ∷ []) _ _ _
     c.in_ok-answer.ensures.printed)

@@ -6,9 +6,9 @@ use Rattle.tele_lines.specs.Progress.{version_of}
 use Rattle.tele_run.specs.Open.{asked, map_in, round_for}
 use Rattle.tele_run.specs.Due.{moment_of}
 use Rattle.tele_run.proofs.AnswerLemmas.{status-asked}
-use Rattle.tele_run.proofs.TakeLemmas.{stay_open, takes_same}
+use Rattle.tele_run.proofs.TakeLemmas.{stay_kept, takes_same}
 use Rattle.tele_run.proofs.StepLemmas.{same_lines, status-taken, at_end}
-use Rattle.tele_run.proofs.ToldLemmas.{went_on_if, part_if, ended_if, ended_part_if}
+use Rattle.tele_run.proofs.ToldLemmas.{went_on_if, part_if, none_if, ended_if, ended_part_if}
 use Rattle.tele_run.proofs.CutLemmas.{task_rounds-open, task_rounds-bad}
 use Rattle.tele_run.proofs.DueRoundLemmas.{rounds_ended_if}
 use Rattle.tele_run.proofs.RanLemmas.{words_here}
@@ -27,8 +27,8 @@ returns-in-Err-clause-part g c =
     (rw (← c.version.ensures.value) at goes) c.in-Err.ensures.part
 
 -- the input has ended, and the open round was answered
-pub returns-in-Ok-answer-clause-ends : goal.returns-in-Ok-answer-clause-ends
-returns-in-Ok-answer-clause-ends g c =
+pub returns-in-Ok-end_round-clause-ends : goal.returns-in-Ok-end_round-clause-ends
+returns-in-Ok-end_round-clause-ends g c =
     let next = c.in-Ok-None.ensures in
     let reads = rw c.in-Ok-None.field-0-is at next.none in
     let v = c.version-in-Ok-None.result in
@@ -36,7 +36,7 @@ returns-in-Ok-answer-clause-ends g c =
     λ _. ended_if (moment_of c.args.lines.now c.args.round.now) (asked v tasks) [] _ 0 _ _
     (same_lines c.args.lines.now c.next.new.self v tasks c.version-in-Ok-None.ensures.value c.requires.chosen next.steady)
     (sym (status-asked v tasks [])) reads
-    (subst (Appends _ _) (at_end v (map_in c.args.round.now) tasks) c.in-Ok-answer.ensures.printed)
+    (subst (Appends _ _) (at_end v (map_in c.args.round.now) tasks) c.in-Ok-end_round.ensures.printed)
 
 -- a bad line was named
 pub returns-in-Ok-name-clause-ends : goal.returns-in-Ok-name-clause-ends
@@ -64,15 +64,20 @@ returns-in-Err-name-clause-part g c =
     (next.bad c.in-Err-Bad.line c.in-Err-Bad.cause is c.requires.going) c.in-Err-name.ensures.part
 
 -- the source failed, and nothing was written
-pub returns-in-Err-Read-clause-passed : goal.returns-in-Err-Read-clause-passed
-returns-in-Err-Read-clause-passed g c is =
+pub returns-in-Ok-pass_on-clause-passed : goal.returns-in-Ok-pass_on-clause-passed
+returns-in-Ok-pass_on-clause-passed g c is =
     let next = c.in-Err-Read.ensures in
     let v = version_of c.next.new.self in
     let tasks = c.args.round.now.tasks in
     went_on_if (moment_of c.args.lines.now c.args.round.now) (moment_of c.next.new.self c.args.round.now) (asked v tasks) [] _ _ _ _ _
     (same_lines c.args.lines.now c.next.new.self v tasks refl c.requires.chosen next.steady)
     (next.passed (ap Err c.in-Err-Read.field-0-is))
-    (takes_same _ _ _ _ _ _ _ _ (sym (append-nil (asked v tasks))) refl (stay_open (map_in c.args.round.now) (asked v tasks) _))
+    (takes_same _ _ _ _ _ _ _ _ (sym (append-nil (asked v tasks))) refl (stay_kept (map_in c.args.round.now) (asked v tasks) _ _ c.pass_on.ensures.same))
+
+-- or what was written before wasn't passed on
+pub returns-in-Err-pass_on-clause-part : goal.returns-in-Err-pass_on-clause-part
+returns-in-Err-pass_on-clause-part g c =
+    λ _. none_if (moment_of c.args.lines.now c.args.round.now) _ _ _ c.pass_on.ensures.same
 
 -- a line was taken
 pub returns-in-Ok-clause-goes_on : goal.returns-in-Ok-clause-goes_on
@@ -88,16 +93,16 @@ returns-in-Ok-clause-goes_on g c =
     (takes_same _ _ _ _ _ _ _ _ refl (ap (λ w. asked w c.take.new.round.tasks) c.version.ensures.value) c.in-Ok.ensures.taken)
 
 -- the rounds of the open lines were run at the end of the input
-pub returns-in-Ok-answer-clause-ran_all : goal.returns-in-Ok-answer-clause-ran_all
-returns-in-Ok-answer-clause-ran_all g c =
+pub returns-in-Ok-end_round-clause-ran_all : goal.returns-in-Ok-end_round-clause-ran_all
+returns-in-Ok-end_round-clause-ran_all g c =
     let next = c.in-Ok-None.ensures in
     let reads = rw c.in-Ok-None.field-0-is at next.none in
     let v = c.version-in-Ok-None.result in
     let tasks = c.args.round.now.tasks in
-    λ _. rounds_ended_if words_here c.args.round.now c.answer.new.round _ _
+    λ _. rounds_ended_if words_here c.args.round.now c.end_round.new.round _ _
     (moment_of c.args.lines.now c.args.round.now) (asked v tasks) [] (round_for tasks) _
     (same_lines c.args.lines.now c.next.new.self v tasks c.version-in-Ok-None.ensures.value c.requires.chosen next.steady)
-    reads (task_rounds-open v tasks c.requires.open) c.in-Ok-answer.ensures.ran
+    reads (task_rounds-open v tasks c.requires.open) c.in-Ok-end_round.ensures.ran
 
 -- and before a bad line
 pub returns-in-Ok-name-clause-ran_all : goal.returns-in-Ok-name-clause-ran_all

@@ -19,15 +19,15 @@ returns-in_err-answer-in-Interval-clause-part g c =
 pub returns-then-is_full-clause-taken : goal.returns-then-is_full-clause-taken
 returns-then-is_full-clause-taken g c =
     let asks = c.in_default.ensures in
-    on_ok3 c.answer.result c.answer.ensures.printed c.answer.ensures.behind c.answer.ensures.none
+    on_ok3 c.end_round.result c.end_round.ensures.printed c.end_round.ensures.behind c.end_round.ensures.none
     (taken_full c.args.version (map_in c.args.round.now) c.args.round.now.tasks c.args.line.number c.args.line.item c.in-Point.command
-    c.ask.new.self.tasks c.in-Point.is asks.asked (map_in c.ask.new.self) (map_in c.answer.new.round) c.answer.new.round.tasks _ _
+    c.ask.new.self.tasks c.in-Point.is asks.asked (map_in c.ask.new.self) (map_in c.end_round.new.round) c.end_round.new.round.tasks _ _
     (ap map_of asks.same) (c.is_full.ensures.value.0 c.if-is_full.true))
 
 pub returns-then-is_full-clause-part : goal.returns-then-is_full-clause-part
 returns-then-is_full-clause-part g c =
     let asks = c.in_default.ensures in
-    on_err c.answer.result c.answer.ensures.part
+    on_err c.end_round.result c.end_round.ensures.part
     (taken_part c.args.version (map_in c.args.round.now) c.args.round.now.tasks c.args.line.number c.args.line.item c.in-Point.command
     c.ask.new.self.tasks c.in-Point.is asks.asked (map_in c.ask.new.self) _ _ (ap map_of asks.same))
 
@@ -42,22 +42,22 @@ returns-else-is_full-clause-taken g c =
 pub returns-in_ok-answer-in-Interval-clause-taken : goal.returns-in_ok-answer-in-Interval-clause-taken
 returns-in_ok-answer-in-Interval-clause-taken g c =
     let answered = c.in_ok-answer-in-Interval.ensures in
-    on_ok c.print_interval.result c.print_interval.ensures.printed
+    on_ok c.end_with_pairs.result c.end_with_pairs.ensures.printed
     (taken_interval c.args.version (map_in c.args.round.now) c.args.round.now.tasks c.args.line.number c.in-Interval.first
-    c.in-Interval.last c.args.line.item c.in-Interval.is c.list.result.now (map_in c.answer-in-Interval.new.round) answered.behind
-    c.list.ensures.value c.answer-in-Interval.new.round.tasks _ _ _ c.requires.open answered.none answered.printed)
+    c.in-Interval.last c.args.line.item c.in-Interval.is c.list.result.now (map_in c.answer.new.round) answered.behind
+    c.list.ensures.value c.answer.new.round.tasks _ _ _ c.requires.open answered.none answered.printed)
 
 pub returns-in_ok-answer-in-Interval-clause-part : goal.returns-in_ok-answer-in-Interval-clause-part
 returns-in_ok-answer-in-Interval-clause-part g c =
     let answered = c.in_ok-answer-in-Interval.ensures in
-    on_err c.print_interval.result c.print_interval.ensures.part
+    on_err c.end_with_pairs.result c.end_with_pairs.ensures.part
     (interval_part c.args.version (map_in c.args.round.now) c.args.round.now.tasks c.args.line.number c.in-Interval.first
-    c.in-Interval.last c.args.line.item c.in-Interval.is c.list.result.now (map_in c.answer-in-Interval.new.round) answered.behind
+    c.in-Interval.last c.args.line.item c.in-Interval.is c.list.result.now (map_in c.answer.new.round) answered.behind
     c.list.ensures.value _ _ _ answered.printed)
 
 -- the tasks rise with the line
-pub answer-requires-clause-rising : goal.answer-requires-clause-rising
-answer-requires-clause-rising g c κs within =
+pub end_round-requires-clause-rising : goal.end_round-requires-clause-rising
+end_round-requires-clause-rising g c κs within =
     let asks = c.in_default.ensures in
     (open_more c.args.line.number c.args.round.now c.ask.new.self _ refl asks.asked asks.same c.requires.before).rises
 
@@ -65,10 +65,10 @@ answer-requires-clause-rising g c κs within =
 pub returns-then-is_full-clause-ran : goal.returns-then-is_full-clause-ran
 returns-then-is_full-clause-ran g c =
     let asks = c.in_default.ensures in
-    on_ok2 c.answer.result c.answer.ensures.ran c.answer.ensures.none
+    on_ok2 c.end_round.result c.end_round.ensures.ran c.end_round.ensures.none
     (rounds_full words_here c.args.version c.args.line.number c.args.line.item c.args.round.now
     (g.H.Shelf.kept c.args.shelf.now) c.in-Point.command c.in-Point.is c.ask.new.self asks.asked asks.same
-    asks.last_same asks.fulls_same asks.team_same asks.words_same c.answer.new.round _
+    asks.last_same asks.fulls_same asks.team_same asks.words_same c.end_round.new.round _
     (c.is_full.ensures.value.0 c.if-is_full.true))
 
 -- a round that stays open isn't
@@ -88,7 +88,7 @@ returns-else-is_full-clause-before g c =
 pub returns-in_ok-answer-in-Interval-clause-ran : goal.returns-in_ok-answer-in-Interval-clause-ran
 returns-in_ok-answer-in-Interval-clause-ran g c =
     let answered = c.in_ok-answer-in-Interval.ensures in
-    at_ok c.print_interval.result
+    at_ok c.end_with_pairs.result
     (rounds_interval words_here c.args.version c.args.line.number c.args.line.item c.args.round.now
     (g.H.Shelf.kept c.args.shelf.now) c.in-Interval.first c.in-Interval.last c.in-Interval.is c.requires.open
-    c.answer-in-Interval.new.round _ answered.ran answered.none)
+    c.answer.new.round _ answered.ran answered.none)

@@ -1,6 +1,6 @@
-use Rattle.std.proofs.Common.{length, ◌-◌, ◌≡◌, ◌≤◌, take}
+use Rattle.std.proofs.Common.{length, ◌≡◌, ◌-◌, ◌≤◌, take}
 use Rattle.tele_io.specs.Bytes.{Appends}
-use Rattle.tele_io.proofs.whole.write_whole.Given as goal
+use Rattle.tele_io.proofs.whole.write_out.Given as goal
 
 abbrev pub invariant-loop-taken : goal.invariant-loop-taken
 invariant-loop-taken g l = record {

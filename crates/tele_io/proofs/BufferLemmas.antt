@@ -1,0 +1,52 @@
+-- What a sink tells, with bytes that are held before it. Serves `BufferedSink`.
+use Rattle.std.proofs.Common.{◌≡◌, ℕ, List, [], ◌++◌, length, take, drop, Option, Some, None, sym, ◌∙◌, ap, append_assoc, append-nil, take-append-drop, arith}
+use Rattle.std.proofs.lemmas.List.{length-append, take_all, take-append-le}
+use Rattle.tele_io.specs.Bytes.{Appends, AppendsPart, Keeps}
+use Rattle.tele_io.specs.Buffers.{with_held}
+
+-- the first n of the bytes that were held are passed on, the others are held still
+pub keeps_passed : (before now : Option (List ℕ)) (held left : List ℕ) (n : ℕ)
+    → Appends before now (take n held) → left ≡ drop n held
+    → Keeps (with_held before held) (with_held now left)
+keeps_passed None now held left n passed is = tt
+keeps_passed (Some xs) None held left n passed is = absurd (cc passed)
+keeps_passed (Some xs) (Some ys) held left n passed is =
+    let same : (xs ++ take n held) ++ drop n held ≡ xs ++ held =
+    append_assoc {A = ℕ} xs (take n held) (drop n held) ∙ ap (λ l. xs ++ l) (take-append-drop n held) in
+    let here : ys ≡ xs ++ take n held = cc passed in
+    ap Some (ap (λ l. l ++ left) here ∙ ap (λ l. (xs ++ take n held) ++ l) is ∙ same)
+
+-- bytes are held behind those that were
+pub appends_held : (before : Option (List ℕ)) (held left bytes : List ℕ) → left ≡ held ++ bytes
+    → Appends (with_held before held) (with_held before left) bytes
+appends_held None held left bytes is = tt
+appends_held (Some xs) held left bytes is =
+    ap Some (ap (λ l. xs ++ l) is ∙ sym (append_assoc {A = ℕ} xs held bytes))
+
+-- bytes went to the sink behind, where none were held before it
+pub appends_passed : (before now : Option (List ℕ)) (held left bytes : List ℕ) → held ≡ [] → left ≡ []
+    → Appends before now bytes
+    → Appends (with_held before held) (with_held now left) bytes
+appends_passed None now held left bytes none still passed = tt
+appends_passed (Some xs) None held left bytes none still passed = absurd (cc passed)
+appends_passed (Some xs) (Some ys) held left bytes none still passed =
+    let here : ys ≡ xs ++ bytes = cc passed in
+    ap Some (ap (λ l. ys ++ l) still ∙ append-nil ys ∙ here
+    ∙ ap (λ l. l ++ bytes) (sym (append-nil xs) ∙ ap (λ l. xs ++ l) (sym none)))
+
+-- of a sink that had told no byte, what it tells is a prefix of what was taken
+pub passed_part : (now : Option (List ℕ)) (held text : List ℕ)
+    → AppendsPart (Some []) (with_held now held) text → AppendsPart (Some []) now text
+passed_part None held text part = absurd (cc part.2)
+passed_part (Some xs) held text part =
+    let n = part.0 in
+    let whole : xs ++ held ≡ take n text = cc part.2 in
+    let text_is : text ≡ xs ++ (held ++ drop n text) =
+    sym (take-append-drop n text) ∙ ap (λ l. l ++ drop n text) (sym whole)
+    ∙ append_assoc {A = ℕ} xs held (drop n text) in (
+      length xs,
+      omega (arith, ap length text_is, length-append xs (held ++ drop n text)),
+      ap Some (sym (take_all (length xs) xs (omega arith))
+          ∙ sym (take-append-le (length xs) xs (held ++ drop n text) (omega arith))
+          ∙ ap (take (length xs)) (sym text_is)),
+    )
