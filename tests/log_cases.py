@@ -11,6 +11,7 @@ of one rebuild (two_roots); and a rebuild of a lower row that has its root when 
 behind which its finish is decided no and the rebuild above goes on over it (finish_refused). The last line of what this says is
 'N passed, M failed'.
 """
+import math
 import subprocess
 import sys
 from pathlib import Path
@@ -151,6 +152,25 @@ def drawn(parts):
     return text + "".join(f"Draw 0 2071 {part}\n" for part in range(parts))
 
 
+def ideal_words(keys):
+    """How many words the rows and leaves of an ideal tree have: a row has as many slots as the root of its keys says, two at least."""
+    if keys < 2:
+        return 2 * keys
+    degree = max(2, math.isqrt(keys))
+    share, longer = divmod(keys, degree)
+    shorter = (degree - longer) * ideal_words(share)
+    return 2 * degree + 3 + shorter + (longer * ideal_words(share + 1) if longer else 0)
+
+
+def large_tables():
+    """Tables of many pairs, in just so many words as they need and in one too few."""
+    for keys in (255, 256, 20_000):
+        words = 4 + ideal_words(keys)
+        pairs = "".join(f" {key}:{key}" for key in range(keys))
+        yield f"start {words}{pairs}\n", f"ok next {words} callers 0 anchor 34"
+        yield f"start {words - 1}{pairs}\n", f"! form 1: {TABLE}"
+
+
 def refusals():
     """The logs of tests/logs/refused.txt, each with what is said of it."""
     events = log("small").splitlines(True)
@@ -168,6 +188,7 @@ def cases():
     yield from ENDS
     yield from ((text, f"! form {line}: {fault}") for text, line, fault in FORMS)
     yield from refusals()
+    yield from large_tables()
     yield from ((drawn(parts), "ok next 2120 callers 1 anchor 16572") for parts in (0, 1, 16, 17))
     for parts, event, condition in SHARES:
         text = drawn(parts)

@@ -31,6 +31,3 @@ pub use targeting::{remember_lists, remember_target};
 pub use updating::remember_update;
 pub use ways::{Span, remember_ways, ways_of_start};
 pub use writes::{count_at, decide, draw, set_root, set_row_slot, set_slot, set_status};
-
-#[cfg(test)]
-mod tests;
