@@ -1,7 +1,8 @@
 #!/bin/bash
 # Tests of log_check on small logs, lawful, unlawful and out of form (log_cases.py), and on logs of a million events with a stack of
 # 256 KB: a chain of pair rows, also with an event too many, a rebuild of all of it up to its Root, puts of one caller beside
-# many that each hold a row, and such callers alone. Each may take 60 seconds. The last line is 'N passed, M failed'.
+# many that each hold a row, such callers alone, and many rebuilds, of one size and of many. Each may take 60 seconds. The last
+# line is 'N passed, M failed'.
 set -u
 here=$(cd -P -- "$(dirname -- "$0")/.." && pwd)
 program=$here/crates/log_check/out/log_check
@@ -48,5 +49,11 @@ make_log crowd 111000
 check "ok next 2219995 callers 111000 anchor 1776122"
 make_log callers 500000
 check "ok next 1000004 callers 500000 anchor 0"
+# A rebuild of four pairs takes 44 words. With many sizes a put is followed by its rebuild, of 14 words, but for the last nine
+# puts, and by a caller's rows, of 13.
+make_log rebuilds 37000
+check "ok next 1628033 callers 1 anchor 13024026"
+make_log sizes 35700
+check "ok next 1606371 callers 35701 anchor 5140780"
 echo "$passed passed, $failed failed"
 [ "$failed" = 0 ]
