@@ -24,6 +24,3 @@ pub use maps::{Changes, Inners, Leaves, Rebuilds};
 pub use pairs::Pair;
 pub use ports::{Full, Port};
 pub use states::{ChangeRow, InnerRow, LeafRow, RebuildRow, State};
-
-#[cfg(test)]
-mod tests;

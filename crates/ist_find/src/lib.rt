@@ -10,8 +10,6 @@ mod children;
 mod finding;
 mod keys;
 mod reading;
-#[cfg(test)]
-mod tests;
 mod walking;
 
 pub use answers::{Child, Counted, Found};

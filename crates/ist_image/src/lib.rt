@@ -8,6 +8,3 @@ mod laying;
 mod rows;
 
 pub use images::{Image, lay_image, needed_words};
-
-#[cfg(test)]
-mod tests;

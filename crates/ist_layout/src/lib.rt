@@ -25,6 +25,3 @@ pub use statuses::{
     DECIDED_NO, DECIDED_YES, FINISH_KIND, MARKED_WORD, OPEN_WORD, PUT_KIND, REMOVE_KIND,
     START_KIND, Status, UNDECIDED,
 };
-
-#[cfg(test)]
-mod tests;

@@ -20,6 +20,3 @@ pub use gallops::Gallop;
 pub use parts::Part;
 pub use shares::{degree, part};
 pub use sizes::{SHARE_FROM, ideal_words, limit};
-
-#[cfg(test)]
-mod tests;

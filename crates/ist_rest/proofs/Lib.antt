@@ -8,4 +8,3 @@ pub mod StandingLemmas
 pub mod SettledLemmas
 pub mod MapLemmas
 pub mod NewLemmas
-mod NewExampleLemmas

@@ -11,6 +11,3 @@ pub mod laws;
 mod settling;
 
 pub use closed::Closed;
-
-#[cfg(test)]
-mod tests;

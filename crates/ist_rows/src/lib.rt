@@ -10,8 +10,6 @@ mod entering;
 mod kinds;
 pub mod laws;
 mod reserving;
-#[cfg(test)]
-mod tests;
 
 pub use callers::Caller;
 pub use dropping::drop_pair;

@@ -6,17 +6,9 @@
 #![tactic(auto)]
 
 mod callers;
-#[cfg(test)]
-mod ends_tests;
 pub mod laws;
 mod looking;
 mod shots;
-#[cfg(test)]
-mod steps;
-#[cfg(test)]
-mod tests;
-#[cfg(test)]
-mod threads_tests;
 mod totals;
 mod walks;
 

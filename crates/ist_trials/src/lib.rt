@@ -1,11 +1,14 @@
-//! Puts, removes and finds on trees, by one pass and by several: tests alone.
+//! Puts, removes, finds and shots of trees, by one pass and by several: tests alone.
 //!
-//! Read `rows.rt`, then `shortages.rt`, then `threads.rt`. Stands on `ist_tree`, `ist_tales`
+//! Read `openings.rt` and `closed_trees.rt`, then `rows.rt`, `shortages.rt` and `threads.rt`, and
+//! then `shots.rt` with `scans.rt`, `scan_ends.rt` and `scan_threads.rt`. Stands on `ist_tree`, `ist_scan`, `ist_tales`
 //! and `plain_map`.
 #![tactic(auto)]
 
 #[cfg(test)]
 mod asking;
+#[cfg(test)]
+mod closed_trees;
 #[cfg(test)]
 mod finds;
 #[cfg(test)]
@@ -17,7 +20,15 @@ mod rebuilds;
 #[cfg(test)]
 mod rows;
 #[cfg(test)]
+mod scan_ends;
+#[cfg(test)]
+mod scan_threads;
+#[cfg(test)]
+mod scans;
+#[cfg(test)]
 mod shortages;
+#[cfg(test)]
+mod shots;
 #[cfg(test)]
 mod threads;
 #[cfg(test)]

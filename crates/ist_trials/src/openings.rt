@@ -1,10 +1,27 @@
-//! Trees that are opened with a run of keys.
+//! Trees that are opened with two pairs, or with a run of keys.
 ghost use Rattle.std.specs.Prelude.{◌≡◌, ◌≤◌, [], IfOk};
 
-use ist_core::Command;
+use ist_core::{Command, Pair};
 use ist_tree::{Maker, OpenFault, Tree};
 use plain_map::Plain;
 use std::alloc::{AllocError, Global};
+
+/// The least of two pairs.
+pub(crate) const FIVE: Pair = Pair { key: 5, value: 7 };
+
+/// The greatest of two pairs.
+pub(crate) const NINE: Pair = Pair { key: 9, value: 1 };
+
+/// A tree of so many words with the pairs (5, 7) and (9, 1), whose rows end before 15.
+pub(crate) fn two_pairs(alloc: Global, words: u32) -> Result<(Tree, Maker), OpenFault>
+    requires few { words ≤ 1000 }
+    ensures same_tree { IfOk result (λ t. t.1.tree ≡ t.0) }
+    ensures made { IfOk result (λ t. t.1.made ≡ 0) }
+    ensures taken { IfOk result (λ t. t.1.taken ≡ []) }
+{
+    let pairs = [FIVE, NINE];
+    Tree::open(alloc, words, &pairs)
+}
 
 /// The map with the keys from `first` to the one before `end`, each with its own number and `more` as the
 /// value.

@@ -23,6 +23,3 @@ pub use listing::{all_words, list_words};
 pub use reading::reads;
 pub use rows::{degree_at, slot_at};
 pub use words::WordList;
-
-#[cfg(test)]
-mod tests;

@@ -7,6 +7,3 @@ mod command;
 mod options;
 
 pub use options::{Options, Refusal, read_options};
-
-#[cfg(test)]
-mod tests;

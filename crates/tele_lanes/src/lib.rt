@@ -18,6 +18,3 @@ pub use gathering::{first_refusal, gather, open_tasks};
 pub use lanes::{Lane, run_lanes};
 pub use splitting::{lane_of, split};
 pub use task_lists::{Task, Tasks};
-
-#[cfg(test)]
-mod tests;

@@ -17,6 +17,3 @@ pub use items::{Cause, Item, Line, LineFault, Version};
 pub use numerals::{shifted, signed};
 pub use printing::{print_answer, print_bad, print_interval};
 pub use reader::Lines;
-
-#[cfg(test)]
-mod tests;

@@ -9,6 +9,3 @@ mod summaries;
 
 pub use makers::Maker;
 pub use summaries::{Summary, print_summary, sum_of};
-
-#[cfg(test)]
-mod tests;

@@ -14,6 +14,3 @@ mod yards;
 
 pub use stealing::run_stolen;
 pub use yards::Yard;
-
-#[cfg(test)]
-mod tests;

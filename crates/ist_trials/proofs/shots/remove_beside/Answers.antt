@@ -1,0 +1,10 @@
+use Rattle.ist_scan.proofs.ShotLemmas.{GoesOnWell, frozen_on}
+use Rattle.ist_trials.proofs.shots.remove_beside.Goals as goal
+
+pub returns-clause-frozen : goal.returns-clause-frozen
+returns-clause-frozen g c =
+    let pass = c.args.pass.now in
+    let seen = c.remove-reply.ensures.seen in
+    let on : GoesOnWell pass c.remove-reply.new.pass
+    = record { tree = seen.tree; seen = seen.seen; lawful = c.know.ensures.lawful } in
+    frozen_on pass c.remove-reply.new.pass on c.args.shot.now c.requires.frozen

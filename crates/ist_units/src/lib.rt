@@ -1,0 +1,23 @@
+//! The crates below the tree, call by call: tests alone.
+//!
+//! Read `ports.rt`, `arithmetic.rt` and `layouts.rt`, then `images.rt` with `samples.rt`, `callers.rt`, `searches.rt` and
+//! `resting_words.rt`. Stands on `ist_core`, `ist_math`, `ist_layout`, `ist_image`, `ist_rows`, `ist_find`, `ist_words` and
+//! `ist_samples`, and on what these stand on.
+#![tactic(auto)]
+
+#[cfg(test)]
+mod arithmetic;
+#[cfg(test)]
+mod callers;
+#[cfg(test)]
+mod images;
+#[cfg(test)]
+mod layouts;
+#[cfg(test)]
+mod ports;
+#[cfg(test)]
+mod resting_words;
+#[cfg(test)]
+mod samples;
+#[cfg(test)]
+mod searches;

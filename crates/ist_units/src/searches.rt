@@ -1,0 +1,193 @@
+//! Searches of small tables, one of them with a put that waits to be decided, and the loads of searches.
+ghost use Rattle.std.specs.Prelude.{◌≡◌, ◌<◌, ◌^◌, IfOk};
+ghost use Rattle.ist_rows.specs.Rows.{IsCaller};
+ghost use Rattle.ist_find.specs.Searches.{IsRow};
+
+use crate::samples::pairs_of;
+use ist_core::Pair;
+use ist_dcss::{Decision, Installed, help};
+use ist_find::{Child, Found, child_at, find_and_loads, find_from_anchor};
+use ist_image::lay_image;
+use ist_layout::{ANCHOR_SLOT_PLACE, Ref};
+use ist_rows::{Caller, Kind, enter, reserve};
+use ist_rule::{TreeSeat, TreeTable, know, load, open_table};
+use ist_samples::{empty_table, install_put, table_of_two};
+use std::alloc::{AllocError, Global};
+use std::test::Fail;
+
+// The table of two pairs: an inner row at 4, and two leaves.
+fn two_pairs(alloc: Global) -> Result<(TreeTable, TreeSeat), AllocError>
+    ensures same_table { IfOk result (λ t. t.1.table ≡ t.0.table) }
+    ensures row { IfOk result (λ t. IsRow t.1.view 4) }
+{
+    table_of_two(alloc)
+}
+
+#[test]
+fn each_key_is_found_with_its_value(rt: HostRuntime) -> Result<(), Fail> {
+    // the key, its child in the row, the word in its slot, its value
+    let cases = [
+        (5, 0, 89, Some(7)),
+        (9, 1, 105, Some(1)),
+        (6, 0, 89, None),
+        (0, 0, 89, None),
+        (10, 1, 105, None),
+        (u64::MAX, 1, 105, None),
+    ];
+    for (key, index, word, value) in cases {
+        let (table, mut seat) = two_pairs(rt.alloc())?;
+        let child = child_at(&table, &mut seat, 4, key);
+        assert_eq!(rt; child, Child { index, word }, "key {key}");
+        let found = find_from_anchor(&table, &mut seat, key);
+        let node = 4;
+        assert_eq!(rt; found, Found { value, node, index }, "key {key}");
+    }
+    Ok(())
+}
+
+// A table of 100 words with ten pairs, whose keys are three apart: a row at 4 with the keys 13 and
+// 22, and below it rows with one key each.
+fn ten_pairs(alloc: Global) -> Result<(TreeTable, TreeSeat), AllocError>
+    ensures same_table { IfOk result (λ t. t.1.table ≡ t.0.table) }
+{
+    let pairs = vec![in alloc;
+        Pair { key: 1, value: 0 },
+        Pair { key: 4, value: 1 },
+        Pair { key: 7, value: 2 },
+        Pair { key: 10, value: 3 },
+        Pair { key: 13, value: 4 },
+        Pair { key: 16, value: 5 },
+        Pair { key: 19, value: 6 },
+        Pair { key: 22, value: 7 },
+        Pair { key: 25, value: 8 },
+        Pair { key: 28, value: 9 },
+    ]?;
+    let image = lay_image(alloc, 100, pairs.as_slice())?;
+    open_table(alloc, image, &pairs)
+}
+
+#[test]
+fn a_search_loads_the_words_of_its_way_alone(rt: HostRuntime) -> Result<(), Fail> {
+    // Each search loads word 0 and the anchor's slot. A row of degree d costs d + 1 loads: its
+    // degree, its d - 1 keys, a slot. A leaf costs one, and its value another. By way of rows of
+    // the degrees 3, 2 and 2 that is 2 + 4 + 3 + 3 + 1, and by way of 3 and 2 it is 3 less.
+    // The key, its value, the loads.
+    let cases = [
+        (0, None, 13),
+        (1, Some(0), 14),
+        (2, None, 13),
+        (4, Some(1), 14),
+        (6, None, 13),
+        (7, Some(2), 14),
+        (9, None, 13),
+        (10, Some(3), 14),
+        (12, None, 13),
+        (13, Some(4), 14),
+        (15, None, 13),
+        (16, Some(5), 14),
+        (18, None, 13),
+        (19, Some(6), 11),
+        (21, None, 10),
+        (22, Some(7), 14),
+        (24, None, 13),
+        (25, Some(8), 14),
+        (27, None, 13),
+        (28, Some(9), 11),
+        (29, None, 10),
+        (u64::MAX, None, 10),
+    ];
+    for (key, value, loads) in cases {
+        let (table, mut seat) = ten_pairs(rt.alloc())?;
+        let found = find_and_loads(&table, &mut seat, key);
+        assert_eq!(rt;
+            (found.value.value, found.loads),
+            (value, loads),
+            "key {key}"
+        );
+    }
+    Ok(())
+}
+
+// A table of so many pairs, with the keys from 0 on.
+fn numbers(alloc: Global, count: u64) -> Result<(TreeTable, TreeSeat), AllocError>
+    requires few { count < 2 ^ 20 }
+    ensures same_table { IfOk result (λ t. t.1.table ≡ t.0.table) }
+{
+    let pairs = pairs_of(alloc, count)?;
+    let image = lay_image(alloc, 9 * count + 10, pairs.as_slice())?;
+    open_table(alloc, image, &pairs)
+}
+
+#[test]
+fn a_search_loads_few_keys_of_a_row_with_more_than_four(rt: HostRuntime) -> Result<(), Fail> {
+    // 36 pairs: a row with the keys 6, 12, 18, 24 and 30 over rows of six pairs, these over two
+    // rows of three, and these over a row of two and a leaf. The first row costs its degree, the
+    // keys at both ends, a slot; for a key between them, the key at the guess too, which is right,
+    // and the one before, where that isn't the first. All others have one key, and cost 3.
+    // The key, its value, the loads.
+    let cases = [
+        (0, Some(1), 2 + 4 + 9 + 2),
+        (5, Some(6), 2 + 4 + 6 + 2),
+        (6, Some(7), 2 + 5 + 9 + 2),
+        (8, Some(9), 2 + 5 + 6 + 2),
+        (12, Some(13), 2 + 6 + 9 + 2),
+        (17, Some(18), 2 + 6 + 6 + 2),
+        (23, Some(24), 2 + 6 + 6 + 2),
+        (24, Some(25), 2 + 6 + 9 + 2),
+        (29, Some(30), 2 + 6 + 6 + 2),
+        (30, Some(31), 2 + 4 + 9 + 2),
+        (35, Some(36), 2 + 4 + 6 + 2),
+        (36, None, 2 + 4 + 6 + 1),
+        (u64::MAX, None, 2 + 4 + 6 + 1),
+    ];
+    for (key, value, loads) in cases {
+        let (table, mut seat) = numbers(rt.alloc(), 36)?;
+        let found = find_and_loads(&table, &mut seat, key);
+        assert_eq!(rt;
+            (found.value.value, found.loads),
+            (value, loads),
+            "key {key}"
+        );
+    }
+    Ok(())
+}
+
+// Helps the change at 6 where the anchor's slot holds it.
+fn help_met(table: &TreeTable, who: &mut Caller) -> Option<Decision>
+    requires same_table { who.old.seat.table ≡ table.now.table }
+    requires caller { IsCaller who.old }
+    ensures same_table { who.new.seat.table ≡ table.now.table }
+{
+    know(&who.seat);
+    let met = load(table, &mut who.seat, ANCHOR_SLOT_PLACE);
+    if met == (Ref::Change { base: 6 }).to_word() {
+        return Some(help(table, &mut who.seat, 6));
+    }
+    None
+}
+
+#[test]
+fn a_put_is_found_once_it_is_decided(rt: HostRuntime) -> Result<(), Fail> {
+    let (table, mut maker) = empty_table(rt.alloc(), 26)?;
+    let mut first = enter(&table, &mut maker);
+    let mut second = enter(&table, &mut maker);
+    assert_eq!(rt; find_from_anchor(&table, &mut maker, 1).value, None);
+    assert_eq!(rt; reserve(&table, &rt, &mut first, Kind::Leaf), Ok(4));
+    assert_eq!(rt; reserve(&table, &rt, &mut first, Kind::Change), Ok(6));
+    assert!(rt; first.number == 0);
+    assert!(rt; first.leaf == Some(4));
+    assert!(rt; first.change == Some(6));
+    assert_eq!(rt; install_put(&table, &mut first), Installed::Yes);
+    // Word 0, the anchor's slot, the change's decision, its `from`.
+    let before = find_and_loads(&table, &mut maker, 1);
+    assert_eq!(rt; (before.value.value, before.loads), (None, 4));
+    assert_eq!(rt; help_met(&table, &mut second), Some(Decision::Yes));
+    let there = Found {
+        value: Some(1),
+        node: 2,
+        index: 0,
+    };
+    assert_eq!(rt; find_from_anchor(&table, &mut maker, 1), there);
+    assert_eq!(rt; find_from_anchor(&table, &mut maker, 2).value, None);
+    Ok(())
+}
