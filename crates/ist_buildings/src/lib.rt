@@ -1,7 +1,7 @@
 //! Rebuilds of small, of shared and of changed tables, by direct calls of the crates that mark, build and rebuild: tests alone.
 //!
-//! Read `tables.rt` and `callers.rt`, then `turns.rt`, `races.rt`, `shortages.rt`, `shares.rt` and `leaves.rt`; then `updates.rt` and
-//! `late.rt`, and `marked.rt` and `frozen.rt`. Stands on `ist_updates` and on the crates below it, and on the laws of `ist_tree`.
+//! Read `tables.rt` and `callers.rt`, then `turns.rt`, `races.rt`, `shortages.rt`, `shares.rt`, `leaves.rt` and `loads.rt`; then `updates.rt`
+//! and `late.rt`, and `marked.rt`, `frozen.rt` and `standing.rt`. Stands on `ist_updates` and on the crates below it, and on the laws of `ist_tree`.
 #![tactic(auto)]
 
 #[cfg(test)]
@@ -15,6 +15,8 @@ mod late;
 #[cfg(test)]
 mod leaves;
 #[cfg(test)]
+mod loads;
+#[cfg(test)]
 mod marked;
 #[cfg(test)]
 mod races;
@@ -22,6 +24,8 @@ mod races;
 mod shares;
 #[cfg(test)]
 mod shortages;
+#[cfg(test)]
+mod standing;
 #[cfg(test)]
 mod tables;
 #[cfg(test)]

@@ -5,7 +5,6 @@ pub mod StartLemmas
 pub mod RebuildLemmas
 pub mod ShutLemmas
 pub mod ShortLemmas
-pub mod NestedLemmas
 pub mod DueLemmas
 pub mod CameLemmas
 pub mod CarryLemmas
@@ -34,4 +33,3 @@ pub mod FreezeCallLemmas
 pub mod FreezeEndLemmas
 pub mod FreezeReadLemmas
 pub mod FreezeMarkLemmas
-pub mod NumberedLemmas

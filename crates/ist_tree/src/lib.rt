@@ -19,14 +19,3 @@ pub use freezing::Frozen;
 pub use passes::{Maker, Note, Pass};
 pub use ports::TreePort;
 pub use trees::Tree;
-
-#[cfg(test)]
-mod freezing_tests;
-#[cfg(test)]
-mod loads_tests;
-#[cfg(test)]
-mod nested_tests;
-#[cfg(test)]
-mod standing_tests;
-#[cfg(test)]
-mod tests;

@@ -1,6 +1,6 @@
-//! Puts, removes, finds and shots of trees, by one pass and by several: tests alone.
+//! Puts, removes, finds, freezes and shots of trees, by one pass and by several: tests alone.
 //!
-//! Read `openings.rt` and `closed_trees.rt`, then `rows.rt`, `shortages.rt` and `threads.rt`, and
+//! Read `openings.rt`, `new_trees.rt`, `closed_trees.rt` and `freezes.rt`, then `rows.rt`, `shortages.rt` and `threads.rt`, and
 //! then `shots.rt` with `scans.rt`, `scan_ends.rt` and `scan_threads.rt`. Stands on `ist_tree`, `ist_scan`, `ist_tales`
 //! and `plain_map`.
 #![tactic(auto)]
@@ -12,7 +12,11 @@ mod closed_trees;
 #[cfg(test)]
 mod finds;
 #[cfg(test)]
+mod freezes;
+#[cfg(test)]
 mod frozen_pairs;
+#[cfg(test)]
+mod new_trees;
 #[cfg(test)]
 mod openings;
 #[cfg(test)]

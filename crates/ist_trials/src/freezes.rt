@@ -1,26 +1,13 @@
 //! Trees that are frozen whole, while their words suffice and where they don't.
-ghost use Rattle.std.specs.Prelude.{◌≡◌, ◌≤◌, [], IfOk};
+ghost use Rattle.std.specs.Prelude.{◌≤◌};
 
-use crate::{Maker, OpenFault, Tree};
-use ist_core::{Full, Pair};
+use crate::openings::{FIVE, NINE, two_pairs};
+use ist_core::Full;
+use ist_tree::{OpenFault, Tree};
+use ist_words::WordList;
 use std::alloc::Global;
 use std::sync::Wait;
 use std::test::Fail;
-
-const TEN: Pair = Pair { key: 10, value: 1 };
-
-const TWENTY: Pair = Pair { key: 20, value: 2 };
-
-// A tree of so many words with the pairs (10, 1) and (20, 2).
-fn two_pairs(alloc: Global, words: u32) -> Result<(Tree, Maker), OpenFault>
-    requires few { words ≤ 1000 }
-    ensures same_tree { IfOk result (λ t. t.1.tree ≡ t.0) }
-    ensures made { IfOk result (λ t. t.1.made ≡ 0) }
-    ensures taken { IfOk result (λ t. t.1.taken ≡ []) }
-{
-    let pairs = [TEN, TWENTY];
-    Tree::open(alloc, words, &pairs)
-}
 
 #[test]
 fn a_frozen_tree_has_its_pairs_and_the_tree_goes_on_settled(rt: HostRuntime) -> Result<(), Fail> {
@@ -30,8 +17,8 @@ fn a_frozen_tree_has_its_pairs_and_the_tree_goes_on_settled(rt: HostRuntime) -> 
         Ok(frozen) => {
             assert_eq!(rt; frozen.keys, 2);
             if frozen.keys == 2 {
-                assert_eq!(rt; tree.frozen_pair(&mut pass, &frozen, 0), TEN);
-                assert_eq!(rt; tree.frozen_pair(&mut pass, &frozen, 1), TWENTY);
+                assert_eq!(rt; tree.frozen_pair(&mut pass, &frozen, 0), FIVE);
+                assert_eq!(rt; tree.frozen_pair(&mut pass, &frozen, 1), NINE);
             }
         }
         Err(full) => assert_eq!(rt; Some(full), None, "no refusal"),
@@ -79,16 +66,42 @@ fn a_refused_building_is_kept_and_a_refused_start_is_answered(rt: HostRuntime) -
 }
 
 #[test]
+fn a_tree_is_frozen_while_the_rebuild_of_another_stands_still(rt: HostRuntime) -> Result<(), Fail> {
+    let (tree, mut maker) = two_pairs(rt.alloc(), 29)?;
+    let mut first = tree.pass(&mut maker);
+    let mut second = tree.pass(&mut maker);
+    // the start takes the last words, so that the first pass leaves the rebuild without a root
+    assert!(rt; tree.freeze(&rt, &mut first).is_ok());
+    match tree.freeze(&rt, &mut second) {
+        Ok(frozen) => {
+            assert_eq!(rt; frozen.keys, 2);
+            if frozen.keys == 2 {
+                assert_eq!(rt; tree.frozen_pair(&mut second, &frozen, 0), FIVE);
+                assert_eq!(rt; tree.frozen_pair(&mut second, &frozen, 1), NINE);
+            }
+        }
+        Err(full) => assert_eq!(rt; Some(full), None, "no refusal"),
+    }
+    assert_eq!(rt; second.rebuild_refused(), first.rebuild_refused());
+    assert_eq!(rt; tree.find(&mut second, 9), Some(1));
+    tree.take_back(&mut maker, first);
+    tree.take_back(&mut maker, second);
+    let closed = tree.close(maker);
+    // the word of the rebuild at 15
+    assert!(rt; closed.word(3) == 124 && !closed.settled());
+    Ok(())
+}
+
+#[test]
 fn a_leaf_is_frozen_as_it_is(rt: HostRuntime) -> Result<(), Fail> {
-    let pairs = [Pair { key: 5, value: 7 }];
+    let pairs = [FIVE];
     let (tree, mut maker) = Tree::open(rt.alloc(), 6, &pairs)?;
     let mut pass = tree.pass(&mut maker);
     match tree.freeze(&rt, &mut pass) {
         Ok(frozen) => {
             assert_eq!(rt; frozen.keys, 1);
             if frozen.keys == 1 {
-                let pair = tree.frozen_pair(&mut pass, &frozen, 0);
-                assert_eq!(rt; pair, Pair { key: 5, value: 7 });
+                assert_eq!(rt; tree.frozen_pair(&mut pass, &frozen, 0), FIVE);
             }
         }
         Err(full) => assert_eq!(rt; Some(full), None, "no refusal"),

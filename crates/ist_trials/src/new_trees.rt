@@ -1,27 +1,10 @@
-//! New trees, searched by passes that tell each other what they know, on one thread and on two.
-ghost use Rattle.std.specs.Prelude.{◌≡◌, [], IfOk};
+//! New trees, which are searched by passes that tell each other what they know, and closed.
 
-use crate::{Maker, OpenFault, Pass, Tree};
-use ist_core::Pair;
+use crate::openings::{FIVE, NINE, two_pairs};
 use ist_image::Image;
+use ist_tree::{OpenFault, Tree};
 use ist_words::WordList;
-use std::alloc::Global;
 use std::test::Fail;
-use std::thread::join;
-
-const FIVE: Pair = Pair { key: 5, value: 7 };
-
-const NINE: Pair = Pair { key: 9, value: 1 };
-
-// A tree of 20 words with the pairs (5, 7) and (9, 1).
-fn two_pairs(alloc: Global) -> Result<(Tree, Maker), OpenFault>
-    ensures same_tree { IfOk result (λ t. t.1.tree ≡ t.0) }
-    ensures made { IfOk result (λ t. t.1.made ≡ 0) }
-    ensures taken { IfOk result (λ t. t.1.taken ≡ []) }
-{
-    let pairs = [FIVE, NINE];
-    Tree::open(alloc, 20, &pairs)
-}
 
 #[test]
 fn each_key_is_found_with_its_opening_value(rt: HostRuntime) -> Result<(), Fail> {
@@ -34,7 +17,7 @@ fn each_key_is_found_with_its_opening_value(rt: HostRuntime) -> Result<(), Fail>
         (u64::MAX, None),
     ];
     for (key, value) in cases {
-        let (tree, mut maker) = two_pairs(rt.alloc())?;
+        let (tree, mut maker) = two_pairs(rt.alloc(), 20)?;
         let mut pass = tree.pass(&mut maker);
         assert_eq!(rt; tree.find(&mut pass, key), value, "key {key}");
     }
@@ -90,7 +73,7 @@ fn one_image_serves_for_two_openings(rt: HostRuntime) -> Result<(), Fail> {
 
 #[test]
 fn notes_go_from_pass_to_pass_until_the_tree_is_closed(rt: HostRuntime) -> Result<(), Fail> {
-    let (tree, mut maker) = two_pairs(rt.alloc())?;
+    let (tree, mut maker) = two_pairs(rt.alloc(), 20)?;
     let mut first = tree.pass(&mut maker);
     let mut second = tree.pass(&mut maker);
     assert_eq!(rt; tree.find(&mut first, 5), Some(7));
@@ -113,32 +96,5 @@ fn notes_go_from_pass_to_pass_until_the_tree_is_closed(rt: HostRuntime) -> Resul
         [FIVE, NINE].as_slice()
     );
     assert!(rt; closed.used() == 15 && closed.word(1) == 3);
-    Ok(())
-}
-
-// What a pass finds at the key.
-fn found_by(tree: &Tree, pass: Pass, key: u64) -> Option<u64>
-    requires same_tree { pass.tree ≡ tree.now }
-{
-    let mut pass = pass;
-    tree.find(&mut pass, key)
-}
-
-#[test]
-fn two_threads_find_in_one_tree(rt: HostRuntime) -> Result<(), Fail> {
-    let (tree, mut maker) = two_pairs(rt.alloc())?;
-    let one = tree.pass(&mut maker);
-    let two = tree.pass(&mut maker);
-    let (left, right) = join(
-        &rt,
-        ||
-            requires same_tree { one.tree ≡ tree }
-        { found_by(&tree, one, 5) },
-        ||
-            requires same_tree { two.tree ≡ tree }
-        { found_by(&tree, two, 9) },
-    );
-    assert_eq!(rt; left, Some(7));
-    assert_eq!(rt; right, Some(1));
     Ok(())
 }

@@ -1,0 +1,155 @@
+//! Rebuilds that stand still while others put and remove, or while the row above is rebuilt.
+ghost use Rattle.std.specs.Prelude.{◌≡◌};
+ghost use Rattle.ist_core.specs.Rebuilding.{IsStarted};
+ghost use Rattle.ist_rebuild.specs.Finishing.{IsAble};
+ghost use Rattle.ist_rule.specs.Learning.{now};
+
+use crate::callers::{enter_call, help_on, mark};
+use crate::shares::begin_top;
+use crate::tables::{Opened, all_words, are_alike, numbered, open, open_numbered};
+use crate::updates::{enter_idle, start_due, update_all, update_due};
+use ist_core::{Full, Pair};
+use ist_find::find_from_anchor;
+use ist_rebuild::{Helped, Started};
+use ist_rows::Caller;
+use ist_rule::TreeTable;
+use ist_tree::OpenFault;
+use std::alloc::{AllocError, Global};
+use std::sync::Wait;
+use std::test::Fail;
+
+const TEN: Pair = Pair { key: 10, value: 1 };
+
+const TWENTY: Pair = Pair { key: 20, value: 2 };
+
+#[test]
+fn a_put_is_answered_while_the_rebuild_in_its_way_stands_still(
+    rt: HostRuntime,
+) -> Result<(), Fail> {
+    let Opened {
+        table,
+        mut maker,
+        ..
+    } = open(rt.alloc(), &[TEN, TWENTY], 1000)?;
+    let mut second = enter_idle(&table, &mut maker);
+    let mut first = enter_call(&table, &mut maker);
+    assert_eq!(rt; begin_top(&table, &rt, &mut first), Some(15));
+    assert!(rt; update_all(&table, &rt, &mut second, &[(10, Some(7)), (20, None)]));
+    assert_eq!(rt; find_from_anchor(&table, &mut maker, 10).value, Some(7));
+    assert_eq!(rt; find_from_anchor(&table, &mut maker, 20).value, None);
+    Ok(())
+}
+
+// The pairs of the table at first: the row over them has 14 children, the second of the keys from 16 to 30.
+const LAST: u64 = 200;
+
+// The first seven of eight puts at the key 16.
+const SEVEN: [(u64, Option<u64>); 7] = [
+    (16, Some(1)),
+    (16, Some(2)),
+    (16, Some(3)),
+    (16, Some(4)),
+    (16, Some(5)),
+    (16, Some(6)),
+    (16, Some(7)),
+];
+
+// The words that a new table has of these pairs, but with 8 at the key 16.
+fn image_behind(alloc: Global) -> Result<Vec<u64>, OpenFault> {
+    let mut pairs = numbered(alloc, LAST)?;
+    if let Some(pair) = pairs.get_mut(15) {
+        *pair = Pair { key: 16, value: 8 };
+    }
+    Ok(open(alloc, pairs.as_slice(), 20_000)?.image)
+}
+
+// Helps the rebuild where that is to be.
+fn help_where<R: Wait>(
+    table: &TreeTable,
+    rt: &R,
+    who: &mut Caller,
+    rebuild: u32,
+    at_once: bool,
+) -> Option<Result<Helped, Full>>
+    requires same_table { who.old.seat.table ≡ table.now.table }
+    requires able { IsAble who.old }
+    requires started { IsStarted (now who.old.seat.view) rebuild }
+    ensures same_table { who.new.seat.table ≡ table.now.table }
+    ensures able { IsAble who.new }
+    ensures started { IsStarted (now who.new.seat.view) rebuild }
+{
+    if at_once {
+        return Some(help_on(table, rt, who, rebuild));
+    }
+    None
+}
+
+// What came of both rebuilds: the node above the lower one, what helping each answered, how many keys the upper one's
+// target had, and whether the ideal tree stands then.
+#[derive(Clone, Copy, Debug, PartialEq, Eq, Drop)]
+struct Both {
+    parent: u32,
+    lower: Option<Result<Helped, Full>>,
+    keys: u64,
+    upper: Result<Helped, Full>,
+    ideal: bool,
+}
+
+// One caller puts at the key 16 until the row over it is due, and starts its rebuild; another starts that of the row
+// above. Then the lower is helped, before the row above is marked or behind that, and then the upper.
+fn rebuild_both<R: Wait>(rt: &R, alloc: Global, early: bool) -> Result<Option<Both>, OpenFault> {
+    let Opened {
+        table,
+        mut maker,
+        ..
+    } = open_numbered(alloc, LAST, 20_000)?;
+    let mut most = enter_idle(&table, &mut maker);
+    let mut low = enter_idle(&table, &mut maker);
+    let mut high = enter_call(&table, &mut maker);
+    if !update_all(&table, rt, &mut most, &SEVEN) {
+        return Ok(None);
+    }
+    let Some(due) = update_due(&table, rt, &mut low, 16, Some(8)) else {
+        return Ok(None);
+    };
+    let Ok(Started::Yes { rebuild: below }) = start_due(&table, rt, &mut low, due) else {
+        return Ok(None);
+    };
+    let Some(above) = begin_top(&table, rt, &mut high) else {
+        return Ok(None);
+    };
+    let first = help_where(&table, rt, &mut low, below, early);
+    let marked = mark(&table, rt, &mut high, above);
+    let second = help_where(&table, rt, &mut low, below, !early);
+    let upper = help_on(&table, rt, &mut high, above);
+    let image = image_behind(alloc)?;
+    let words = all_words(alloc, &table, &mut maker)?;
+    let roots = (*image.get(3).unwrap_or(&0), *words.get(3).unwrap_or(&0));
+    Ok(Some(Both {
+        parent: due.parent,
+        lower: first.or(second),
+        keys: marked.keys,
+        upper,
+        ideal: are_alike(alloc, image.as_slice(), words.as_slice(), roots)?,
+    }))
+}
+
+#[test]
+fn a_lower_rebuild_is_done_unless_the_row_above_was_marked_before(
+    rt: HostRuntime,
+) -> Result<(), Fail> {
+    // whether the lower rebuild is helped before the row above is marked, and what its help answers then
+    let cases = [(false, Helped::ParentMarked), (true, Helped::Replaced)];
+    for (early, lower) in cases {
+        let both = Both {
+            parent: 4,
+            lower: Some(Ok(lower)),
+            keys: LAST,
+            upper: Ok(Helped::Replaced),
+            ideal: true,
+        };
+        let came = rebuild_both(&rt, rt.alloc(), early)?;
+        assert_eq!(rt; came, Some(both), "early {early}");
+    }
+    Ok(())
+}
