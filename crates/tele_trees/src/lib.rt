@@ -14,6 +14,3 @@ mod working;
 pub use counts::STOLEN_LANES;
 pub use rounds::run_round;
 pub use tables::TreeTables;
-
-#[cfg(test)]
-mod tests;

@@ -1,11 +1,11 @@
 //! Rounds on trees whose answers are known.
 ghost use Rattle.std.specs.Prelude.{◌≡◌, []};
 
-use crate::{TreeTables, run_round};
 use ist_core::{Command, Pair};
 use std::test::Fail;
 use tele_generations::NoShelf;
 use tele_lanes::{Answer, NoGate, Task};
+use tele_trees::{TreeTables, run_round};
 
 const FIVE: Pair = Pair { key: 5, value: 7 };
 
