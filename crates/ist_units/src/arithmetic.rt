@@ -68,26 +68,24 @@ fn extreme_keys_have_children(rt: HostRuntime) {
 
 #[test]
 fn parts_follow_one_another(rt: HostRuntime) {
-    assert_eq!(rt; degree(10), 3);
-    // the child, where its keys begin, how many it has
-    for (j, start, len) in [(0, 0, 4), (1, 4, 3), (2, 7, 3)] {
-        if j < degree(10) {
-            let found = part(10, j);
-            assert_eq!(rt; (found.start, found.len), (start, len), "child {j} of 10");
-        }
+    // the keys, the degree
+    for (n, children) in [(10, 3), (2, 2), (3, 2)] {
+        assert_eq!(rt; degree(n), children, "{n} keys");
     }
-    assert_eq!(rt; degree(2), 2);
-    for (j, start, len) in [(0, 0, 1), (1, 1, 1)] {
-        if j < degree(2) {
-            let found = part(2, j);
-            assert_eq!(rt; (found.start, found.len), (start, len), "child {j} of 2");
-        }
-    }
-    assert_eq!(rt; degree(3), 2);
-    for (j, start, len) in [(0, 0, 2), (1, 2, 1)] {
-        if j < degree(3) {
-            let found = part(3, j);
-            assert_eq!(rt; (found.start, found.len), (start, len), "child {j} of 3");
+    // the keys, the child, where its keys begin, how many it has
+    let cases = [
+        (10, 0, 0, 4),
+        (10, 1, 4, 3),
+        (10, 2, 7, 3),
+        (2, 0, 0, 1),
+        (2, 1, 1, 1),
+        (3, 0, 0, 2),
+        (3, 1, 2, 1),
+    ];
+    for (n, j, start, len) in cases {
+        if 2 <= n && n < 1 << 32 && j < degree(n) {
+            let found = part(n, j);
+            assert_eq!(rt; (found.start, found.len), (start, len), "child {j} of {n}");
         }
     }
 }
@@ -167,13 +165,31 @@ fn rises(keys: &[u64]) -> bool
     true
 }
 
-// So many keys, by their numbers.
-fn keys_by<F: Fn(u64) -> u64>(alloc: Global, count: u64, key: F) -> Result<Vec<u64>, AllocError>
-    requires { F.IsAlwaysCallable key }
-{
+// How the keys of a row lie: each a second behind the one before, the half of them a year later, at the squares, or the
+// last far from the others.
+#[derive(Drop)]
+enum Lie {
+    Seconds,
+    Bursts,
+    Squares,
+    OneFar,
+}
+
+// The key of this number.
+fn key_at(lie: &Lie, i: u64) -> u64 {
+    match lie {
+        Lie::Seconds => 1_700_000_000u64.wrapping_add(i),
+        Lie::Bursts => i.wrapping_add(if i < 500 { 0 } else { 31_536_000 }),
+        Lie::Squares => i.wrapping_mul(i),
+        Lie::OneFar => if i < 999 { i } else { u64::MAX },
+    }
+}
+
+// So many keys that lie so.
+fn keys_by(alloc: Global, count: u64, lie: Lie) -> Result<Vec<u64>, AllocError> {
     let mut keys = Vec::new(alloc);
     for i in 0..count {
-        keys.push(key(i))?;
+        keys.push(key_at(&lie, i))?;
     }
     Ok(keys)
 }
@@ -193,6 +209,17 @@ fn random_keys(alloc: Global, count: u64, seed: u64) -> Result<Vec<u64>, AllocEr
     Ok(keys)
 }
 
+// How many of the keys are at most this one.
+fn count_up_to(keys: &[u64], x: u64) -> usize {
+    let mut count = 0usize;
+    for key in keys {
+        if *key <= x {
+            count = count.wrapping_add(1);
+        }
+    }
+    count
+}
+
 // The most looks for a key of these, for the number before it and for the one behind it, each child
 // being the number of keys that a walk over all of them counts.
 fn most_looks(rt: &impl Abort, keys: &[u64]) -> usize {
@@ -201,11 +228,7 @@ fn most_looks(rt: &impl Abort, keys: &[u64]) -> usize {
     for key in keys {
         for x in [key.saturating_sub(1), *key, key.saturating_add(1)] {
             let found = child_and_looks(keys, x);
-            assert_eq!(rt;
-                found.child,
-                keys.iter().filter(|key| **key <= x).count(),
-                "key {x}"
-            );
+            assert_eq!(rt; found.child, count_up_to(keys, x), "key {x}");
             most = most.max(found.looks);
         }
     }
@@ -214,18 +237,13 @@ fn most_looks(rt: &impl Abort, keys: &[u64]) -> usize {
 
 #[test]
 fn few_keys_are_looked_at_however_they_lie(rt: HostRuntime) -> Result<(), Fail> {
-    let seconds = keys_by(rt.alloc(), 1000, |i| 1_700_000_000u64.wrapping_add(i))?;
-    let year = 31_536_000;
-    let bursts = keys_by(
-        rt.alloc(),
-        1000,
-        |i| i.wrapping_add(if i < 500 { 0 } else { year }),
-    )?;
-    let squares = keys_by(rt.alloc(), 1000, |i| i.wrapping_mul(i))?;
-    let one_far = keys_by(rt.alloc(), 1000, |i| if i < 999 { i } else { u64::MAX })?;
+    let seconds = keys_by(rt.alloc(), 1000, Lie::Seconds)?;
+    let bursts = keys_by(rt.alloc(), 1000, Lie::Bursts)?;
+    let squares = keys_by(rt.alloc(), 1000, Lie::Squares)?;
+    let one_far = keys_by(rt.alloc(), 1000, Lie::OneFar)?;
     let random = random_keys(rt.alloc(), 1000, 1)?;
-    let four = keys_by(rt.alloc(), 4, |i| i.wrapping_mul(i))?;
-    let five = keys_by(rt.alloc(), 5, |i| i.wrapping_mul(i))?;
+    let four = keys_by(rt.alloc(), 4, Lie::Squares)?;
+    let five = keys_by(rt.alloc(), 5, Lie::Squares)?;
     // the keys, the most looks
     let cases = [
         ("rising seconds", seconds.as_slice(), 4),

@@ -1,6 +1,6 @@
 //! The crates below the tree, call by call: tests alone.
 //!
-//! Read `ports.rt`, `arithmetic.rt` and `layouts.rt`, then `images.rt` with `samples.rt`, `callers.rt`, `searches.rt` and
+//! Read `ports.rt`, `arithmetic.rt` and `layouts.rt`, then `images.rt`, `callers.rt`, `searches.rt` with `samples.rt` and
 //! `resting_words.rt`. Stands on `ist_core`, `ist_math`, `ist_layout`, `ist_image`, `ist_rows`, `ist_find`, `ist_words` and
 //! `ist_samples`, and on what these stand on.
 #![tactic(auto)]
