@@ -8,32 +8,16 @@ others, and what is said of it is compared with a second reading, in this file. 
 """
 import os
 import subprocess
-import sys
 import tempfile
-from pathlib import Path
 
-TOP = Path(__file__).resolve().parent.parent
+from cases import check, end, program, refusals
+
 DONE, USAGE, BAD_LINE, READ_FAILED, WRITE_FAILED, FLAWED = 0, 2, 3, 4, 5, 8
 MOST = 2**64 - 1
 HIGH = 2**28
-count = {True: 0, False: 0}
 
 
-def check(what, told, wanted):
-    count[told == wanted] += 1
-    if told != wanted:
-        print(f"{what}: wanted {str(wanted)[:300]}, and got {str(told)[:300]}")
-
-
-def program():
-    path = TOP / "crates/tele_dump/out/tele_dump"
-    newest = max(file.stat().st_mtime for file in TOP.glob("crates/*/src/*.rt"))
-    if not path.is_file() or path.stat().st_mtime < newest:
-        subprocess.run(["rt", "run", "--", "check"], cwd=TOP / "crates/tele_dump", stdin=subprocess.DEVNULL, stdout=subprocess.DEVNULL)
-    return path
-
-
-PROGRAM = program()
+PROGRAM = program("tele_dump")
 
 
 def run(words, data, **environment):
@@ -269,10 +253,8 @@ def chains():
     check("a loop", run(["check"], dump_of(HIGH, chain(20_000, last=34))), (FLAWED, f"! dump row {4 + 9 * 19_999 + 6}\n".encode()))
 
 
-def refusals(room):
+def refused_calls(library):
     """Each read of one byte and each write is refused in its turn."""
-    library = str(Path(room) / "refuse.so")
-    subprocess.run(["cc", "-O1", "-shared", "-fPIC", "-o", library, TOP / "tests/refuse.c", "-ldl"], check=True)
     # the words, the bytes
     for words, data in [(["check"], dump_of(6, ONE)), (["pack"], b"P 5 7\nP 6 8\n"), (["list", "0", "9"], dump_of(6, ONE))]:
         whole = run(words, data)
@@ -292,6 +274,5 @@ changed_bytes()
 parts()
 chains()
 with tempfile.TemporaryDirectory() as room:
-    refusals(room)
-print(f"{count[True]} passed, {count[False]} failed")
-sys.exit(1 if count[False] else 0)
+    refused_calls(refusals(room))
+end()

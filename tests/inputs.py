@@ -9,31 +9,15 @@ with and without stealing; made lines. The last line is 'N passed, M failed'.
 """
 import os
 import subprocess
-import sys
 import tempfile
-from pathlib import Path
 
-TOP = Path(__file__).resolve().parent.parent
+from cases import TOP, check, end, program, refusals
+
 ANSWERED, USAGE, BAD_LINE, READ_FAILED, WRITE_FAILED = 0, 2, 3, 4, 5
 ROUND = 16_384
-count = {True: 0, False: 0}
 
 
-def check(what, told, wanted):
-    count[told == wanted] += 1
-    if told != wanted:
-        print(f"{what}: wanted {str(wanted)[:300]}, and got {str(told)[:300]}")
-
-
-def program():
-    path = TOP / "crates/tele/out/tele"
-    newest = max(file.stat().st_mtime for file in TOP.glob("crates/*/src/*.rt"))
-    if not path.is_file() or path.stat().st_mtime < newest:
-        subprocess.run(["rt", "run"], cwd=TOP / "crates/tele", input=b"P 5 7\n", stdout=subprocess.DEVNULL)
-    return path
-
-
-PROGRAM = program()
+PROGRAM = program("tele")
 
 
 def run(words, data, **environment):
@@ -181,7 +165,7 @@ def small_inputs():
             check(f"{length} bytes", run(["--workers", "2"], INPUT[:length]), (OUTPUT[: 4 * lines] + rest, status))
 
 
-def refusals(library):
+def refused_calls(library):
     """Reads and writes of one byte, of which one is refused."""
     pieces = {"LD_PRELOAD": library, "PIECES": "1"}
     for number in range(1, len(ROUNDS) + 2):
@@ -242,11 +226,8 @@ def made_lines():
 
 small_inputs()
 with tempfile.TemporaryDirectory() as room:
-    library = str(Path(room) / "refuse.so")
-    subprocess.run(["cc", "-O1", "-shared", "-fPIC", "-o", library, TOP / "tests/refuse.c", "-ldl"], check=True)
-    refusals(library)
+    refused_calls(refusals(room))
 sizes()
 uneven()
 made_lines()
-print(f"{count[True]} passed, {count[False]} failed")
-sys.exit(1 if count[False] else 0)
+end()

@@ -14,11 +14,11 @@ behind which its finish is decided no and the rebuild above goes on over it (fin
 import math
 import subprocess
 import sys
-from pathlib import Path
 
-LOGS = Path(__file__).resolve().parent / "logs"
+from cases import TOP, check, end
+
+LOGS = TOP / "tests/logs"
 LAWFUL, UNLAWFUL, OUT_OF_FORM = 0, 1, 3
-count = {True: 0, False: 0}
 
 # The events of a put into an empty tree.
 PUT = """Enter 0
@@ -200,9 +200,5 @@ for text, wanted in cases():
     ran = subprocess.run([sys.argv[1]], input=text.encode(), capture_output=True, timeout=60)
     status = LAWFUL if wanted.startswith("ok") else UNLAWFUL if wanted.startswith("unlawful") else OUT_OF_FORM
     said = ran.stdout.decode(errors="replace"), ran.stderr.decode(errors="replace"), ran.returncode
-    well = said == (wanted + "\n", "", status)
-    if not well:
-        print(f"{text[-200:]!r}: wanted {wanted!r} and status {status}, and got {said}")
-    count[well] += 1
-print(f"{count[True]} passed, {count[False]} failed")
-sys.exit(1 if count[False] else 0)
+    check(repr(text[-200:]), said, (wanted + "\n", "", status))
+end()

@@ -8,26 +8,10 @@ Run behind `rt ci`, which leaves the programs; elsewhere they are built first. T
 import re
 import shutil
 import subprocess
-import sys
 import tempfile
 from pathlib import Path
 
-CRATES = Path(__file__).resolve().parent.parent / "crates"
-count = {True: 0, False: 0}
-
-
-def check(well, what):
-    count[bool(well)] += 1
-    if not well:
-        print(what)
-
-
-def program(name):
-    path = CRATES / name / "out" / name
-    newest = max(file.stat().st_mtime for file in CRATES.glob("*/src/*.rt"))
-    if not path.is_file() or path.stat().st_mtime < newest:
-        subprocess.run(["rt", "run", "--", "--version"], cwd=CRATES / name, stdout=subprocess.DEVNULL)
-    return path
+from cases import end, holds, program
 
 
 def run(path, **options):
@@ -70,21 +54,21 @@ def stress(path):
         told = run(path, passes=passes, rounds=rounds, calls=calls, span=span, words=words)
         answered, refused, closed = (it.search(told[2]) for it in (ANSWERED, REFUSED, CLOSED))
         if told[1] != 0 or not (answered and refused and closed):
-            check(False, f"ist_stress: {told}")
+            holds(False, f"ist_stress: {told}")
             continue
         puts, removes, finds, freezes = map(int, answered.groups())
         updates, unfrozen, rebuilds = map(int, refused.groups())
-        check(puts + removes + finds + freezes + updates + unfrozen == passes * rounds * calls, f"not all calls are told: {told}")
-        check((updates > 0) == full, f"calls are refused in ample trees, or none in a full one: {told}")
-        check(closed[3] == "settled" or rebuilds > 0, f"no rebuild was refused, and it isn't settled: {told}")
-        check(freezes > 0 or full, f"no shot was taken: {told}")
-        check(int(closed[1]) <= span and int(closed[2]) <= words, f"more keys or words than there are: {told}")
+        holds(puts + removes + finds + freezes + updates + unfrozen == passes * rounds * calls, f"not all calls are told: {told}")
+        holds((updates > 0) == full, f"calls are refused in ample trees, or none in a full one: {told}")
+        holds(closed[3] == "settled" or rebuilds > 0, f"no rebuild was refused, and it isn't settled: {told}")
+        holds(freezes > 0 or full, f"no shot was taken: {told}")
+        holds(int(closed[1]) <= span and int(closed[2]) <= words, f"more keys or words than there are: {told}")
     first = run(path, passes=1, rounds=3, calls=1_000, span=100, words=400_000)
-    check(run(path, passes=1, rounds=3, calls=1_000, span=100, words=400_000) == first, "one thread does not the same again")
-    check(run(path, passes=1, rounds=3, calls=1_000, span=100, words=400_000, seed=2)[2] != first[2], "seeds make no difference")
+    holds(run(path, passes=1, rounds=3, calls=1_000, span=100, words=400_000) == first, "one thread does not the same again")
+    holds(run(path, passes=1, rounds=3, calls=1_000, span=100, words=400_000, seed=2)[2] != first[2], "seeds make no difference")
     for options in UNFIT:
         told = run(path, **options)
-        check(told[1] == 2 and "answered" not in told[2], f"ist_stress: not refused: {told}")
+        holds(told[1] == 2 and "answered" not in told[2], f"ist_stress: not refused: {told}")
 
 
 FIGURES = re.compile(r"(\d+) processor ns a call, \d+ calls a second, (\d+) words a key: (\d+) calls, (\d+) found, (\d+) refused, (\d+) keys\n")
@@ -94,21 +78,20 @@ def bench(path):
     for spread in ("uniform", "rising", "clustered"):
         told = run(path, threads=2, calls=1_000, puts=1, removes=1, finds=2, spread=spread, keys=100, span=200, words=1_000_000)
         figures = FIGURES.fullmatch(told[2])
-        check(told[1] == 0 and figures and figures[3] == "2000" and figures[5] == "0", f"ist_bench: {told}")
-        check(figures and int(figures[4]) > 500 and int(figures[6]) > 50, f"too few keys, or too few were found: {told}")
+        holds(told[1] == 0 and figures and figures[3] == "2000" and figures[5] == "0", f"ist_bench: {told}")
+        holds(figures and int(figures[4]) > 500 and int(figures[6]) > 50, f"too few keys, or too few were found: {told}")
     for options in ({"threads": 0}, {"threads": 65}, {"spread": "none"}, {"calls": 0}, {"words": 4}):
         told = run(path, **options)
-        check(told[1] == 2 and not told[2], f"ist_bench: not refused: {told}")
+        holds(told[1] == 2 and not told[2], f"ist_bench: not refused: {told}")
     # the system's account of processor time names the program, whatever its name has
     with tempfile.TemporaryDirectory() as room:
         for name in ("plain", "a b", "a) 9 9"):
             named = shutil.copy(path, Path(room) / name)
             told = run(named, calls=3_000_000, keys=1_000, words=1_000_000)
             figures = FIGURES.fullmatch(told[2])
-            check(told[1] == 0 and figures and int(figures[1]) > 0, f"{name}: no time is told: {told}")
+            holds(told[1] == 0 and figures and int(figures[1]) > 0, f"{name}: no time is told: {told}")
 
 
 stress(program("ist_stress"))
 bench(program("ist_bench"))
-print(f"{count[True]} passed, {count[False]} failed")
-sys.exit(1 if count[False] else 0)
+end()
