@@ -247,10 +247,66 @@ def chain(rows, last=None):
     return words + [rows, 2 * rows]
 
 
+def intervals():
+    """A row of three leaves, whose keys are the first and the last of all, and one between."""
+    dump = dump_of(19, [19, 0, 0, 34, 0, 0, 3, 3, 7, MOST, 105, 121, 137, 0, 1, 7, 2, MOST, 3])
+    # the first key, the last key, the values
+    for first, last, values in [
+        (0, MOST, [1, 2, 3]),
+        (0, 0, [1]),
+        (MOST, MOST, [3]),
+        (0, 7, [1, 2]),
+        (7, MOST, [2, 3]),
+        (1, 6, []),
+        (8, MOST - 1, []),
+        (MOST, 0, []),
+    ]:
+        status, listed = run(["list", str(first), str(last)], dump)
+        check(f"{first} to {last}", (status, [int(line.split()[1]) for line in listed.splitlines()]), (DONE, values))
+
+
+def half_rebuilt(decision, *edits):
+    """A rebuild without a root stands in the anchor's slot. Its target at 8 is finished, and a change of its second leaf to the pair
+    (9, 3) stands in its second slot, decided so. These words are then put at these places."""
+    words = [31, 2, 0, 140, 5, 7, 9, 1, 11, 8, 2, 2, 9, 33, 179, 9, 3, 8, 2, 0, 7, 0, decision, 1, 8, 1, 49, 121, 0, 9, 3]
+    for at, word in edits:
+        words[at] = word
+    return dump_of(33, words)
+
+
+def rows_under_way():
+    # the decision, the value of key 9
+    for decision, value in [(0, 1), (1, 3), (2, 1)]:
+        dump = half_rebuilt(decision)
+        check(f"decided {decision}", (run(ALL, dump), run(["list", "6", "9"], dump)), ((DONE, b"5 7\n9 %d\n" % value), (DONE, b"9 %d\n" % value)))
+    # words and their places, the place of the first slot that breaks the rules
+    for edits, place in [
+        ([(8, 2)], 3),
+        ([(10, 1)], 3),
+        ([(11, 1)], 3),
+        ([(17, 1 << 28)], 3),
+        ([(12, 5)], 13),
+        ([(13, 66)], 13),
+        ([(13, 7)], 13),
+        ([(14, 33)], 14),
+        ([(14, 7)], 14),
+        ([(14, 38)], 14),
+        ([(22, 3)], 14),
+        ([(26, 33)], 14),
+        # the leaf at 9 is in good shape, but its words are the row's
+        ([(9, 12), (14, 73)], 14),
+    ]:
+        check(f"{edits}", run(["check"], half_rebuilt(2, *edits)), (FLAWED, b"! dump row %d\n" % place))
+    check("another count", run(["check"], half_rebuilt(2, (9, 12))), (DONE, b"keys 2 used 31 words 33\n"))
+
+
 def chains():
-    status, listed = run(ALL, dump_of(HIGH, chain(20_000)))
-    check("a long chain", (status, listed.count(b"\n")), (DONE, 20_001))
-    check("a loop", run(["check"], dump_of(HIGH, chain(20_000, last=34))), (FLAWED, f"! dump row {4 + 9 * 19_999 + 6}\n".encode()))
+    rows = 200_000
+    whole = dump_of(HIGH, chain(rows))
+    check("a long chain", run(["check"], whole), (DONE, b"keys %d used %d words %d\n" % (rows + 1, 9 * rows + 6, HIGH)))
+    listed = b"".join(b"%d %d\n" % (key, 2 * key) for key in range(150_000, 150_010))
+    check("ten pairs of it", run(["list", "150000", "150009"], whole), (DONE, listed))
+    check("a loop", run(["check"], dump_of(HIGH, chain(rows, last=34))), (FLAWED, b"! dump row %d\n" % (9 * rows + 1)))
 
 
 def refused_calls(library):
@@ -272,6 +328,8 @@ words_of_a_command_line()
 packed_lines()
 changed_bytes()
 parts()
+intervals()
+rows_under_way()
 chains()
 with tempfile.TemporaryDirectory() as room:
     refused_calls(refusals(room))

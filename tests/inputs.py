@@ -165,6 +165,15 @@ def small_inputs():
             check(f"{length} bytes", run(["--workers", "2"], INPUT[:length]), (OUTPUT[: 4 * lines] + rest, status))
 
 
+def many_lines():
+    """No more lines are read than a run may have."""
+    most = 16_777_216
+    check("so many empty lines", run([], most * b"\n"), (b"", ANSWERED))
+    check("one more", run([], most * b"\n" + b"G 1\n"), (b"! %d lines\n" % (most + 1), BAD_LINE))
+    told = run([], (most - 1) * b"\n" + b"P 1 1\nP 2 2\n")
+    check("the last one", told, (b"%d -\n! %d lines\n" % (most, most + 1), BAD_LINE))
+
+
 def refused_calls(library):
     """Reads and writes of one byte, of which one is refused."""
     pieces = {"LD_PRELOAD": library, "PIECES": "1"}
@@ -225,6 +234,7 @@ def made_lines():
 
 
 small_inputs()
+many_lines()
 with tempfile.TemporaryDirectory() as room:
     refused_calls(refusals(room))
 sizes()

@@ -14,6 +14,3 @@ pub use cuts::judge_moments;
 pub use misfits::Misfit;
 pub use orders::Order;
 pub use telling::{Asked, Told};
-
-#[cfg(test)]
-mod stories;

@@ -1,6 +1,6 @@
 //! Puts, removes, finds, freezes and shots of trees, by one pass and by several: tests alone.
 //!
-//! Read `openings.rt`, `new_trees.rt`, `closed_trees.rt` and `freezes.rt`, then `rows.rt`, `shortages.rt` and `threads.rt`, and
+//! Read `openings.rt`, `new_trees.rt`, `closed_trees.rt` and `freezes.rt`, then `rows.rt`, `shortages.rt` and `finds.rt`, and
 //! then `shots.rt` with `scans.rt`, `scan_ends.rt` and `scan_threads.rt`. Stands on `ist_tree`, `ist_scan`, `ist_tales`
 //! and `plain_map`.
 #![tactic(auto)]
@@ -13,8 +13,6 @@ mod closed_trees;
 mod finds;
 #[cfg(test)]
 mod freezes;
-#[cfg(test)]
-mod frozen_pairs;
 #[cfg(test)]
 mod new_trees;
 #[cfg(test)]
@@ -34,6 +32,4 @@ mod shortages;
 #[cfg(test)]
 mod shots;
 #[cfg(test)]
-mod threads;
-#[cfg(test)]
-mod workers;
+mod tales;

@@ -1,8 +1,8 @@
 //! The crates below the tree, call by call: tests alone.
 //!
-//! Read `ports.rt`, `arithmetic.rt` and `layouts.rt`, then `images.rt`, `callers.rt`, `searches.rt` with `samples.rt` and
-//! `resting_words.rt`. Stands on `ist_core`, `ist_math`, `ist_layout`, `ist_image`, `ist_rows`, `ist_find`, `ist_words` and
-//! `ist_samples`, and on what these stand on.
+//! Read `ports.rt`, `arithmetic.rt` and `layouts.rt`, then `images.rt`, `callers.rt` and `searches.rt` with
+//! `samples.rt`. Stands on `ist_core`, `ist_math`, `ist_layout`, `ist_image`, `ist_rows`, `ist_find` and `ist_samples`, and on what
+//! these stand on.
 #![tactic(auto)]
 
 #[cfg(test)]
@@ -15,8 +15,6 @@ mod images;
 mod layouts;
 #[cfg(test)]
 mod ports;
-#[cfg(test)]
-mod resting_words;
 #[cfg(test)]
 mod samples;
 #[cfg(test)]

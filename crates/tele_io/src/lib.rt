@@ -152,10 +152,10 @@ mod tests {
         ];
         for (pieces, passed, held) in rows {
             let mut out = BufferedSink::new(QuietSink::new(rt.alloc()), rt.alloc());
-            let mut taken = 0;
+            let mut taken = 0usize;
             for piece in pieces {
-                let next = taken + *piece;
-                assert!(rt; next <= all.len());
+                let next = taken.saturating_add(*piece);
+                assert!(rt; taken <= next && next <= all.len());
                 assert_eq!(rt;
                     write_whole(&mut out, &all[taken..next]),
                     Ok(()),

@@ -1,7 +1,7 @@
 //! Runs of the whole program, and rounds on trees: tests alone.
 //!
-//! Read `running.rt` and `rounds.rt`, then `meetings.rt`, `stolen.rt`, `full_trees.rt` and
-//! `long_inputs.rt`. Stands on `tele_run` and `tele_trees`.
+//! Read `running.rt`, then `meetings.rt`, `stolen.rt`, `full_trees.rt` and `long_inputs.rt`. Stands on
+//! `tele_run` and `tele_trees`.
 #![tactic(auto)]
 
 #[cfg(test)]
@@ -10,8 +10,6 @@ mod full_trees;
 mod long_inputs;
 #[cfg(test)]
 mod meetings;
-#[cfg(test)]
-mod rounds;
 #[cfg(test)]
 mod running;
 #[cfg(test)]

@@ -1,12 +1,10 @@
-//! The crates of the program below its trees, call by call: tests alone.
+//! The lanes of a round, call by call: tests alone.
 //!
-//! Read `lines.rt`, then `recorders.rt`, `lanes.rt` and `stealing.rt`. Stands on `tele_io`, `tele_lines`, `tele_lanes` and `tele_steal`.
+//! Read `recorders.rt`, then `lanes.rt` and `stealing.rt`. Stands on `tele_lanes` and `tele_steal`.
 #![tactic(auto)]
 
 #[cfg(test)]
 mod lanes;
-#[cfg(test)]
-mod lines;
 #[cfg(test)]
 mod recorders;
 #[cfg(test)]

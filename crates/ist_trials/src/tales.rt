@@ -1,11 +1,8 @@
 //! The judging of what threads were told, on small tales that have an order and on some that have none.
 
-use crate::cuts::judge_moments;
-use crate::misfits::Misfit;
-use crate::orders::Order;
-use crate::telling::{Asked, Told};
 use Asked::{Find, Put, Remove};
 use ist_core::{Pair, Reply};
+use ist_tales::{Asked, Misfit, Order, Told, judge_moments};
 use std::alloc::{AllocError, Global};
 use std::test::Fail;
 
