@@ -25,7 +25,6 @@ pub use whole::write_whole;
 #[cfg(test)]
 mod tests {
     use super::*;
-    use std::alloc::{AllocError, Global};
     use std::fs::File;
     use std::io::{Cursor, Error, ErrorKind, Read, Result as IoResult, Write};
     use std::test::Fail;
@@ -124,59 +123,6 @@ mod tests {
         assert_eq!(rt; source.read(&mut [0u8; 8]), Err(Failed));
         let mut sink = WriteSink::new(File::open(&rt, ".")?);
         assert_eq!(rt; sink.write(b"abc"), Err(SinkFault::Failed));
-        Ok(())
-    }
-
-    /// So many bytes, none of which is its neighbour.
-    fn bytes_to(alloc: Global, len: usize) -> Result<Vec<u8>, AllocError> {
-        let mut bytes = Vec::new(alloc);
-        for place in 0..len {
-            bytes.push((place % 251) as u8)?;
-        }
-        Ok(bytes)
-    }
-
-    #[test]
-    fn a_buffer_holds_what_fits_and_passes_on_the_rest(rt: HostRuntime) -> Result<(), Fail> {
-        let all = bytes_to(rt.alloc(), 131_073)?;
-        // how many bytes each piece has, how many are passed on behind them, how many are held
-        let rows: [(&[usize], usize, usize); 8] = [
-            (&[1], 0, 1),
-            (&[65_536], 0, 65_536),
-            (&[65_537], 65_537, 0),
-            (&[65_535, 1], 0, 65_536),
-            (&[65_536, 1], 65_536, 1),
-            (&[1, 65_536], 1, 65_536),
-            (&[1, 65_537], 65_538, 0),
-            (&[65_537, 65_536], 65_537, 65_536),
-        ];
-        for (pieces, passed, held) in rows {
-            let mut out = BufferedSink::new(QuietSink::new(rt.alloc()), rt.alloc());
-            let mut taken = 0usize;
-            for piece in pieces {
-                let next = taken.saturating_add(*piece);
-                assert!(rt; taken <= next && next <= all.len());
-                assert_eq!(rt;
-                    write_whole(&mut out, &all[taken..next]),
-                    Ok(()),
-                    "of {pieces:?}"
-                );
-                taken = next;
-            }
-            assert_eq!(rt;
-                out.inner().bytes(),
-                &all[..passed],
-                "passed on of {pieces:?}"
-            );
-            assert_eq!(rt; out.held().len(), held, "held of {pieces:?}");
-            assert_eq!(rt; out.pass_on(), Ok(()));
-            assert_eq!(rt;
-                out.inner().bytes(),
-                &all[..taken],
-                "of {pieces:?}, passed on"
-            );
-            assert_eq!(rt; out.held(), b"".as_slice());
-        }
         Ok(())
     }
 
