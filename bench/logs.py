@@ -1,5 +1,5 @@
 #!/usr/bin/env python3
-"""Large lawful logs for `log_check`, in six shapes.
+"""Large lawful logs for `log_check`, in seven shapes.
 
     python3 bench/logs.py chain N       N puts of rising keys, so that pair rows hang one below the other
     python3 bench/logs.py root N        the same, and a rebuild at the anchor: all rows are marked, passed and finished, and its Root
@@ -8,6 +8,8 @@
     python3 bench/logs.py rebuilds N    N rebuilds of four pairs at the anchor, one behind the other; each builds three rows
     python3 bench/logs.py sizes N       N puts of rising keys, and a rebuild at each row but the last eight, whose targets are finished
                                         with as many numbers of keys; and N callers that each begin a build
+    python3 bench/logs.py losses N      N rebuilds of two pairs at the anchor, one behind the other, and one of 256 pairs with a shared
+                                        root; and 10 N callers that each give up such a root, as theirs comes too late
 """
 import math
 import sys
@@ -16,8 +18,8 @@ import sys
 class Log:
     """A log under way: its lines, and the first free word."""
 
-    def __init__(self, pairs=(), first=4):
-        self.lines, self.next = [" ".join(["start 268435456", *pairs])], first
+    def __init__(self, pairs=(), first=4, words=268435456):
+        self.lines, self.next = [" ".join([f"start {words}", *pairs])], first
 
     def say(self, line):
         self.lines.append(line)
@@ -117,6 +119,33 @@ def rebuilds(log, number):
         log.decide(change)
 
 
+def grown(log, number, keys):
+    """Each rebuild of the two leaves replaces the row that the one before it has made. Puts below the last row make so many pairs,
+    whose rows are answered."""
+    top, leaves = 4, [89, 105]
+    for _ in range(number):
+        row = start(log, top, 2, 0)
+        freeze(log, [(top, *leaves)])
+        top = log.reserve(0, 7)
+        log.say(f"Root 0 {row} {top * 8 + 2} {top}=0,0,2,2,2,{leaves[0]},{leaves[1]}")
+        change = log.reserve(0, 9)
+        log.say(f"Install 0 {change} {change}=0,4,2,0,{row * 8 + 4},{top * 8 + 2},0,0,0")
+        log.decide(change)
+    rows = [[top, *leaves]]
+    for key in range(3, keys + 1):
+        row, to, word = log.put(rows[-1][0], 1, rows[-1][2], key, True)
+        leaf, rows[-1][2] = rows[-1][2], to
+        rows.append([row, leaf, word])
+    return rows
+
+
+def losses(log, number):
+    rebuild(log, grown(log, number, 256))
+    for caller in range(1, 10 * number + 1):
+        log.say(f"Enter {caller}")
+        log.say(f"Lose {caller} {log.reserve(caller, 35)}")
+
+
 def sizes(log, number):
     """Each row that was counted eight times is due. Its rebuild stands in the slot of the row above it."""
     rows = chain(log, number, 8)
@@ -137,6 +166,8 @@ def main():
     shape, number, log = sys.argv[1], int(sys.argv[2]), Log()
     if shape == "rebuilds":
         log = Log(("1:1", "2:2", "3:3", "4:4"), 33)
+    if shape == "losses":
+        log = Log(("1:1", "2:2"), 15)
     if shape == "callers":
         callers(log, number)
     else:
@@ -145,6 +176,8 @@ def main():
             callers(log, number, 1)
         if shape == "rebuilds":
             rebuilds(log, number)
+        elif shape == "losses":
+            losses(log, number)
         elif shape == "sizes":
             sizes(log, number)
         else:
@@ -154,4 +187,5 @@ def main():
     print("\n".join(log.lines))
 
 
-main()
+if __name__ == "__main__":
+    main()

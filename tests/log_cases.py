@@ -17,6 +17,9 @@ import sys
 
 from cases import TOP, check, end
 
+sys.path.insert(0, str(TOP / "bench"))
+import logs
+
 LOGS = TOP / "tests/logs"
 LAWFUL, UNLAWFUL, OUT_OF_FORM = 0, 1, 3
 
@@ -184,8 +187,91 @@ def refusals():
         yield text, f"unlawful {at}: {lines[-1].split()[0]}, line {at + 2}, as this is false: {condition}"
 
 
+FAIR = "what the caller then holds is fair"
+LATE = "the rows are a pair row that may be too low, or a build that comes too late"
+
+
+def two_pairs(keys, words=268435456):
+    """A log in which the row over two pairs is rebuilt, so many keys are put in, and a rebuild of all of them is under way."""
+    log = logs.Log(("1:1", "2:2"), 15, words)
+    log.say("Enter 0")
+    logs.rebuild(log, logs.grown(log, 1, keys))
+    return log
+
+
+def four_pairs():
+    """A log in which the rows over four pairs are rebuilt."""
+    log = logs.Log(("1:1", "2:2", "3:3", "4:4"), 33)
+    log.say("Enter 0")
+    logs.rebuilds(log, 1)
+    return log
+
+
+def spare_rows():
+    """What a caller holds where nothing is rebuilt, and why its last row may not be reserved: one of each kind may."""
+    for held in ([9, 2, 7, 5], [5, 7, 2, 9], [9, 2, 9], [2, 2], [7, 7], [5, 5], [11]):
+        log = logs.Log()
+        log.say("Enter 0")
+        for size in held:
+            log.reserve(0, size)
+        yield log, None if len(held) == 4 else FAIR
+
+
+def cut_off_rows():
+    """The build of a hundred keys begins with a row of 23 words and one of 9. It is cut off where fewer words are left, and only behind
+    that may a build of two keys begin, which is a row of 7."""
+    for room in (7, 8, 9, 100):
+        log = two_pairs(100, two_pairs(100).next + 23 + 7 + room)
+        for size in (23, 7, 7):
+            log.reserve(0, size)
+        yield log, None if room < 9 else FAIR
+
+
+def late_rows():
+    """How many rows of 7 words another caller holds when four keys are rebuilt, whose build has three of them; which it gives up, and
+    why it may not. It may once, and no part."""
+    for held, lost, why in [
+        (3, [(0, 1, 2)], None),
+        (3, [(2, 0, 1)], None),
+        (3, [(0, 0, 0)], LATE),
+        (3, [(0, 1, 1)], LATE),
+        (3, [(0, 1)], LATE),
+        (3, [(1,)], LATE),
+        (4, [(0, 1, 2, 3)], LATE),
+        (4, [(0, 1, 3)], None),
+        (4, [(0, 1, 2), (3,)], LATE),
+    ]:
+        log = four_pairs()
+        log.say("Enter 1")
+        rows = [log.reserve(1, 7) for _ in range(held)]
+        for which in lost:
+            log.say(f"Lose 1 {','.join(str(rows[i]) for i in which)}")
+        yield log, why
+
+
+def other_rows():
+    """Who gives up a row behind the shared root of 256 keys that caller 0 has put in place, and of which size: that of such a root, or
+    that with which the build of a part begins."""
+    for caller, size, why in [(0, 35, LATE), (1, 35, None), (1, 11, LATE)]:
+        log = two_pairs(256)
+        log.say("Enter 1")
+        log.say(f"Lose {caller} {log.reserve(caller, size)}")
+        yield log, why
+
+
+def last_events():
+    """Logs whose last event may come, or not and why."""
+    for log, why in [*spare_rows(), *cut_off_rows(), *late_rows(), *other_rows()]:
+        kinds = [line.split()[0] for line in log.lines]
+        anchor = [line.split()[3].split(",")[5] for line in log.lines if line.startswith("Install") and ",2,0," in line][-1:]
+        at = len(kinds) - 2
+        wanted = f"ok next {log.next} callers {kinds.count('Enter')} anchor {anchor[0] if anchor else 0}"
+        yield "\n".join(log.lines), wanted if why is None else f"unlawful {at}: {kinds[-1]}, line {at + 2}, as this is false: {why}"
+
+
 def cases():
     yield from ENDS
+    yield from last_events()
     yield from ((text, f"! form {line}: {fault}") for text, line, fault in FORMS)
     yield from refusals()
     yield from large_tables()

@@ -1,8 +1,8 @@
 #!/bin/bash
 # Tests of log_check on small logs, lawful, unlawful and out of form (log_cases.py), and on logs of a million events with a stack of
 # 256 KB: a chain of pair rows, also with an event too many, a rebuild of all of it up to its Root, puts of one caller beside
-# many that each hold a row, such callers alone, and many rebuilds, of one size and of many. Each may take 60 seconds. The last
-# line is 'N passed, M failed'.
+# many that each hold a row, such callers alone, many rebuilds, of one size and of many, and builds that come too late. Each may take
+# 60 seconds. The last line is 'N passed, M failed'.
 set -u
 here=$(cd -P -- "$(dirname -- "$0")/.." && pwd)
 program=$here/crates/log_check/out/log_check
@@ -55,5 +55,10 @@ make_log rebuilds 37000
 check "ok next 1628033 callers 1 anchor 13024026"
 make_log sizes 35700
 check "ok next 1606371 callers 35701 anchor 5140780"
+# A rebuild of two pairs takes 30 words, a put 18, the rebuild of all 14 and its root 35, as each row that comes too late.
+make_log losses 21000
+check "ok next 7984636 callers 210001 anchor 5076700"
+echo "Lose 0 $(seq -s, 4 300003)" >>"$all/log"
+check "unlawful 989807: Lose, line 989809, as this is false: the rows are a pair row that may be too low, or a build that comes too late"
 echo "$passed passed, $failed failed"
 [ "$failed" = 0 ]

@@ -1,17 +1,18 @@
 -- The tables of a new table: nothing happened yet. Serves `remembering.rt`.
-use Rattle.std.proofs.Common.{◌≡◌, ◌≤◌, ◌∙◌, ℕ, List, [], ◌∷◌, ◌++◌, drop, Some, None, sym, ap, subst, arith}
+use Rattle.std.proofs.Common.{◌≡◌, ◌≤◌, ◌∙◌, ℕ, List, [], ◌∷◌, ◌++◌, Some, None, sym, ap, subst, arith}
 use Rattle.std.specs.Ordering.{nat_cmp}
 use Rattle.std.specs.BTreeMap as tree
 use Rattle.std.specs.BTreeMap.{BTreeMap, is_at}
+use Rattle.std.specs.Cmp.Lexicographic.{slice_cmp}
 use Rattle.std.specs.Map.{lookup}
 use Rattle.std.specs.BTreeSet.{BTreeSet}
 use Rattle.ist_core.specs.declared.pairs.Pair.{Pair}
 use Rattle.ist_core.specs.declared.events.Event.{Event}
-use Rattle.ist_core.specs.Elements.{Among}
 use Rattle.ist_core.specs.Pieces.{Change}
 use Rattle.ist_core.specs.StartLayout.{start}
 use Rattle.ist_core.specs.Marking.{IsCalled, as_target, as_child, behind_rebuild}
 use Rattle.ist_core.specs.Rebuilding.{IsStarted}
+use Rattle.ist_check_events.specs.declared.pasts.BuildTable.{BuildTable}
 use Rattle.ist_check_events.specs.declared.pasts.LastUpdate.{LastUpdate}
 use Rattle.ist_check_events.specs.Answers.{FindsGreatest}
 use Rattle.ist_check_events.specs.Remembering.{
@@ -26,9 +27,11 @@ use Rattle.ist_check_events.specs.Remembering.{
   IsTargeted,
   KnowsTargets,
   KnowsLists,
+  KnowsBuilds,
+  CameBehind,
+  last_with,
   seen_builds,
 }
-use Rattle.ist_check_state.specs.Remembered.{TellsBuilds}
 use Rattle.ist_check_state.proofs.TableLemmas.{holds_none}
 use Rattle.ist_links.proofs.QuietLemmas.{start_quiet}
 
@@ -54,19 +57,27 @@ no_passes m empty node i word _ _ = (
     clash : None ≡ Some word → ⊥
     clash e = cc
 
-pub no_builds : (since : BTreeMap ℕ ℕ) → since.entries ≡ [] → TellsBuilds since [] []
-no_builds since empty = (
-  λ caller sizes. (
-    λ h. absurd (subst (λ o. Among sizes (drop (seen_builds o) [])) (finds_none since caller empty)
-        h),
-    λ h. absurd h,
-  ),
-  λ caller. subst (λ o. seen_builds o ≤ 0)
-      (sym (finds_none since caller empty)) nothing,
-)
+pub no_builds : (builds : BuildTable) → builds.last.entries ≡ [] → builds.since.entries ≡ []
+    → KnowsBuilds builds []
+no_builds builds none empty =
+    record {
+      beaten = λ caller sizes. ((λ h. absurd (subst (λ o. CameBehind o (seen caller)) (found sizes) h)), (λ h. absurd h));
+      came = λ sizes at e. absurd (clash at (sym (found sizes) ∙ e));
+      seen = λ caller. subst (λ o. seen_builds o ≤ builds.count)
+          (sym (finds_none builds.since caller empty)) few;
+    }
   where
-    nothing : 0 ≤ 0
-    nothing = omega arith
+    seen : ℕ → ℕ
+    seen caller = seen_builds (tree.get nat_cmp builds.since caller)
+
+    found : (sizes : List ℕ) → last_with builds sizes ≡ None
+    found sizes = ap (lookup (is_at (λ v. slice_cmp nat_cmp sizes v.items))) none
+
+    clash : (at : ℕ) → None ≡ Some at → ⊥
+    clash at e = cc
+
+    few : 0 ≤ builds.count
+    few = omega arith
 
 module _ (pairs : List Pair) (words : ℕ) where
   unstarted : (rebuild : ℕ) → ¬ (IsStarted (start pairs words) rebuild)

@@ -60,7 +60,9 @@ pub(crate) fn may_come(
             part,
         } => Ok(can_draw(replica, past, *caller, *rebuild, *part)),
         Event::Place { .. } => may_build(alloc, replica, past, event),
-        Event::Lose { caller, bases } => Ok(can_lose(replica, past, *caller, bases.as_slice())),
+        Event::Lose { caller, bases } => {
+            can_lose(alloc, replica, past, *caller, bases.as_slice())
+        }
     }
 }
 

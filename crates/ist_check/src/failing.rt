@@ -62,7 +62,9 @@ pub(crate) fn fails(
             part,
         } => Ok(draw_fails(replica, past, *caller, *rebuild, *part)),
         Event::Place { .. } => build_fails(alloc, replica, past, event),
-        Event::Lose { caller, bases } => Ok(lose_fails(replica, past, *caller, bases.as_slice())),
+        Event::Lose { caller, bases } => {
+            lose_fails(alloc, replica, past, *caller, bases.as_slice())
+        }
     }
 }
 

@@ -1,5 +1,5 @@
 //! Brings the tables of what is remembered forward.
-ghost use Rattle.std.specs.Prelude.{◌≡◌, ◌∷◌, ◌<◌, ◌≤◌, ◌+◌, ◌^◌, [], ℕ, List, length, IfOk, OnOk};
+ghost use Rattle.std.specs.Prelude.{◌≡◌, ◌∷◌, ◌<◌, ◌≤◌, ◌+◌, ◌^◌, [], ℕ, List, IfOk, OnOk};
 ghost use Rattle.ist_core.specs.declared.pairs.Pair.{Pair as APair};
 ghost use Rattle.ist_core.specs.StartLayout.{start};
 ghost use Rattle.ist_core.specs.Logs.{Log};
@@ -8,7 +8,7 @@ ghost use Rattle.ist_check_events.specs.Mirroring.{Mirrors};
 ghost use Rattle.ist_check_events.specs.Remembering.{KnowsSlots, KnowsWays};
 ghost use Rattle.ist_check.specs.Knowing.{Remembers};
 
-use ist_check_events::{Past, Replica};
+use ist_check_events::{BuildTable, Past, Replica};
 use ist_check_state::{
     remember_build, remember_call, remember_draw, remember_lists, remember_okay, remember_pass,
     remember_refusal, remember_start, remember_target, remember_update, slots_of_start,
@@ -26,7 +26,7 @@ pub(crate) fn open_past(alloc: Global, replica: &Replica) -> Result<Past, AllocE
         → Mirrors replica.now (start pairs words) → KnowsSlots past.slots (start pairs words) []) }
     ensures ways { IfOk result (λ past. (pairs : List APair) → (words : ℕ) → CanOpen pairs words
         → Mirrors replica.now (start pairs words) → KnowsWays past.ways (start pairs words) []) }
-    ensures few { IfOk result (λ past. past.builds.items ≡ []) }
+    ensures few { IfOk result (λ past. past.builds.count ≡ 0) }
 {
     let slots = slots_of_start(alloc, replica)?;
     let ways = ways_of_start(alloc, replica, &slots)?;
@@ -40,8 +40,11 @@ pub(crate) fn open_past(alloc: Global, replica: &Replica) -> Result<Past, AllocE
         ways,
         refused: BTreeSet::new(alloc),
         started: BTreeSet::new(alloc),
-        builds: Vec::new(alloc),
-        since: BTreeMap::new(alloc),
+        builds: BuildTable {
+            count: 0,
+            last: BTreeMap::new(alloc),
+            since: BTreeMap::new(alloc),
+        },
         targets: BTreeSet::new(alloc),
         counts: BTreeSet::new(alloc),
         lists: Vec::new(alloc),
@@ -56,7 +59,7 @@ pub(crate) fn remember(
     past: &mut Past,
     event: &Event,
 ) -> Result<(), AllocError>
-    requires room { length past.old.builds.items < 2 ^ 63 }
+    requires room { past.old.builds.count < 2 ^ 63 }
     ensures exact { OnOk result ((pairs : List APair) → (words : ℕ) → (log : Log)
         → Lawful pairs words (event.now ∷ log)
         → Mirrors replica.now (behind pairs words log)
@@ -64,7 +67,7 @@ pub(crate) fn remember(
         → Remembers past.new pairs words (event.now ∷ log)) }
     ensures slots { OnOk result (past.new.slots ≡ past.old.slots) }
     ensures ways { OnOk result (past.new.ways ≡ past.old.ways) }
-    ensures few { OnOk result (length past.new.builds.items ≤ length past.old.builds.items + 1) }
+    ensures few { OnOk result (past.new.builds.count ≤ past.old.builds.count + 1) }
 {
     remember_okay(&mut past.okayed, event)?;
     remember_call(replica, &mut past.called, event)?;
@@ -82,5 +85,5 @@ pub(crate) fn remember(
         event,
     )?;
     remember_target(replica, &mut past.targets, event)?;
-    remember_build(alloc, &mut past.builds, &mut past.since, event)
+    remember_build(alloc, &mut past.builds, event)
 }

@@ -3,19 +3,22 @@ use Rattle.std.proofs.Common.{
   ◌≡◌,
   ◌↔◌,
   ◌∙◌,
-  ◌-◌,
+  ◌+◌,
   ◌<◌,
   ◌≤◌,
+  ◌++◌,
   ℕ,
+  zero,
+  suc,
   List,
   [],
   ◌∷◌,
+  Option,
+  Some,
+  None,
   length,
   get_or,
   take,
-  drop,
-  map,
-  length-drop,
   refl,
   sym,
   ap,
@@ -25,13 +28,15 @@ use Rattle.std.proofs.Common.{
   ⊎_elim,
   arith,
 }
-use Rattle.std.proofs.lemmas.List.{take_all, drop-map}
+use Rattle.std.proofs.lemmas.List.{take_more}
+use Rattle.std.specs.Global.{Vec}
+use Rattle.std.specs.Option.{option_map}
 use Rattle.ist_core.specs.RowLayout.{pair_words}
 use Rattle.ist_core.specs.Elements.{Among, Distinct}
 use Rattle.ist_core.specs.Snapshots.{Snapshot, HoldsRow}
 use Rattle.ist_core.specs.Logs.{Log}
-use Rattle.ist_core.specs.Building.{HoldsSizes, LosesPair, CanLose}
-use Rattle.ist_check_builds.specs.Losing.{HasRowAbove, IsOneTooLate}
+use Rattle.ist_core.specs.Building.{HoldsSizes, IsBeaten, LosesPair, LosesBuild, CanLose}
+use Rattle.ist_check_builds.specs.Losing.{HasRowAbove, IsTooLate}
 use Rattle.ist_check_events.specs.Searching.{AreBuilding}
 use Rattle.ist_check_events.proofs.RowLemmas.{behind, first_behind}
 
@@ -50,25 +55,87 @@ distinct_not xs n a d = (subst Distinct (sym (first_behind xs n)) d).0 a
 
 -- ---- held sizes
 
-module _ (t : Snapshot) (caller : ℕ) (bases sizes : List ℕ) where
-  both : 1 ≤ length bases → 1 ≤ length sizes
-      → HoldsSizes t caller (get_or bases 0 0 ∷ behind bases) (get_or sizes 0 0 ∷ behind sizes)
-      ≡ HoldsSizes t caller bases sizes
-  both n m = ap (λ bs. HoldsSizes t caller bs (get_or sizes 0 0 ∷ behind sizes))
-      (first_behind bases n) ∙ ap (HoldsSizes t caller bases) (first_behind sizes m)
+-- the sizes of rows at some bases and at one more are some sizes and one more
+pub record HoldsLast (t : Snapshot) (caller : ℕ) (bases : List ℕ) (base : ℕ) (sizes : List ℕ) : Type 0 where
+  pub first : List ℕ
+  pub size : ℕ
+  pub sizes_are : sizes ≡ first ++ size ∷ []
+  pub held : HoldsSizes t caller bases first
+  pub last : HoldsRow t caller base size
 
-  pub sizes_first : 1 ≤ length bases → 1 ≤ length sizes
-      → HoldsRow t caller (get_or bases 0 0) (get_or sizes 0 0)
-      → HoldsSizes t caller (behind bases) (behind sizes) ↔ HoldsSizes t caller bases sizes
-  sizes_first n m held = (
-    (λ h. subst (λ x. x) (both n m) (held, h)),
-    (λ h. (subst (λ x. x) (sym (both n m)) h).1),
-  )
+module _ (t : Snapshot) (caller : ℕ) where
+  pub sizes_cut : (bases : List ℕ) (base : ℕ) (sizes : List ℕ)
+      → HoldsSizes t caller (bases ++ base ∷ []) sizes → HoldsLast t caller bases base sizes
+  sizes_cut [] base [] h = absurd h
+  sizes_cut [] base (size ∷ []) h =
+      record { first = []; size = size; sizes_are = refl; held = tt; last = h.0 }
+  sizes_cut [] base (size ∷ other ∷ sizes) h = absurd h.1
+  sizes_cut (b ∷ bases) base [] h = absurd h
+  sizes_cut (b ∷ bases) base (s ∷ sizes) h =
+      let it = sizes_cut bases base sizes h.1 in
+      record {
+        first = s ∷ it.first;
+        size = it.size;
+        sizes_are = ap (λ xs. s ∷ xs) it.sizes_are;
+        held = (h.0, it.held);
+        last = it.last;
+      }
 
-  pub sizes_not : 1 ≤ length bases → 1 ≤ length sizes
-      → ¬ (HoldsRow t caller (get_or bases 0 0) (get_or sizes 0 0))
-      → ¬ (HoldsSizes t caller bases sizes)
-  sizes_not n m lacks h = lacks (subst (λ x. x) (sym (both n m)) h).0
+  pub sizes_joined : (bases sizes : List ℕ) (base size : ℕ) → HoldsSizes t caller bases sizes
+      → HoldsRow t caller base size
+      → HoldsSizes t caller (bases ++ base ∷ []) (sizes ++ size ∷ [])
+  sizes_joined [] [] base size h last = (last, tt)
+  sizes_joined [] (s ∷ sizes) base size h last = absurd h
+  sizes_joined (b ∷ bases) [] base size h last = absurd h
+  sizes_joined (b ∷ bases) (s ∷ sizes) base size h last =
+      (h.0, sizes_joined bases sizes base size h.1 last)
+
+  -- of rows at some bases each has a size
+  pub each_has_size : (bases : List ℕ) (i : ℕ) (sizes : List ℕ) → i < length bases
+      → HoldsSizes t caller bases sizes → (size : ℕ) × HoldsRow t caller (get_or bases i 0) size
+  each_has_size [] i sizes n h = absurd (omega arith)
+  each_has_size (b ∷ bases) i [] n h = absurd h
+  each_has_size (b ∷ bases) zero (s ∷ sizes) n h = (s, h.0)
+  each_has_size (b ∷ bases) (suc i) (s ∷ sizes) n h =
+      each_has_size bases i sizes (omega arith) h.1
+
+  module _ (bases : List ℕ) (i : ℕ) (within : i < length bases) where
+    -- where one of them isn't held, they have no sizes
+    pub none_are : (found : Option ℕ) → found ≡ None
+        → ((size : ℕ) → (found ≡ Some size) ↔ HoldsRow t caller (get_or bases i 0) size)
+        → (sizes : List ℕ) → (None ≡ Some sizes) ↔ HoldsSizes t caller bases sizes
+    none_are found none row sizes = (
+      (λ e. cc),
+      (λ h. let it = each_has_size bases i sizes within h in let e = (row it.0).1 it.1 in cc),
+    )
+
+    -- where the next is held, its size is the last one
+    pub one_more : (sizes : List ℕ) (size : ℕ) (found : Option ℕ) → found ≡ Some size
+        → ((s : ℕ) → (found ≡ Some s) ↔ HoldsRow t caller (get_or bases i 0) s)
+        → ((xs : List ℕ) → (sizes ≡ xs) ↔ HoldsSizes t caller (take i bases) xs)
+        → (xs : List ℕ)
+        → (sizes ++ size ∷ [] ≡ xs) ↔ HoldsSizes t caller (take (i + 1) bases) xs
+    one_more sizes size found is row before xs = (to, back)
+      where
+        cut : take (i + 1) bases ≡ take i bases ++ get_or bases i 0 ∷ []
+        cut = take_more bases i 0 within
+
+        to : sizes ++ size ∷ [] ≡ xs → HoldsSizes t caller (take (i + 1) bases) xs
+        to e =
+            subst (HoldsSizes t caller (take (i + 1) bases)) e
+            (subst (λ bs. HoldsSizes t caller bs (sizes ++ size ∷ [])) (sym cut)
+            (sizes_joined (take i bases) sizes (get_or bases i 0) size ((before sizes).0 refl)
+            ((row size).0 is)))
+
+        back : HoldsSizes t caller (take (i + 1) bases) xs → sizes ++ size ∷ [] ≡ xs
+        back h =
+            let it = sizes_cut (take i bases) (get_or bases i 0) xs
+            (subst (λ bs. HoldsSizes t caller bs xs) cut h) in
+            let first : sizes ≡ it.first = (before it.first).1 it.held in
+            let e = (row it.size).1 it.last in
+            let last : size ≡ it.size = cc in
+            ap (λ ys. ys ++ size ∷ []) first ∙ ap (λ s. it.first ++ s ∷ []) last
+            ∙ sym it.sizes_are
 
 -- ---- a pair row
 
@@ -115,36 +182,51 @@ module _ (t : Snapshot) (log : Log) (caller : ℕ) (bases : List ℕ) (known : c
   pub lose_pair : LosesPair t caller bases → CanLose t log caller bases
   lose_pair p = record { known = known; cause = inl p }
 
-  pub lose_twice : ¬ (LosesPair t caller bases) → ¬ (Distinct bases)
-      → ¬ (CanLose t log caller bases)
-  lose_twice no_pair twice h = ⊎_elim no_pair (λ b. twice b.once) h.cause
-
-  pub lose_is : (lists : List (List ℕ)) → ¬ (LosesPair t caller bases) → Distinct bases
-      → AreBuilding t lists
-      → IsOneTooLate t log caller bases lists ↔ CanLose t log caller bases
-  lose_is lists no_pair once are = (
-    (λ l. record {
-      known = known;
-      cause = inr record {
-        sizes = l.sizes;
-        held = l.late.held;
-        once =
-            once;
-        building = (are l.sizes).1 l.listed;
-        beaten = l.late.beaten;
-      };
-    }),
-    (λ h. ⊎_elim (λ p. absurd (no_pair p)) (λ b. record {
-      sizes = b.sizes;
-      listed = (are b.sizes).0
-          b.building;
-      late = record { held = b.held; beaten = b.beaten };
-    }) h.cause),
+  pub lose_is : ¬ (LosesPair t caller bases) → LosesBuild t log caller bases ↔ CanLose t log caller bases
+  lose_is no_pair = (
+    (λ b. record { known = known; cause = inr b }),
+    (λ h. ⊎_elim (λ p. absurd (no_pair p)) (λ b. b) h.cause),
   )
 
--- ---- the builds behind some
+-- the sizes that were found are those of the rows, and there are no others
+pub sizes_found : (t : Snapshot) (caller : ℕ) (bases : List ℕ) (found : Option (Vec ℕ))
+    (sizes : Vec ℕ) → found ≡ Some sizes
+    → ((xs : List ℕ) → (option_map (λ v. v.items) found ≡ Some xs) ↔ HoldsSizes t caller bases xs)
+    → HoldsSizes t caller bases sizes.items
+    × ((xs : List ℕ) → HoldsSizes t caller bases xs → sizes.items ≡ xs)
+sizes_found t caller bases found sizes is exact = (
+  (exact sizes.items).0 there,
+  (λ xs h. let e = (exact xs).1 h in let both : Some sizes.items ≡ Some xs = sym there ∙ e in cc),
+)
+  where
+    there : option_map (λ v. v.items) found ≡ Some sizes.items
+    there = ap (option_map (λ v. v.items)) is
 
-pub builds_behind : {A : Type 0} (f : A → List ℕ) (xs : List A) (n : ℕ)
-    → map f (take (length xs - n) (drop n xs)) ≡ drop n (map f xs)
-builds_behind f xs n = ap (map f) (take_all (length xs - n) (drop n xs)
-    (omega (arith, length-drop n xs))) ∙ sym (drop-map f n xs)
+-- sizes that another caller's build has are too late where they are a building list
+pub late_is : (t : Snapshot) (log : Log) (caller : ℕ) (sizes : List ℕ) → IsBeaten caller sizes log
+    → (lists : List (List ℕ)) → AreBuilding t lists
+    → Among sizes lists ↔ IsTooLate t log caller sizes
+late_is t log caller sizes beaten lists are = (
+  (λ a. record { building = (are sizes).1 a; beaten = beaten }),
+  (λ late. (are sizes).0 late.building),
+)
+
+module _ (t : Snapshot) (log : Log) (caller : ℕ) (bases sizes : List ℕ)
+    (same : (others : List ℕ) → HoldsSizes t caller bases others → sizes ≡ others) where
+  pub build_not : ¬ (IsTooLate t log caller sizes) → ¬ (LosesBuild t log caller bases)
+  build_not early b =
+      early (subst (IsTooLate t log caller) (sym (same b.sizes b.held))
+      record { building = b.building; beaten = b.beaten })
+
+  pub build_is : HoldsSizes t caller bases sizes → IsTooLate t log caller sizes
+      → Distinct bases ↔ LosesBuild t log caller bases
+  build_is held late = (
+    (λ once. record {
+      sizes = sizes;
+      held = held;
+      once = once;
+      building = late.building;
+      beaten = late.beaten;
+    }),
+    (λ b. b.once),
+  )

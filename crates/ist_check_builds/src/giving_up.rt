@@ -1,88 +1,100 @@
 //! When held rows may be given up.
-ghost use Rattle.std.specs.Prelude.{◌≡◌, ◌↔◌, IsTrue, map};
+ghost use Rattle.std.specs.Prelude.{◌≡◌, ◌↔◌, ℕ, List, IsTrue, IfOk, Some, map};
+ghost use Rattle.std.specs.Option.{option_map};
 ghost use Rattle.std.specs.Ordering.{nat_cmp};
 ghost use Rattle.std.specs.BTreeMap as tree;
 ghost use Rattle.ist_core.specs.Elements.{Distinct};
 ghost use Rattle.ist_core.specs.Snapshots.{Snapshot};
 ghost use Rattle.ist_core.specs.Logs.{Log};
 ghost use Rattle.ist_core.specs.Building.{CanLose, LosesPair, LosesBuild, HoldsSizes, IsBeaten};
-ghost use Rattle.ist_check_builds.specs.Losing.{HasRowAbove, IsTooLate, IsOneTooLate};
+ghost use Rattle.ist_check_builds.specs.Losing.{HasRowAbove, IsTooLate};
 ghost use Rattle.ist_check_events.specs.Mirroring.{Mirrors};
 ghost use Rattle.ist_check_events.specs.Remembering.{KnowsLists, KnowsBuilds, seen_builds};
 
-use ist_check_events::{Past, Replica, holds_row, is_listed};
+use ist_check_events::{BuildTable, Past, Replica, holds_row, is_listed, size_at};
 use ist_layout::PAIR_WORDS;
+use std::alloc::{AllocError, Global};
 
 /// May the caller give up the rows at these bases?
-pub fn can_lose(replica: &Replica, past: &Past, caller: u64, bases: &[u64]) -> bool
-    ensures exact { (t : Snapshot) (log : Log) → Mirrors replica.now t
-        → KnowsLists past.now.counts (map (λ v. v.items) past.now.lists.items) t
-        → KnowsBuilds past.now.since (map (λ v. v.items) past.now.builds.items) log
-        → (IsTrue result ↔ CanLose t log caller bases.now) }
-{
-    if caller >= replica.callers {
-        return false;
-    }
-    if loses_pair(replica, caller, bases) {
-        return true;
-    }
-    if !are_distinct(bases) {
-        return false;
-    }
-    is_one_too_late(replica, past, caller, bases, past.lists.as_slice())
-}
-
-/// Is one of the lists that of the sizes of rows at these bases that come too late?
-fn is_one_too_late(
+pub fn can_lose(
+    alloc: Global,
     replica: &Replica,
     past: &Past,
     caller: u64,
     bases: &[u64],
-    lists: &[Vec<u64>],
-) -> bool
-    ensures exact { (t : Snapshot) (log : Log) → Mirrors replica.now t
-        → KnowsBuilds past.now.since (map (λ v. v.items) past.now.builds.items) log
-        → (IsTrue result
-        ↔ IsOneTooLate t log caller bases.now (map (λ v. v.items) lists.now)) }
+) -> Result<bool, AllocError>
+    ensures exact { IfOk result (λ may. (t : Snapshot) (log : Log) → Mirrors replica.now t
+        → KnowsLists past.now.counts (map (λ v. v.items) past.now.lists.items) t
+        → KnowsBuilds past.now.builds log
+        → (IsTrue may ↔ CanLose t log caller bases.now)) }
 {
-    for list in lists {
-        if is_too_late(replica, past, caller, bases, list.as_slice()) {
-            return true;
+    if caller >= replica.callers {
+        return Ok(false);
+    }
+    if loses_pair(replica, caller, bases) {
+        return Ok(true);
+    }
+    loses_build(alloc, replica, past, caller, bases)
+}
+
+/// Does the caller hold the rows of a build at these bases, and did another caller put such a build in
+/// place meanwhile?
+fn loses_build(
+    alloc: Global,
+    replica: &Replica,
+    past: &Past,
+    caller: u64,
+    bases: &[u64],
+) -> Result<bool, AllocError>
+    ensures exact { IfOk result (λ may. (t : Snapshot) (log : Log) → Mirrors replica.now t
+        → KnowsLists past.now.counts (map (λ v. v.items) past.now.lists.items) t
+        → KnowsBuilds past.now.builds log
+        → (IsTrue may ↔ LosesBuild t log caller bases.now)) }
+{
+    match sizes_at(alloc, replica, caller, bases)? {
+        None => Ok(false),
+        Some(sizes) => {
+            if !is_too_late(past, caller, sizes.as_slice()) {
+                return Ok(false);
+            }
+            Ok(are_distinct(bases))
         }
     }
-    false
 }
 
-/// Does the caller hold rows at these bases with these sizes, and did another caller put such a
-/// build in place meanwhile?
-fn is_too_late(replica: &Replica, past: &Past, caller: u64, bases: &[u64], sizes: &[u64]) -> bool
-    ensures exact { (t : Snapshot) (log : Log) → Mirrors replica.now t
-        → KnowsBuilds past.now.since (map (λ v. v.items) past.now.builds.items) log
-        → (IsTrue result ↔ IsTooLate t log caller bases.now sizes.now) }
+/// The sizes of the rows at these bases, where the caller holds each.
+fn sizes_at(
+    alloc: Global,
+    replica: &Replica,
+    caller: u64,
+    bases: &[u64],
+) -> Result<Option<Vec<u64>>, AllocError>
+    ensures exact { IfOk result (λ found. (t : Snapshot) → Mirrors replica.now t
+        → (sizes : List ℕ) → (option_map (λ v. v.items) found ≡ Some sizes
+        ↔ HoldsSizes t caller bases.now sizes)) }
 {
-    if !holds_sizes(replica, caller, bases, sizes) {
+    let mut sizes = Vec::new(alloc);
+    for base in bases {
+        match size_at(replica, caller, *base) {
+            None => return Ok(None),
+            Some(size) => sizes.push(size)?,
+        }
+    }
+    Ok(Some(sizes))
+}
+
+/// Is this a building list, and did another caller put such a build in place behind the last of the
+/// caller?
+fn is_too_late(past: &Past, caller: u64, sizes: &[u64]) -> bool
+    ensures exact { (t : Snapshot) (log : Log)
+        → KnowsLists past.now.counts (map (λ v. v.items) past.now.lists.items) t
+        → KnowsBuilds past.now.builds log
+        → (IsTrue result ↔ IsTooLate t log caller sizes.now) }
+{
+    if !is_beaten(&past.builds, caller, sizes) {
         return false;
     }
-    is_beaten(past, caller, sizes)
-}
-
-/// Does the caller hold rows at these bases with these sizes?
-fn holds_sizes(replica: &Replica, caller: u64, bases: &[u64], sizes: &[u64]) -> bool
-    ensures exact { (t : Snapshot) → Mirrors replica.now t
-        → (IsTrue result ↔ HoldsSizes t caller bases.now sizes.now) }
-{
-    match bases {
-        [] => sizes.len() == 0,
-        [base, more @ ..] => match sizes {
-            [] => false,
-            [size, others @ ..] => {
-                if !holds_row(replica, caller, *base, *size) {
-                    return false;
-                }
-                holds_sizes(replica, caller, more, others)
-            }
-        },
-    }
+    is_listed(past.lists.as_slice(), sizes)
 }
 
 /// Is this one held pair row, below a published inner row?
@@ -113,24 +125,21 @@ fn has_row_above(replica: &Replica, base: u64) -> bool
 }
 
 /// Did another caller put a build of these sizes in place, behind the last of the caller?
-fn is_beaten(past: &Past, caller: u64, sizes: &[u64]) -> bool
-    ensures exact { (log : Log)
-        → KnowsBuilds past.now.since (map (λ v. v.items) past.now.builds.items) log
+fn is_beaten(builds: &BuildTable, caller: u64, sizes: &[u64]) -> bool
+    ensures exact { (log : Log) → KnowsBuilds builds.now log
         → (IsTrue result ↔ IsBeaten caller sizes.now log) }
 {
-    let seen = seen_of(past, caller);
-    let builds = past.builds.as_slice();
-    if seen >= builds.len() as u64 {
-        return false;
+    match builds.last.get(sizes) {
+        None => false,
+        Some(at) => seen_of(builds, caller) < *at,
     }
-    is_listed(&builds[seen as usize..], sizes)
 }
 
 /// How many builds came up to the caller's last Root, Place or Lose?
-fn seen_of(past: &Past, caller: u64) -> u64
-    ensures value { result ≡ seen_builds (tree.get nat_cmp past.now.since caller) }
+fn seen_of(builds: &BuildTable, caller: u64) -> u64
+    ensures value { result ≡ seen_builds (tree.get nat_cmp builds.now.since caller) }
 {
-    match past.since.get(&caller) {
+    match builds.since.get(&caller) {
         None => 0,
         Some(seen) => *seen,
     }

@@ -1,15 +1,15 @@
 -- What the checker's tables hold of the log: each answers by a look-up what a condition asks of the events so far.
-use Rattle.std.specs.Prelude.{◌≡◌, ◌↔◌, ◌<◌, ◌≤◌, ◌+◌, ◌*◌, ◌^◌, ◌⊎◌, ℕ, true, ◌∷◌, ◌++◌, Option, Some, None, List, drop}
+use Rattle.std.specs.Prelude.{◌≡◌, ◌↔◌, ◌<◌, ◌≤◌, ◌+◌, ◌*◌, ◌^◌, ◌⊎◌, ℕ, true, ◌∷◌, ◌++◌, Option, Some, None, List}
 use Rattle.std.specs.Ordering.{nat_cmp}
 use Rattle.std.specs.BTreeMap as tree
 use Rattle.std.specs.BTreeMap.{BTreeMap}
 use Rattle.std.specs.BTreeSet.{BTreeSet}
+use Rattle.std.specs.Cmp.Lexicographic.{slice_cmp}
 use Rattle.ist_core.specs.Snapshots.{Snapshot}
 use Rattle.ist_core.specs.declared.states.ChangeRow.{ChangeRow}
 use Rattle.ist_core.specs.declared.events.Event.TheVariants.{Decide}
 use Rattle.ist_core.specs.RowLayout.{anchor}
 use Rattle.ist_core.specs.Statuses.{decided_no}
-use Rattle.ist_core.specs.Elements.{Among}
 use Rattle.ist_core.specs.Pieces.{Change}
 use Rattle.ist_core.specs.Logs.{Log, Ever, Happened, Okays, Passes, Draws, Counts}
 use Rattle.ist_core.specs.Links.{IsChild, Linked, WasLinked, WasLedTo, WasOnChain}
@@ -17,6 +17,7 @@ use Rattle.ist_core.specs.Rebuilding.{IsStarted, IsFinishedWith}
 use Rattle.ist_core.specs.Deciding.{IsUpdateOf, SaysYes}
 use Rattle.ist_core.specs.Building.{IsBeaten}
 use Rattle.ist_core.specs.Marking.{HasTarget, IsCalled}
+use Rattle.ist_check_events.specs.declared.pasts.BuildTable.{BuildTable}
 use Rattle.ist_check_events.specs.declared.pasts.LastUpdate.{LastUpdate}
 use Rattle.ist_check_events.specs.declared.pasts.Slot.{Slot}
 use Rattle.ist_check_events.specs.declared.pasts.Way.{Way}
@@ -156,9 +157,19 @@ abbrev pub seen_builds : Option ℕ → ℕ
 seen_builds None = 0
 seen_builds (Some n) = n
 
--- the lists are the sizes of the rows of each Root and Place, and the map says from which on no one is the caller's, nor
--- before a Lose of it
-abbrev pub KnowsBuilds : BTreeMap ℕ ℕ → List (List ℕ) → Log → Type 0
-KnowsBuilds since builds log =
-    (caller : ℕ) (sizes : List ℕ)
-    → Among sizes (drop (seen_builds (tree.get nat_cmp since caller)) builds) ↔ IsBeaten caller sizes log
+-- how many builds had come with the last one whose rows have these sizes, where one came
+abbrev pub last_with : BuildTable → List ℕ → Option ℕ
+last_with builds sizes = tree.get_by (λ v. slice_cmp nat_cmp sizes v.items) builds.last
+
+-- there is such a build, and it came behind so many
+abbrev pub CameBehind : Option ℕ → ℕ → Type 0
+CameBehind None seen = ⊥
+CameBehind (Some at) seen = seen < at
+
+-- the table answers which builds came behind a caller's last Root, Place or Lose; none counts more of them than came
+pub record KnowsBuilds (builds : BuildTable) (log : Log) : Type 0 where
+  pub beaten : (caller : ℕ) (sizes : List ℕ)
+      → CameBehind (last_with builds sizes) (seen_builds (tree.get nat_cmp builds.since caller))
+      ↔ IsBeaten caller sizes log
+  pub came : (sizes : List ℕ) (at : ℕ) → last_with builds sizes ≡ Some at → at ≤ builds.count
+  pub seen : (caller : ℕ) → seen_builds (tree.get nat_cmp builds.since caller) ≤ builds.count

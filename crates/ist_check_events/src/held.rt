@@ -1,5 +1,5 @@
 //! The rows that callers hold, in tables that answer by a look-up.
-ghost use Rattle.std.specs.Prelude.{◌≡◌, ◌≢◌, ◌↔◌, ◌++◌, ◌∷◌, [], ℕ, IsTrue, IfOk, OnOk, List, map, None};
+ghost use Rattle.std.specs.Prelude.{◌≡◌, ◌≢◌, ◌↔◌, ◌++◌, ◌∷◌, [], ℕ, IsTrue, IfOk, OnOk, List, map, None, Some};
 ghost use Rattle.std.specs.Ordering.{nat_cmp};
 ghost use Rattle.std.specs.BTreeMap as tree;
 ghost use Rattle.ist_core.specs.declared.lists.HeldRow.{HeldRow as AHeldRow};
@@ -37,6 +37,28 @@ pub fn has_row(table: &HeldTable, row: HeldRow) -> bool
         None => false,
         Some(found) => is_same(found, row),
     }
+}
+
+/// How long is the row that the caller holds at the base, if it holds one?
+pub fn size_held(table: &HeldTable, caller: u64, base: u64) -> Option<u64>
+    ensures exact { (held : List AHeldRow) → Keeps table.now held → (size : ℕ)
+        → (result ≡ Some size ↔ Among record { caller = caller; base = base; size = size } held) }
+{
+    match table.rows.get(&base) {
+        None => None,
+        Some(found) => size_of(found, caller),
+    }
+}
+
+/// The size of the row, where it is the caller's.
+fn size_of(row: &HeldRow, caller: u64) -> Option<u64>
+    ensures exact { (size : ℕ) → (result ≡ Some size
+        ↔ (record { caller = caller; base = row.now.base; size = size } ≡ row.now)) }
+{
+    if row.caller != caller {
+        return None;
+    }
+    Some(row.size)
 }
 
 /// Is the one row the other?

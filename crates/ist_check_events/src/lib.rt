@@ -33,11 +33,8 @@ pub use installing::can_install;
 pub use marking::{can_finish, can_mark, can_pass, target_keys};
 pub use naming::{inner_of_word, leaf_of_word, names_nothing, rebuild_of_word};
 pub use nodes::{finished_keys, holds_at, is_open, slot_holds};
-pub use pasts::{LastUpdate, Past, Slot, Way, pair_key};
+pub use pasts::{BuildTable, LastUpdate, Past, Slot, Way, pair_key};
 pub use replicas::Replica;
-pub use rows::{change_of_words, holds_row, holds_rows};
+pub use rows::{change_of_words, holds_row, holds_rows, size_at};
 pub use shapes::{add_keys, is_listed};
 pub use shares::{degree_of, part_len_of};
-
-#[cfg(test)]
-mod tests;

@@ -29,6 +29,17 @@ pub struct Way {
     pub depth: u64,
 }
 
+/// The Roots and Places so far, by the sizes of their rows.
+#[derive(Drop)]
+pub struct BuildTable {
+    /// How many came.
+    pub count: u64,
+    /// How many had come with the last one whose rows have these sizes, for all sizes that came.
+    pub last: BTreeMap<Vec<u64>, u64>,
+    /// How many had come up to the last Root, Place or Lose of a caller.
+    pub since: BTreeMap<u64, u64>,
+}
+
 /// What the conditions of events ask of the events before them, in tables that answer by a look-up.
 /// `Remembering.antt` says of each table what it holds.
 #[derive(Drop)]
@@ -51,10 +62,8 @@ pub struct Past {
     pub refused: BTreeSet<u128>,
     /// The rebuilds that were started.
     pub started: BTreeSet<u64>,
-    /// The sizes of the rows of each Root and Place, in order.
-    pub builds: Vec<Vec<u64>>,
-    /// How many of these came up to the last Root, Place or Lose of a caller.
-    pub since: BTreeMap<u64, u64>,
+    /// The Roots and Places.
+    pub builds: BuildTable,
     /// The targets of the rebuilds that were started.
     pub targets: BTreeSet<u64>,
     /// With how many keys such targets are finished.

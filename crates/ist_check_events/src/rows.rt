@@ -1,12 +1,12 @@
 //! Whether rows of an event have the words that they should, and are held by its caller.
-ghost use Rattle.std.specs.Prelude.{◌≡◌, ◌↔◌, ◌∷◌, [], ℕ, IsTrue, length};
+ghost use Rattle.std.specs.Prelude.{◌≡◌, ◌↔◌, ◌∷◌, [], ℕ, IsTrue, length, Some};
 ghost use Rattle.ist_core.specs.declared.lists.Row.{Row};
 ghost use Rattle.ist_core.specs.Elements.{Among};
 ghost use Rattle.ist_core.specs.Pieces as pieces;
 ghost use Rattle.ist_core.specs.Snapshots.{Snapshot, HoldsRow, HoldsRows};
 ghost use Rattle.ist_check_events.specs.Mirroring.{Mirrors};
 
-use crate::held::has_row;
+use crate::held::{has_row, size_held};
 use crate::replicas::Replica;
 use ist_core::{ChangeRow, HeldRow, Row};
 
@@ -33,6 +33,14 @@ pub fn holds_row(replica: &Replica, caller: u64, base: u64, size: u64) -> bool
         → (IsTrue result ↔ HoldsRow t caller base size) }
 {
     has_row(&replica.held, HeldRow { caller, base, size })
+}
+
+/// How long is the row that the caller holds at the base, if it holds one?
+pub fn size_at(replica: &Replica, caller: u64, base: u64) -> Option<u64>
+    ensures exact { (t : Snapshot) → Mirrors replica.now t → (size : ℕ)
+        → (result ≡ Some size ↔ HoldsRow t caller base size) }
+{
+    size_held(&replica.held, caller, base)
 }
 
 /// Does the caller hold each of these rows?

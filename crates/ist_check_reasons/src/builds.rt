@@ -95,14 +95,20 @@ pub fn place_fails(
 }
 
 /// Which condition of a Lose fails first?
-pub fn lose_fails(replica: &Replica, past: &Past, caller: u64, bases: &[u64]) -> Option<Condition>
-    ensures exact { (t : Snapshot) (log : Log) → Mirrors replica.now t
+pub fn lose_fails(
+    alloc: Global,
+    replica: &Replica,
+    past: &Past,
+    caller: u64,
+    bases: &[u64],
+) -> Result<Option<Condition>, AllocError>
+    ensures exact { IfOk result (λ fails. (t : Snapshot) (log : Log) → Mirrors replica.now t
         → KnowsLists past.now.counts (map (λ v. v.items) past.now.lists.items) t
-        → KnowsBuilds past.now.since (map (λ v. v.items) past.now.builds.items) log
-        → Tells (lose_says t log caller bases.now) result }
+        → KnowsBuilds past.now.builds log → Tells (lose_says t log caller bases.now) fails) }
 {
-    first_failing(&[
+    let may = can_lose(alloc, replica, past, caller, bases)?;
+    Ok(first_failing(&[
         test_of(Condition::Known, is_known(replica, caller)),
-        test_of(Condition::Cause, can_lose(replica, past, caller, bases)),
-    ])
+        test_of(Condition::Cause, may),
+    ]))
 }

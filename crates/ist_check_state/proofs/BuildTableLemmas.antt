@@ -1,35 +1,8 @@
 -- What the table of builds says behind a build and behind a loss. Serves `remembering.rt`.
-use Rattle.std.proofs.Common.{
-  ◌≡◌,
-  ◌≢◌,
-  ◌↔◌,
-  ◌∙◌,
-  ◌≤◌,
-  ◌⊎◌,
-  ℕ,
-  true,
-  false,
-  eqb,
-  List,
-  [],
-  ◌∷◌,
-  ◌++◌,
-  length,
-  drop,
-  Some,
-  refl,
-  sym,
-  ap,
-  subst,
-  inl,
-  inr,
-  ⊎_elim,
-  arith,
-  drop_of_length-le,
-  length-append,
-}
+use Rattle.std.proofs.Common.{◌≡◌, ◌≢◌, ◌↔◌, ◌∙◌, ◌+◌, ◌≤◌, ◌⊎◌, ℕ, Bool, true, false, eqb, cond, List, ◌∷◌, Option, Some, None, true≢false, refl, sym, ap, subst, inl, inr, ⊎_elim, arith}
 use Rattle.std.proofs.lemmas.Bool.Decides.{eqb_tells}
-use Rattle.std.proofs.lemmas.List.{drop-append-le}
+use Rattle.std.specs.Cmp.Lexicographic.{slice_cmp}
+use Rattle.std.specs.Global.{Vec}
 use Rattle.std.specs.Ordering.{nat_cmp}
 use Rattle.std.specs.BTreeMap as tree
 use Rattle.std.specs.BTreeMap.{BTreeMap}
@@ -51,154 +24,162 @@ use Rattle.ist_core.specs.declared.events.Event.TheVariants.{
   Place,
   Lose,
 }
-use Rattle.ist_core.specs.Elements.{Among}
 use Rattle.ist_core.specs.Snapshots.{sizes_of}
 use Rattle.ist_core.specs.Logs.{Log}
 use Rattle.ist_core.specs.Building.{IsBeaten}
-use Rattle.ist_core.proofs.ElementLemmas.{among-append, among_left, among_right}
-use Rattle.ist_check_events.specs.Remembering.{seen_builds}
-use Rattle.ist_check_state.specs.Remembered.{BuildsSeen, TellsBuilds}
+use Rattle.ist_check_events.specs.declared.pasts.BuildTable.{BuildTable}
+use Rattle.ist_check_events.specs.Remembering.{CameBehind, KnowsBuilds, last_with, seen_builds}
+use Rattle.ist_check_events.proofs.AnswerLemmas.{iff_trans}
+use Rattle.ist_check_state.proofs.SizesFoundLemmas.{are_sizes, sizes_are, sizes_same}
 use Rattle.ist_check_state.proofs.TableLemmas.{updated_here, updated_other}
 
-module _ (since after_it : BTreeMap ℕ ℕ) (builds : List (List ℕ)) (log : Log) (caller : ℕ)
-    (told : TellsBuilds since builds log) where
+-- a count isn't behind one that isn't less
+not_behind : (found : Option ℕ) (seen : ℕ) → ((at : ℕ) → found ≡ Some at → at ≤ seen)
+    → ¬ (CameBehind found seen)
+not_behind None seen most h = h
+not_behind (Some at) seen most h = let l = most at refl in omega arith
+
+module _ (old : BuildTable) (log : Log) (caller count : ℕ) (since : BTreeMap ℕ ℕ)
+    (known : KnowsBuilds old log) (most : old.count ≤ count)
+    (u : tree.Updates nat_cmp old.since since caller (Some count)) where
+  -- how many builds the caller has seen behind, and how many each other one
+  seen_here : seen_builds (tree.get nat_cmp since caller) ≡ count
+  seen_here = ap seen_builds (updated_here old.since since caller count u)
+
+  seen_other : (c : ℕ) → c ≢ caller
+      → seen_builds (tree.get nat_cmp since c) ≡ seen_builds (tree.get nat_cmp old.since c)
+  seen_other c ne = ap seen_builds (updated_other old.since since caller count u c ne)
+
+  seen_most : (c : ℕ) → seen_builds (tree.get nat_cmp since c) ≤ count
+  seen_most c = at (eqb_tells c caller)
+    where
+      at : ◌⊎◌ ((eqb c caller ≡ true) × (c ≡ caller)) ((eqb c caller ≡ false) × (c ≢ caller))
+          → seen_builds (tree.get nat_cmp since c) ≤ count
+      at (inl k) =
+          let here = ap (λ x. seen_builds (tree.get nat_cmp since x)) k.1 ∙ seen_here in omega arith
+      at (inr k) =
+          let same = seen_other c k.1 in
+          let before = known.seen c in
+          omega arith
+
   -- behind a build
-  module _ (rebuild word : ℕ) (rows : List Row) (u : tree.Updates nat_cmp since after_it caller
-      (Some (length (builds ++ sizes_of rows ∷ [])))) where
-    longer : length builds ≤ length (builds ++ sizes_of rows ∷ [])
-    longer = let l = length-append builds (sizes_of rows ∷ []) in omega arith
+  module _ (rebuild word : ℕ) (rows : List Row) (last : BTreeMap (Vec ℕ) ℕ)
+      (more : old.count + 1 ≡ count)
+      (found : (xs : List ℕ) → tree.get_by (λ v. slice_cmp nat_cmp xs v.items) last
+      ≡ cond (are_sizes xs (sizes_of rows)) (Some count) (last_with old xs)) where
+    abbrev pub new : BuildTable
+    new = record { count = count; last = last; since = since }
 
-    pub build_told : TellsBuilds after_it (builds ++ sizes_of rows ∷ [])
-        (Root caller rebuild word rows ∷ log)
-    build_told = (known, seen)
+    came : (xs : List ℕ) (at : ℕ) → last_with new xs ≡ Some at → at ≤ count
+    came xs at e = by (are_sizes xs (sizes_of rows)) (sym (found xs) ∙ e)
       where
-        known : (c : ℕ) (sizes : List ℕ) → Among sizes
-            (drop (seen_builds (tree.get nat_cmp after_it c)) (builds ++ sizes_of rows ∷ []))
-            ↔ IsBeaten c sizes (Root caller rebuild word rows ∷ log)
-        known c sizes = at (eqb_tells c caller)
-          where
-            none : c ≡ caller → Among sizes (drop (seen_builds (tree.get nat_cmp after_it c))
-                (builds ++ sizes_of rows ∷ [])) → ⊥
-            none same h =
-                let here : tree.get nat_cmp after_it c
-                ≡ Some (length (builds ++ sizes_of rows ∷ [])) = ap (tree.get nat_cmp after_it)
-                same ∙ updated_here since after_it caller
-                (length (builds ++ sizes_of rows ∷ [])) u in
-                let all = drop_of_length-le (builds ++ sizes_of rows ∷ []) (omega arith) in
-                subst (Among sizes) (ap (λ o. drop (seen_builds o) (builds ++ sizes_of rows ∷ []))
-                here ∙ all) h
+        by : (b : Bool) → cond b (Some count) (last_with old xs) ≡ Some at → at ≤ count
+        by true e = let same : count ≡ at = cc in omega arith
+        by false e = let before = known.came xs at e in omega arith
 
-            more : c ≢ caller → drop (seen_builds (tree.get nat_cmp after_it c))
-                (builds ++ sizes_of rows ∷ []) ≡ drop (seen_builds (tree.get nat_cmp since c))
-                builds ++ sizes_of rows ∷ []
-            more ne =
-                ap (λ o. drop (seen_builds o) (builds ++ sizes_of rows ∷ []))
-                (updated_other since after_it caller (length (builds ++ sizes_of rows ∷ [])) u c
-                ne)
-                ∙ drop-append-le (seen_builds (tree.get nat_cmp since c)) builds
-                (sizes_of rows ∷ []) (told.1 c)
+    pub build_known : KnowsBuilds new (Root caller rebuild word rows ∷ log)
+    build_known =
+        record { beaten = λ c xs. beaten c xs (eqb_tells c caller); came = came; seen = seen_most }
+      where
+        -- another caller has seen fewer builds
+        others : (c : ℕ) (xs : List ℕ) → c ≢ caller → (b : Bool) → are_sizes xs (sizes_of rows) ≡ b
+            → CameBehind (cond b (Some count) (last_with old xs))
+            (seen_builds (tree.get nat_cmp old.since c))
+            ↔ IsBeaten c xs (Root caller rebuild word rows ∷ log)
+        others c xs ne true is = (
+          (λ h. ((λ e. ne (sym e)), inl (sym (sizes_same xs (sizes_of rows) is)))),
+          (λ b. let before = known.seen c in omega arith),
+        )
+        others c xs ne false is = (
+          (λ h. ((λ e. ne (sym e)), inr ((known.beaten c xs).0 h))),
+          (λ b. ⊎_elim (λ e. absurd (true≢false (sym (sizes_are xs (sizes_of rows) (sym e)) ∙ is)))
+              (λ o. (known.beaten c xs).1 o) b.1),
+        )
 
-            last : Among sizes (sizes_of rows ∷ []) → sizes_of rows ≡ sizes
-            last (inl e) = sym e
-            last (inr h) = absurd h
-
-            at : ◌⊎◌ ((eqb c caller ≡ true) × (c ≡ caller)) ((eqb c caller ≡ false) × (c ≢ caller))
-                → Among sizes (drop (seen_builds (tree.get nat_cmp after_it c))
-                (builds ++ sizes_of rows ∷ [])) ↔ IsBeaten c sizes
-                (Root caller rebuild word rows ∷ log)
-            at (inl k) = ((λ h. absurd (none k.1 h)), (λ b. absurd (b.0 (sym k.1))))
-            at (inr k) = (
-              (λ h. (
-                (λ e. k.1 (sym e)),
-                ⊎_elim (λ a. inr ((told.0 c sizes).0 a))
-                    (λ b. inl (last b)) (among-append sizes
-                    (drop (seen_builds (tree.get nat_cmp since c)) builds) (sizes_of rows ∷ [])
-                    (subst (Among sizes) (more k.1) h)),
-              )),
-              (λ b. subst (Among sizes) (sym (more k.1))
-                  (⊎_elim (λ e. among_right sizes (drop (seen_builds (tree.get nat_cmp since c))
-                  builds) (sizes_of rows ∷ []) (inl (sym e)))
-                  (λ o. among_left sizes (drop (seen_builds (tree.get nat_cmp since c)) builds)
-                  (sizes_of rows ∷ []) ((told.0 c sizes).1 o)) b.1)),
-            )
-
-        seen : BuildsSeen after_it (builds ++ sizes_of rows ∷ [])
-        seen c = at (eqb_tells c caller)
-          where
-            at : ◌⊎◌ ((eqb c caller ≡ true) × (c ≡ caller)) ((eqb c caller ≡ false) × (c ≢ caller))
-                → seen_builds (tree.get nat_cmp after_it c) ≤ length (builds ++ sizes_of rows ∷ [])
-            at (inl k) =
-                let here : seen_builds (tree.get nat_cmp after_it c)
-                ≡ length (builds ++ sizes_of rows ∷ []) = ap
-                (λ x. seen_builds (tree.get nat_cmp after_it x)) k.1 ∙ ap seen_builds
-                (updated_here since after_it caller (length (builds ++ sizes_of rows ∷ [])) u)
-                in
-                omega arith
-            at (inr k) =
-                let same = ap seen_builds (updated_other since after_it caller
-                (length (builds ++ sizes_of rows ∷ [])) u c k.1) in
-                let old = told.1 c in
-                let l = longer in
-                omega arith
+        beaten : (c : ℕ) (xs : List ℕ) → ◌⊎◌ ((eqb c caller ≡ true) × (c ≡ caller))
+            ((eqb c caller ≡ false) × (c ≢ caller))
+            → CameBehind (last_with new xs) (seen_builds (tree.get nat_cmp since c))
+            ↔ IsBeaten c xs (Root caller rebuild word rows ∷ log)
+        beaten c xs (inl k) = (
+          (λ h. absurd (not_behind (last_with new xs) count (came xs)
+              (subst (CameBehind (last_with new xs))
+              (ap (λ x. seen_builds (tree.get nat_cmp since x)) k.1 ∙ seen_here) h))),
+          (λ b. absurd (b.0 (sym k.1))),
+        )
+        beaten c xs (inr k) =
+            subst (λ n. CameBehind (last_with new xs) n
+            ↔ IsBeaten c xs (Root caller rebuild word rows ∷ log)) (sym (seen_other c k.1))
+            (subst (λ o. CameBehind o (seen_builds (tree.get nat_cmp old.since c))
+            ↔ IsBeaten c xs (Root caller rebuild word rows ∷ log)) (sym (found xs))
+            (others c xs k.1 (are_sizes xs (sizes_of rows)) refl))
 
   -- behind a loss
-  module _ (bases : List ℕ) (u : tree.Updates nat_cmp since after_it caller (Some (length builds)))
-    where
-      pub loss_told : TellsBuilds after_it builds (Lose caller bases ∷ log)
-      loss_told = (
-        (λ c sizes. known c sizes (eqb_tells c caller)),
-        (λ c. seen c (eqb_tells c caller)),
-      )
-        where
-          known : (c : ℕ) (sizes : List ℕ) → ◌⊎◌ ((eqb c caller ≡ true) × (c ≡ caller))
-              ((eqb c caller ≡ false) × (c ≢ caller))
-              → Among sizes (drop (seen_builds (tree.get nat_cmp after_it c)) builds) ↔ IsBeaten c
-              sizes (Lose caller bases ∷ log)
-          known c sizes (inl k) =
-              let here : tree.get nat_cmp after_it c ≡ Some (length builds) = ap
-              (tree.get nat_cmp after_it) k.1 ∙ updated_here since after_it caller (length builds)
-              u in
-              let all = drop_of_length-le builds (omega arith) in (
-                (λ h. absurd (subst (Among sizes) (ap (λ o. drop (seen_builds o) builds) here ∙ all)
-                    h)),
-                (λ b. absurd (b.0 (sym k.1))),
-              )
-          known c sizes (inr k) =
-              let same = ap (λ o. drop (seen_builds o) builds) (updated_other since after_it caller
-              (length builds) u c k.1) in (
-                (λ h. ((λ e. k.1 (sym e)), (told.0 c sizes).0 (subst (Among sizes) same h))),
-                (λ b. subst (Among sizes) (sym same) ((told.0 c sizes).1 b.1)),
-              )
+  module _ (bases : List ℕ) (none : count ≡ old.count) where
+    abbrev pub left : BuildTable
+    left = record { count = old.count; last = old.last; since = since }
 
-          seen : (c : ℕ) → ◌⊎◌ ((eqb c caller ≡ true) × (c ≡ caller)) ((eqb c caller ≡ false)
-              × (c ≢ caller)) → seen_builds (tree.get nat_cmp after_it c) ≤ length builds
-          seen c (inl k) =
-              let here : seen_builds (tree.get nat_cmp after_it c) ≡ length builds = ap
-              (λ x. seen_builds (tree.get nat_cmp after_it x)) k.1 ∙ ap seen_builds
-              (updated_here since after_it caller (length builds) u) in
-              omega arith
-          seen c (inr k) =
-              let same = ap seen_builds (updated_other since after_it caller (length builds) u c k.1)
-              in
-              let old = told.1 c in
-              omega arith
+    pub loss_known : KnowsBuilds left (Lose caller bases ∷ log)
+    loss_known =
+        record {
+          beaten = λ c xs. beaten c xs (eqb_tells c caller);
+          came = known.came;
+          seen = λ c. let most_seen = seen_most c in omega arith;
+        }
+      where
+        beaten : (c : ℕ) (xs : List ℕ) → ◌⊎◌ ((eqb c caller ≡ true) × (c ≡ caller))
+            ((eqb c caller ≡ false) × (c ≢ caller))
+            → CameBehind (last_with old xs) (seen_builds (tree.get nat_cmp since c))
+            ↔ IsBeaten c xs (Lose caller bases ∷ log)
+        beaten c xs (inl k) = (
+          (λ h. absurd (not_behind (last_with old xs) old.count (known.came xs)
+              (subst (CameBehind (last_with old xs))
+              (ap (λ x. seen_builds (tree.get nat_cmp since x)) k.1 ∙ seen_here ∙ none) h))),
+          (λ b. absurd (b.0 (sym k.1))),
+        )
+        beaten c xs (inr k) =
+            subst (λ n. CameBehind (last_with old xs) n ↔ IsBeaten c xs (Lose caller bases ∷ log))
+            (sym (seen_other c k.1)) (
+              (λ h. ((λ e. k.1 (sym e)), (known.beaten c xs).0 h)),
+              (λ b. (known.beaten c xs).1 b.1),
+            )
+
+-- the same is known behind another log by which the same callers are beaten
+pub as_well : (builds : BuildTable) (log other : Log) → KnowsBuilds builds log
+    → ((c : ℕ) (xs : List ℕ) → IsBeaten c xs log ↔ IsBeaten c xs other) → KnowsBuilds builds other
+as_well builds log other k same =
+    record {
+      beaten = λ c xs. iff_trans (k.beaten c xs) (same c xs);
+      came = k.came;
+      seen = k.seen;
+    }
+
+-- a Place is as a Root
+pub place_known : (builds : BuildTable) (log : Log) (c o i w : ℕ) (r : List Row)
+    → KnowsBuilds builds (Root c o w r ∷ log) → KnowsBuilds builds (Place c o i w r ∷ log)
+place_known builds log c o i w r k = as_well builds _ _ k (λ n xs. ((λ b. b), (λ b. b)))
 
 -- behind any other event
-pub builds_kept : (since : BTreeMap ℕ ℕ) (builds : List (List ℕ)) (log : Log) (event : Event)
-    → ((c o w : ℕ) (r : List Row) → event ≢ Root c o w r) → ((c o i w : ℕ) (r : List Row)
-    → event ≢ Place c o i w r) → ((c : ℕ) (b : List ℕ) → event ≢ Lose c b)
-    → TellsBuilds since builds log → TellsBuilds since builds (event ∷ log)
-builds_kept since builds log (Enter c) ro pl lo told = told
-builds_kept since builds log (Reserve c b z) ro pl lo told = told
-builds_kept since builds log (Install c d r) ro pl lo told = told
-builds_kept since builds log (Okay c d) ro pl lo told = told
-builds_kept since builds log (Decide c d x) ro pl lo told = told
-builds_kept since builds log (Resolve c d) ro pl lo told = told
-builds_kept since builds log (Count c n) ro pl lo told = told
-builds_kept since builds log (Mark c n) ro pl lo told = told
-builds_kept since builds log (Pass c n i w) ro pl lo told = told
-builds_kept since builds log (Finish c n k) ro pl lo told = told
-builds_kept since builds log (Root c o w r) ro pl lo told = absurd (ro c o w r refl)
-builds_kept since builds log (Draw c o p) ro pl lo told = told
-builds_kept since builds log (Place c o i w r) ro pl lo told = absurd (pl c o i w r refl)
-builds_kept since builds log (Lose c b) ro pl lo told = absurd (lo c b refl)
+pub builds_kept : (builds : BuildTable) (log : Log) (event : Event) → ((c o w : ℕ) (r : List Row)
+    → event ≢ Root c o w r) → ((c o i w : ℕ) (r : List Row) → event ≢ Place c o i w r)
+    → ((c : ℕ) (b : List ℕ) → event ≢ Lose c b) → KnowsBuilds builds log
+    → KnowsBuilds builds (event ∷ log)
+builds_kept builds log event ro pl lo k = as_well builds _ _ k (kept event ro pl lo)
+  where
+    kept : (e : Event) → ((c o w : ℕ) (r : List Row) → e ≢ Root c o w r)
+        → ((c o i w : ℕ) (r : List Row) → e ≢ Place c o i w r)
+        → ((c : ℕ) (b : List ℕ) → e ≢ Lose c b) → (n : ℕ) (xs : List ℕ)
+        → IsBeaten n xs log ↔ IsBeaten n xs (e ∷ log)
+    kept (Enter c) ro pl lo n xs = ((λ b. b), (λ b. b))
+    kept (Reserve c b z) ro pl lo n xs = ((λ b. b), (λ b. b))
+    kept (Install c d r) ro pl lo n xs = ((λ b. b), (λ b. b))
+    kept (Okay c d) ro pl lo n xs = ((λ b. b), (λ b. b))
+    kept (Decide c d x) ro pl lo n xs = ((λ b. b), (λ b. b))
+    kept (Resolve c d) ro pl lo n xs = ((λ b. b), (λ b. b))
+    kept (Count c d) ro pl lo n xs = ((λ b. b), (λ b. b))
+    kept (Mark c d) ro pl lo n xs = ((λ b. b), (λ b. b))
+    kept (Pass c d i w) ro pl lo n xs = ((λ b. b), (λ b. b))
+    kept (Finish c d m) ro pl lo n xs = ((λ b. b), (λ b. b))
+    kept (Root c o w r) ro pl lo n xs = absurd (ro c o w r refl)
+    kept (Draw c o p) ro pl lo n xs = ((λ b. b), (λ b. b))
+    kept (Place c o i w r) ro pl lo n xs = absurd (pl c o i w r refl)
+    kept (Lose c b) ro pl lo n xs = absurd (lo c b refl)

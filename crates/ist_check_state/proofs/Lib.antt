@@ -3,6 +3,7 @@ pub mod PublishLemmas
 pub mod FreshLemmas
 pub mod EventLemmas
 pub mod TableLemmas
+mod SizesFoundLemmas
 pub mod BuildTableLemmas
 pub mod DecisionLemmas
 pub mod StartedLemmas

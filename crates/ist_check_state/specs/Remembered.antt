@@ -1,10 +1,6 @@
 -- What the checker's tables ask of the log besides what they held of it. It is so behind every lawful log.
-use Rattle.std.specs.Prelude.{◌≡◌, ◌≤◌, ℕ, List, length, Some}
-use Rattle.std.specs.Ordering.{nat_cmp}
-use Rattle.std.specs.BTreeMap as tree
-use Rattle.std.specs.BTreeMap.{BTreeMap}
+use Rattle.std.specs.Prelude.{◌≡◌, ℕ, Some}
 use Rattle.ist_check_events.specs.Passing.{TargetFinishedWith}
-use Rattle.ist_check_events.specs.Remembering.{seen_builds, KnowsBuilds}
 use Rattle.ist_core.specs.declared.states.ChangeRow.{ChangeRow}
 use Rattle.ist_core.specs.References.{RebuildAt, ref_of}
 use Rattle.ist_core.specs.Statuses.{start_kind}
@@ -15,14 +11,6 @@ use Rattle.ist_core.specs.Logs.{Log, Happened, Passes}
 -- all passes of a slot name one word
 abbrev pub PassesAreOne : Log → Type 0
 PassesAreOne log = (node i word other : ℕ) → Happened (Passes node i word) log → Happened (Passes node i other) log → word ≡ other
-
--- no caller has seen more builds than there are
-abbrev pub BuildsSeen : BTreeMap ℕ ℕ → List (List ℕ) → Type 0
-BuildsSeen since builds = (caller : ℕ) → seen_builds (tree.get nat_cmp since caller) ≤ length builds
-
--- the builds are known, and no caller has seen more than these
-abbrev pub TellsBuilds : BTreeMap ℕ ℕ → List (List ℕ) → Log → Type 0
-TellsBuilds since builds log = KnowsBuilds since builds log × BuildsSeen since builds
 
 -- the change, if it is decided yes, starts the rebuild
 pub record StartsRebuild (t : Snapshot) (base rebuild : ℕ) : Type 0 where

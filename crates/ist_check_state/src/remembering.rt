@@ -1,12 +1,12 @@
 //! What the checker remembers of an event, table by table.
-ghost use Rattle.std.specs.Prelude.{◌≡◌, ◌++◌, ◌∷◌, [], ℕ, List, OnOk, IfOk, map, length, ◌<◌, ◌≤◌, ◌+◌, ◌^◌};
+ghost use Rattle.std.specs.Prelude.{◌≡◌, ◌∷◌, ℕ, List, OnOk, IfOk, ◌<◌, ◌≤◌, ◌+◌, ◌^◌};
 ghost use Rattle.ist_core.specs.Snapshots as snapshots;
 ghost use Rattle.ist_core.specs.Logs.{Log};
 ghost use Rattle.ist_core.specs.declared.events.Event.TheVariants.{Draw, Lose, Pass, Root};
-ghost use Rattle.ist_check_events.specs.Remembering.{KnowsOkays, KnowsPasses, KnowsDraws};
-ghost use Rattle.ist_check_state.specs.Remembered.{PassesAreOne, TellsBuilds};
+ghost use Rattle.ist_check_events.specs.Remembering.{KnowsOkays, KnowsPasses, KnowsDraws, KnowsBuilds};
+ghost use Rattle.ist_check_state.specs.Remembered.{PassesAreOne};
 
-use ist_check_events::pair_key;
+use ist_check_events::{BuildTable, pair_key};
 use ist_core::{Event, Row};
 use std::alloc::{AllocError, Global};
 use std::collections::{BTreeMap, BTreeSet};
@@ -94,59 +94,49 @@ fn note_draw(
 /// Remembers the sizes of the rows of a Root or a Place, and that the caller came by.
 pub fn remember_build(
     alloc: Global,
-    builds: &mut Vec<Vec<u64>>,
-    since: &mut BTreeMap<u64, u64>,
+    builds: &mut BuildTable,
     event: &Event,
 ) -> Result<(), AllocError>
-    requires room { length builds.old.items < 2 ^ 63 }
-    ensures exact { OnOk result ((log : Log)
-        → TellsBuilds since.old (map (λ v. v.items) builds.old.items) log
-        → TellsBuilds since.new (map (λ v. v.items) builds.new.items) (event.now ∷ log)) }
-    ensures few { OnOk result (length builds.new.items ≤ length builds.old.items + 1) }
+    requires room { builds.old.count < 2 ^ 63 }
+    ensures exact { OnOk result ((log : Log) → KnowsBuilds builds.old log
+        → KnowsBuilds builds.new (event.now ∷ log)) }
+    ensures few { OnOk result (builds.new.count ≤ builds.old.count + 1) }
 {
     match event {
-        Event::Root { caller, rows, .. } => {
-            note_build(alloc, builds, since, *caller, rows.as_slice())
-        }
-        Event::Place { caller, rows, .. } => {
-            note_build(alloc, builds, since, *caller, rows.as_slice())
-        }
-        Event::Lose { caller, .. } => note_loss(since, *caller, builds.as_slice()),
+        Event::Root { caller, rows, .. } => note_build(alloc, builds, *caller, rows.as_slice()),
+        Event::Place { caller, rows, .. } => note_build(alloc, builds, *caller, rows.as_slice()),
+        Event::Lose { caller, .. } => note_loss(builds, *caller),
         _ => Ok(()),
     }
 }
 
-/// Remembers the sizes of one build. A Place is as a Root here.
+/// Remembers one build. A Place is as a Root here.
 fn note_build(
     alloc: Global,
-    builds: &mut Vec<Vec<u64>>,
-    since: &mut BTreeMap<u64, u64>,
+    builds: &mut BuildTable,
     caller: u64,
     rows: &[Row],
 ) -> Result<(), AllocError>
-    requires room { length builds.old.items < 2 ^ 63 }
-    ensures exact { OnOk result ((log : Log) → (rebuild word : ℕ)
-        → TellsBuilds since.old (map (λ v. v.items) builds.old.items) log
-        → TellsBuilds since.new (map (λ v. v.items) builds.new.items)
-        (Root caller rebuild word rows.now ∷ log)) }
-    ensures few { OnOk result (length builds.new.items ≤ length builds.old.items + 1) }
+    requires room { builds.old.count < 2 ^ 63 }
+    ensures exact { OnOk result ((log : Log) → (rebuild word : ℕ) → KnowsBuilds builds.old log
+        → KnowsBuilds builds.new (Root caller rebuild word rows.now ∷ log)) }
+    ensures few { OnOk result (builds.new.count ≡ builds.old.count + 1) }
 {
-    builds.push(sizes_of(alloc, rows)?)?;
-    since.insert(caller, builds.as_slice().len() as u64)?;
+    let count = builds.count + 1;
+    builds.last.insert(sizes_of(alloc, rows)?, count)?;
+    builds.since.insert(caller, count)?;
+    builds.count = count;
     Ok(())
 }
 
 /// Remembers that the caller gave up rows behind all builds so far.
-fn note_loss(
-    since: &mut BTreeMap<u64, u64>,
-    caller: u64,
-    builds: &[Vec<u64>],
-) -> Result<(), AllocError>
-    ensures exact { OnOk result ((log : Log) → (bases : List ℕ)
-        → TellsBuilds since.old (map (λ v. v.items) builds.now) log
-        → TellsBuilds since.new (map (λ v. v.items) builds.now) (Lose caller bases ∷ log)) }
+fn note_loss(builds: &mut BuildTable, caller: u64) -> Result<(), AllocError>
+    ensures exact { OnOk result ((log : Log) → (bases : List ℕ) → KnowsBuilds builds.old log
+        → KnowsBuilds builds.new (Lose caller bases ∷ log)) }
+    ensures few { OnOk result (builds.new.count ≡ builds.old.count) }
 {
-    since.insert(caller, builds.len() as u64)?;
+    let count = builds.count;
+    builds.since.insert(caller, count)?;
     Ok(())
 }
 

@@ -1,4 +1,4 @@
-use Rattle.std.proofs.Common.{◌≡◌, ◌∙◌, true, false, length, reverse, take, take_all, sym, ap}
+use Rattle.std.proofs.Common.{◌≡◌, ◌∙◌, true, false, reverse, take, take_all, sym, ap}
 use Rattle.std.proofs.Common.{subst, arith}
 use Rattle.ist_core.specs.Snapshots.{Shows}
 use Rattle.ist_core.specs.StartLayout.{start}
@@ -20,7 +20,7 @@ loop-at-init c =
     let pairs = c.args.start.now in
     let mirrors = subst (λ n. Mirrors c.in_ok-replica.replica (start pairs n)) c.from.ensures
     c.in_ok-replica.ensures.mirrors in
-    let few = ap length c.in_ok-past.ensures.few in (
+    let few = c.in_ok-past.ensures.few in (
       record {
         lawful = record { opens = c.requires.opens; enabled = tt };
         mirrors = mirrors;

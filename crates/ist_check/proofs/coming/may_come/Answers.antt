@@ -51,11 +51,13 @@ returns-in-Place c =
 pub returns-in-Lose : goal.returns-in-Lose
 returns-in-Lose c =
     record {
-      exact = λ pairs words log knows.
+      exact =
+          if_ok c.can_lose.result _ _
+          (λ may exact pairs words log knows.
           let i = c.in-Lose in
           let past = knows.remembers in
-          let may = c.can_lose.ensures.exact (state_of pairs words log) log knows.mirrors past.lists
-          past.builds.0 in
-          subst (λ e. IsTrue c.can_lose.result ↔ Enabled (start pairs words) log e)
-          (ap (Lose i.caller) c.as_slice-in-Lose.ensures.value ∙ sym i.is) may;
+          subst (λ e. IsTrue may ↔ Enabled (start pairs words) log e)
+          (ap (Lose i.caller) c.as_slice-in-Lose.ensures.value ∙ sym i.is)
+          (exact (state_of pairs words log) log knows.mirrors past.lists past.builds))
+          c.can_lose.ensures.exact;
     }

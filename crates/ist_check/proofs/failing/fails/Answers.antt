@@ -137,13 +137,15 @@ returns-in-Draw c =
 pub returns-in-Lose : goal.returns-in-Lose
 returns-in-Lose c =
     record {
-      exact = λ pairs words log knows.
+      exact =
+          if_ok c.lose_fails.result _ _
+          (λ fails exact pairs words log knows.
           let i = c.in-Lose in
           let past = knows.remembers in
-          subst (λ e. Tells (says_of (start pairs words) log e) c.lose_fails.result)
+          subst (λ e. Tells (says_of (start pairs words) log e) fails)
           (ap (Lose i.caller) c.as_slice-in-Lose.ensures.value ∙ sym i.is)
-          (c.lose_fails.ensures.exact (state_of pairs words log) log knows.mirrors past.lists
-          past.builds.0);
+          (exact (state_of pairs words log) log knows.mirrors past.lists past.builds))
+          c.lose_fails.ensures.exact;
     }
 
 pub returns-in-Root : goal.returns-in-Root

@@ -1,7 +1,6 @@
-use Rattle.std.proofs.Common.{[], map, sym, subst}
+use Rattle.std.proofs.Common.{map, sym, subst}
 use Rattle.ist_core.specs.StartLayout.{start}
 use Rattle.ist_check_events.specs.Remembering.{KnowsLists}
-use Rattle.ist_check_state.specs.Remembered.{TellsBuilds}
 use Rattle.ist_check.proofs.OpeningLemmas as opening
 use Rattle.ist_check.proofs.remembering.open_past.Goals as goal
 
@@ -18,6 +17,5 @@ returns-clause-exact c pairs words opens mirrors =
       targets = opening.no_targets pairs words c.new-10.result c.new-10.ensures.empty;
       lists = subst (λ items. KnowsLists c.new-11.result (map (λ v. v.items) items) (start pairs words))
           (sym c.new-12.ensures.items) (opening.no_lists pairs words c.new-11.result c.new-11.ensures.empty);
-      builds = subst (λ items. TellsBuilds c.new-9.result (map (λ v. v.items) items) [])
-          (sym c.new-8.ensures.items) (opening.no_builds c.new-9.result c.new-9.ensures.empty);
+      builds = opening.no_builds _ c.new-8.ensures.empty c.new-9.ensures.empty;
     }

@@ -13,7 +13,7 @@ returns c =
             holding c.test_of.ensures.value (c.is_known.ensures.exact t h),
             (
               named c.test_of-2.ensures.value,
-              holding c.test_of-2.ensures.value (c.can_lose.ensures.exact t log h k b),
+              holding c.test_of-2.ensures.value (c.in_ok-may.ensures.exact t log h k b),
               tt,
             ),
           )
