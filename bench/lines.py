@@ -4,8 +4,8 @@
     python3 bench/lines.py [--options "WORD WORD.."] [KEYS..]
 
 Puts and gets take turns. Their timestamps are drawn from KEYS many by a fixed seed; 100, 10,000 and 200,000 where none is
-said. The options are those with which `./tele` is run, which tells the C library to keep its heap. The time is the processor time of the whole program, with its input in a file and its output in another, the best of three. The
-plain program is bench/plain.rs, where there is a rustc; both have to write the same.
+said. The options are those with which `./tele` is run, which tells the C library to keep its heap. The time is the processor time
+of the whole program, with its input in a file and its output in another, the best of three. The plain program is bench/plain.rs, where there is a rustc; both have to write the same.
 """
 import argparse
 import random
