@@ -1,8 +1,8 @@
 //! The search without waiting: it loads words, never writes one, and ends.
 //!
 //! Read `specs/Searches.antt`, then `finding.rt`, `walking.rt` and `children.rt`. Stands on `ist_core`,
-//! `ist_layout`, `ist_math`, `ist_rule`, `ist_dcss`, and on the laws of `ist_links`, `ist_rebuilds`,
-//! `ist_stability`, `ist_histories` and `ist_walks`.
+//! `ist_layout`, `ist_math`, `ist_rule`, `ist_dcss`, and on the laws of `ist_rebuilds`, `ist_histories`
+//! and `ist_walks`.
 #![tactic(auto)]
 
 mod answers;

@@ -2,7 +2,7 @@
 //! Nothing here runs.
 //!
 //! `specs/Lib.antt` gives the statements in reading order. Stands on `ist_core`, `ist_links`,
-//! `ist_rebuilds` and `ist_histories`.
+//! `ist_rebuilds`, `ist_stability` and `ist_histories`.
 #![tactic(auto)]
 
 pub mod laws;

@@ -1,8 +1,8 @@
 //! The crates below the tree, call by call: tests alone.
 //!
 //! Read `ports.rt`, `arithmetic.rt` and `layouts.rt`, then `images.rt`, `callers.rt` and `searches.rt` with
-//! `samples.rt`. Stands on `ist_core`, `ist_math`, `ist_layout`, `ist_image`, `ist_rows`, `ist_find` and `ist_samples`, and on what
-//! these stand on.
+//! `samples.rt`. Stands on `ist_core`, `ist_math`, `ist_layout`, `ist_image`, `ist_rule`, `ist_rows`, `ist_dcss`,
+//! `ist_samples` and `ist_find`.
 #![tactic(auto)]
 
 #[cfg(test)]

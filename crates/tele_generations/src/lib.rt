@@ -2,7 +2,7 @@
 //! tasks are answered. What it is, and the parts of its loop; it knows no tree.
 //!
 //! Read `specs/Generations.antt` and `specs/Rounds.antt`, then `ways.rt` and `rounds.rt`. Stands on
-//! `tele_rounds`, `tele_lanes`, `plain_map` and `ist_math`.
+//! `ist_core`, `ist_math`, `plain_map`, `tele_lanes`, `tele_rounds` and the laws of `ist_histories` and `ist_finished`.
 #![tactic(auto)]
 
 mod kept;

@@ -28,7 +28,7 @@ use tele_lines::Lines;
 use tele_trees::TreeTables;
 
 /// Reads lines from the source, carries them out on one map, and writes the replies to the sink; or
-/// makes the lines, where the words of the command line say so. It always returns.
+/// makes the lines, where the words of the command line say so.
 ///
 /// `words` are those of the command line, the program's name first; no word is read like the name
 /// alone. What they ask for is `job_of`, by `clap`. Words that `clap` refuses, for another cause than
@@ -50,7 +50,8 @@ use tele_trees::TreeTables;
 /// with `--steal 1` into 64 lanes that the workers steal from one another, and on another tree behind
 /// it where it ran full (`tele_trees::run_round`). The last tree of a round goes to the shelf when
 /// the next round begins; with status 0 or 3 that of the last round is handed back. `gate` is told of
-/// each call on a tree. A run with much to do may wait for its workers.
+/// each call on a tree. A run waits for its workers, and no clause says that this waiting
+/// ends.
 pub fn run<R: Threads + Wait + Sync, S: Source, O: Sink, G: Gate + Sync, H: Shelf<Closed>>(
     rt: &R,
     alloc: Global,
