@@ -31,7 +31,7 @@ use Rattle.ist_rows.specs.Building.{IsInBuild, IsNext, HasTaken}
 use Rattle.ist_build.specs.Laying.{BuiltOn, ArePlaced, HaveLeaves, IsLeaf, IsLaid, IsDue, IsShort}
 use Rattle.ist_build.specs.Midway.{words_at, AreLaid, lens_from, IsOpened, IsMidway}
 use Rattle.ist_build.proofs.BuiltLemmas.{built_more, loads_built}
-use Rattle.ist_build.proofs.LayingLemmas.{laid_none, laid_leaf, laid_top}
+use Rattle.ist_build.proofs.TogetherLemmas.{laid_none, laid_leaf, laid_top}
 use Rattle.ist_build.proofs.MidwayLemmas.{part_placed, length-share_of}
 use Rattle.ist_build.proofs.PartsLemmas.{lens_first, lens_last, sizes_left}
 

@@ -3,6 +3,7 @@ pub mod OwnWordLemmas
 pub mod BuiltLemmas
 pub mod PuttingLemmas
 pub mod LayingLemmas
+pub mod TogetherLemmas
 pub mod PartsLemmas
 pub mod RowOpenedLemmas
 pub mod MidwayLemmas

@@ -25,7 +25,8 @@ use Rattle.ist_forms.specs.Dividing.{lens_to, parts_to, share_of}
 use Rattle.ist_forms.proofs.PartLemmas.{parts_next, keys_next}
 use Rattle.ist_build.specs.Midway.{words_at, AreLaid, lens_from, IsMidway, opening, setting}
 use Rattle.ist_build.proofs.BuiltLemmas.{built_more, built_next, built_held, built_grow, rewritten_built, leaf_grows}
-use Rattle.ist_build.proofs.LayingLemmas.{row_within, rows_below, are_laid_on, same_rows, are_laid_more}
+use Rattle.ist_build.proofs.LayingLemmas.{row_within, rows_below, are_laid_on, same_rows}
+use Rattle.ist_build.proofs.TogetherLemmas.{are_laid_more}
 use Rattle.ist_build.proofs.OwnWordLemmas.{words_at_same, words_at_more}
 use Rattle.ist_build.proofs.PartsLemmas.{sizes_next, sizes_left}
 use Rattle.ist_build.proofs.RowOpenedLemmas.{at_key, at_rewritten, at_slot, elsewhere, midway_first, opened_on, setting_is}

@@ -26,7 +26,8 @@ use Rattle.ist_forms.specs.Dividing.{lens_to, parts_to}
 use Rattle.ist_build.specs.Midway.{words_at, AreLaid, lens_from, IsOpened, IsMidway, opening, setting}
 use Rattle.ist_build.proofs.BuiltLemmas.{built_more, built_held, built_grow, loads_built, reserved_built, rewritten_built}
 use Rattle.ist_build.proofs.LaidOnLemmas.{next_between}
-use Rattle.ist_build.proofs.LayingLemmas.{are_laid_none, are_laid_on}
+use Rattle.ist_build.proofs.LayingLemmas.{are_laid_on}
+use Rattle.ist_build.proofs.TogetherLemmas.{are_laid_none}
 use Rattle.ist_build.proofs.OwnWordLemmas.{own_here, own_else}
 use Rattle.ist_build.proofs.PartsLemmas.{lens_first}
 

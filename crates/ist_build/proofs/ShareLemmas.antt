@@ -25,7 +25,7 @@ use Rattle.ist_build.specs.Calls.{IsShare, share_whole, share_part, MayBuild, Ha
 use Rattle.ist_build.specs.Laying.{ArePlaced, IsLaid, IsDue, IsShort}
 use Rattle.ist_build.specs.Reading.{HasRead, read_all}
 use Rattle.ist_build.proofs.BuiltLemmas.{loads_built, built_more}
-use Rattle.ist_build.proofs.LayingLemmas.{high_more}
+use Rattle.ist_build.proofs.TogetherLemmas.{high_more}
 use Rattle.ist_build.proofs.MidwayLemmas.{each_take, each_drop, published_on}
 use Rattle.ist_build.proofs.ReadLemmas.{read_is}
 use Rattle.ist_build.proofs.ReadingLemmas.{leaves_number}

@@ -1,107 +1,22 @@
 -- Finished rows behind an event: only a Finish makes one. Serves `targeting.rt`.
-use Rattle.std.proofs.Common.{◌≡◌, ◌≢◌, ◌∙◌, ◌⊎◌, ◌∷◌, ℕ, nat_lt, if◌then◌else◌, true, false}
-use Rattle.std.proofs.Common.{List, Some, refl, sym, ap, inl, inr, ⊎_elim, option_map, arith}
-use Rattle.ist_core.specs.declared.lists.Row.{Row}
-use Rattle.ist_core.specs.declared.states.ChangeRow.{ChangeRow}
+use Rattle.std.proofs.Common.{◌≡◌, ◌≢◌, ◌∙◌, ◌⊎◌, ◌∷◌, ℕ}
+use Rattle.std.proofs.Common.{refl, sym, ap, inl, inr, ⊎_elim, option_map, arith}
 use Rattle.ist_core.specs.declared.events.Event.{Event}
 use Rattle.ist_core.specs.declared.events.Event.TheVariants.{Enter, Reserve, Install, Okay, Decide}
 use Rattle.ist_core.specs.declared.events.Event.TheVariants.{Resolve, Count, Mark, Pass, Finish}
 use Rattle.ist_core.specs.declared.events.Event.TheVariants.{Root, Draw, Place, Lose}
 use Rattle.ist_core.specs.Statuses.{marked_word, finished_word}
 use Rattle.ist_core.specs.Pieces.{Piece, Leaf, Inner, Change, Rebuild, with_inners, changed_at}
-use Rattle.ist_core.specs.Pieces.{with_slot, with_status, counted, with_decision, with_root, drawn}
+use Rattle.ist_core.specs.Pieces.{with_status, with_root}
 use Rattle.ist_core.specs.Snapshots.{Snapshot}
 use Rattle.ist_core.specs.Logs.{Log, state}
 use Rattle.ist_core.specs.Rebuilding.{IsFinishedWith}
-use Rattle.ist_core.specs.Installing.{pair_row, pair_over, FitsKind, a_put, a_pair, a_remove}
-use Rattle.ist_core.specs.Installing.{a_start, a_finish}
 use Rattle.ist_core.specs.Marking.{CanFinish}
 use Rattle.ist_core.specs.Enabled.{Enabled}
 use Rattle.ist_core.proofs.RowLemmas.{changed_at-some, changed_at-same}
 use Rattle.ist_core.proofs.MoveLemmas.{HeldLieApart}
-use Rattle.ist_core.proofs.AddingLemmas.{IsInstalled}
-use Rattle.ist_core.proofs.FieldLemmas.{IsRare, Has, has_changed, has_rooted, has_step}
-
--- the status of an inner row, and 0 of others
-abbrev status_in : Piece → ℕ
-status_in (Inner r) = r.status
-status_in _ = 0
-
-pair_untouched : (key base other_key other : ℕ)
-    → status_in (pair_row key base other_key other) ≡ 0
-pair_untouched key base other_key other =
-    elim (nat_lt other_key key) as
-    (λ v. status_in (if v then pair_over key other base else pair_over other_key base other) ≡
-    0) [ true ↦ refl | false ↦ refl ]
-
-installed_untouched : (first : Snapshot) (log : Log) (at : ℕ) (change : ChangeRow)
-    (fresh : List Row) (fits : FitsKind first log change fresh) (base : ℕ) (p : Piece)
-    → IsInstalled first log at change fresh fits base p → status_in p ≡ 0
-installed_untouched first log at change fresh fits base p (inl h) = ap status_in h.1
-installed_untouched first log at change fresh (a_put f) base p (inr h) = ap status_in h.1
-installed_untouched first log at change fresh (a_pair f) base p (inr (inl h)) = ap status_in h.1 ∙
-    pair_untouched change.key f.leaf f.other_key f.other
-installed_untouched first log at change fresh (a_pair f) base p (inr (inr h)) = ap status_in h.1
-installed_untouched first log at change fresh (a_remove f) base p (inr h) = absurd h
-installed_untouched first log at change fresh (a_start f) base p (inr h) = ap status_in h.1
-installed_untouched first log at change fresh (a_finish f) base p (inr h) = absurd h
-
-slot_same : (i word : ℕ) (p : Piece) → status_in (with_slot i word p) ≡ status_in p
-slot_same i word (Inner r) = refl
-slot_same i word (Leaf r) = refl
-slot_same i word (Change r) = refl
-slot_same i word (Rebuild r) = refl
-
-decision_same : (word : ℕ) (p : Piece) → status_in (with_decision word p) ≡ status_in p
-decision_same word (Inner r) = refl
-decision_same word (Leaf r) = refl
-decision_same word (Change r) = refl
-decision_same word (Rebuild r) = refl
-
-count_same : (p : Piece) → status_in (counted p) ≡ status_in p
-count_same (Inner r) = refl
-count_same (Leaf r) = refl
-count_same (Change r) = refl
-count_same (Rebuild r) = refl
-
-draw_same : (p : Piece) → status_in (drawn p) ≡ status_in p
-draw_same (Inner r) = refl
-draw_same (Leaf r) = refl
-draw_same (Change r) = refl
-draw_same (Rebuild r) = refl
-
-root_same : (word : ℕ) (p : Piece) → status_in (with_root word p) ≡ status_in p
-root_same word (Inner r) = refl
-root_same word (Leaf r) = refl
-root_same word (Change r) = refl
-root_same word (Rebuild r) = refl
-
-status_rare : IsRare status_in 0
-status_rare = record {
-  slot = slot_same;
-  decision = decision_same;
-  count = count_same;
-  draw =
-      draw_same;
-  inner = λ r e. e;
-  install = installed_untouched;
-}
-
--- a finished row is one with that status
-finished_has : (t : Snapshot) (node k : ℕ) → IsFinishedWith t node k
-    → Has status_in 0 status_rare t.pieces node (finished_word k)
-finished_has t node k h = (Inner h.row, h.published, h.status)
-
-has_finished : (t : Snapshot) (node k : ℕ)
-    → Has status_in 0 status_rare t.pieces node (finished_word k) → IsFinishedWith t node k
-has_finished t node k h = at h.0 h.1 h.2
-  where
-    at : (p : Piece) → t.pieces node ≡ Some p → status_in p ≡ finished_word k
-        → IsFinishedWith t node k
-    at (Inner r) e s = record { row = r; published = e; status = s }
-    at (Leaf r) e s = absurd (omega arith)
-    at (Change r) e s = absurd (omega arith)
-    at (Rebuild r) e s = absurd (omega arith)
+use Rattle.ist_core.proofs.StatusFieldLemmas.{status_in, root_same, status_rare, finished_has, has_finished}
+use Rattle.ist_core.proofs.FieldLemmas.{Has, has_changed, has_rooted, has_step}
 
 -- the event finishes the node with k keys
 abbrev pub Finishes : ℕ → ℕ → Event → Type 0

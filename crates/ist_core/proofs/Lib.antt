@@ -63,8 +63,10 @@ pub mod TallyLemmas
 pub mod YesLemmas
 pub mod DrawnLemmas
 pub mod DrawLemmas
+pub mod StatusFieldLemmas
 pub mod FinishedLemmas
 pub mod KeepingLemmas
+mod RootFieldLemmas
 pub mod RootKeyLemmas
 pub mod LeafStepLemmas
 pub mod LeafBuildLemmas

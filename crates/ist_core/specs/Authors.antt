@@ -1,5 +1,5 @@
 -- Whose events are whose, and logs that have gone on by some events alone: by those of others, say.
-use Rattle.std.specs.Prelude.{ℕ, ◌≢◌, ◌⊎◌, [], ◌∷◌}
+use Rattle.std.specs.Prelude.{◌≢◌, ◌⊎◌, [], ◌∷◌}
 use Rattle.ist_core.specs.declared.events.Event.{Event}
 use Rattle.ist_core.specs.declared.events.Event.TheVariants.{Count, Decide, Draw, Enter, Finish, Install, Lose, Mark, Okay, Pass, Place, Reserve, Resolve, Root}
 use Rattle.ist_core.specs.declared.events.Who.{Who}
