@@ -1,5 +1,5 @@
 #!/usr/bin/env python3
-"""Large lawful logs for `log_check`, in seven shapes.
+"""Large lawful logs for `log_check`, in eight shapes.
 
     python3 bench/logs.py chain N       N puts of rising keys, so that pair rows hang one below the other
     python3 bench/logs.py root N        the same, and a rebuild at the anchor: all rows are marked, passed and finished, and its Root
@@ -10,6 +10,8 @@
                                         with as many numbers of keys; and N callers that each begin a build
     python3 bench/logs.py losses N      N rebuilds of two pairs at the anchor, one behind the other, and one of 256 pairs with a shared
                                         root; and 10 N callers that each give up such a root, as theirs comes too late
+    python3 bench/logs.py parts N       a rebuild of a new table of N pairs at the anchor: its rows are marked, passed and finished, its shared
+                                        root is put in place, and then each part
 """
 import math
 import sys
@@ -146,6 +148,66 @@ def losses(log, number):
         log.say(f"Lose {caller} {log.reserve(caller, 35)}")
 
 
+def lens(keys):
+    """How many keys each part of so many has."""
+    degree = max(2, math.isqrt(keys))
+    return [keys // degree + (part < keys % degree) for part in range(degree)]
+
+
+def laid(base, keys, rows):
+    """The word of the ideal tree over so many keys at a base, and where it ends. Adds each of its rows: base, words in slots, keys."""
+    if keys == 1:
+        return base * 8 + 1, base + 2
+    words, parts = [], lens(keys)
+    rows.append((base, words, keys))
+    end = base + 2 * len(parts) + 3
+    for part in parts:
+        word, end = laid(end, part, rows)
+        words.append(word)
+    return base * 8 + 2, end
+
+
+def built(log, leaves, first, rows):
+    """The word of the ideal tree over leaves whose keys rise from the first one on, in reserved rows, which are added as text."""
+    if len(leaves) == 1:
+        return leaves[0]
+    parts, at = lens(len(leaves)), len(rows)
+    base = log.reserve(0, 2 * len(parts) + 3)
+    rows.append(None)
+    keys, words, begin = [], [], 0
+    for part in parts:
+        keys.append(first + begin)
+        words.append(built(log, leaves[begin : begin + part], first + begin, rows))
+        begin += part
+    rows[at] = f"{base}={','.join(map(str, [0, 0, len(parts), len(leaves), *keys[1:], *words]))}"
+    return base * 8 + 2
+
+
+def parts(number):
+    rows = []
+    _, end = laid(4, number, rows)
+    log = Log([f"{key}:{key}" for key in range(1, number + 1)], end)
+    log.say("Enter 0")
+    row = start(log, 4, 2, 0)
+    for base, words, _ in rows:
+        log.say(f"Mark 0 {base}")
+        for i, word in enumerate(words):
+            log.say(f"Pass 0 {base} {i} {word}")
+    for base, _, keys in reversed(rows):
+        log.say(f"Finish 0 {base} {keys}")
+    # a leaf lies behind those with lower keys
+    leaves = sorted(word for _, words, _ in rows for word in words if word % 8 == 1)
+    ends = [sum(lens(number)[:part]) for part in range(len(lens(number)) + 1)]
+    root = log.reserve(0, 2 * len(ends) + 1)
+    words = [0, 0, len(ends) - 1, number, *(end + 1 for end in ends[1:-1]), *[7] * (len(ends) - 1)]
+    log.say(f"Root 0 {row} {root * 8 + 2} {root}={','.join(map(str, words))}")
+    for part, (begin, end) in enumerate(zip(ends, ends[1:])):
+        texts = []
+        word = built(log, leaves[begin:end], begin + 1, texts)
+        log.say(f"Place 0 {row} {part} {word} {';'.join(texts)}")
+    return log
+
+
 def sizes(log, number):
     """Each row that was counted eight times is due. Its rebuild stands in the slot of the row above it."""
     rows = chain(log, number, 8)
@@ -170,6 +232,8 @@ def main():
         log = Log(("1:1", "2:2"), 15)
     if shape == "callers":
         callers(log, number)
+    elif shape == "parts":
+        log = parts(number)
     else:
         log.say("Enter 0")
         if shape == "crowd":

@@ -1,8 +1,8 @@
 #!/bin/bash
-# Tests of log_check on small logs, lawful, unlawful and out of form (log_cases.py), and on logs of a million events with a stack of
-# 256 KB: a chain of pair rows, also with an event too many, a rebuild of all of it up to its Root, puts of one caller beside
-# many that each hold a row, such callers alone, many rebuilds, of one size and of many, and builds that come too late. Each may take
-# 60 seconds. The last line is 'N passed, M failed'.
+# Tests of log_check on small logs, lawful, unlawful and out of form (log_cases.py), and on logs of a million events with a
+# stack of 256 KB: a chain of pair rows, also with an event too many, a rebuild of all of it up to its Root, puts of one caller
+# beside many that each hold a row, such callers alone, many rebuilds, of one size and of many, builds that come too late, and
+# the rebuild of a table with all parts of its root. Each may take 60 seconds. The last line is 'N passed, M failed'.
 set -u
 here=$(cd -P -- "$(dirname -- "$0")/.." && pwd)
 program=$here/crates/log_check/out/log_check
@@ -60,5 +60,8 @@ make_log losses 21000
 check "ok next 7984636 callers 210001 anchor 5076700"
 echo "Lose 0 $(seq -s, 4 300003)" >>"$all/log"
 check "unlawful 989807: Lose, line 989809, as this is false: the rows are a pair row that may be too low, or a build that comes too late"
+# The tree of the pairs, its rebuild of 14 words, the shared root of 947, and the rows of its parts.
+make_log parts 223000
+check "ok next 3275384 callers 1 anchor 14885500"
 echo "$passed passed, $failed failed"
 [ "$failed" = 0 ]

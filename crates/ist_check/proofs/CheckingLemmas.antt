@@ -141,6 +141,7 @@ slots_apart past slots ways pairs words log it =
       targets = it.targets;
       lists = it.lists;
       builds = it.builds;
+      leaves = it.leaves;
     }
 
 module _ (replica : Replica) (past : Past) (pairs : List Pair) (words : ℕ) (log : Log)

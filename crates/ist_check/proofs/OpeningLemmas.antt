@@ -135,3 +135,6 @@ module _ (pairs : List Pair) (words : ℕ) where
       longer : (a : List Event) (e : Event) (b : List Event) → [] ≡ a ++ e ∷ b → ⊥
       longer [] e b is = cc
       longer (x ∷ a) e b is = cc
+
+pub none_kept : (node : ℕ) → None ≡ Some node → ⊥
+none_kept node e = cc

@@ -9,7 +9,7 @@ use Rattle.ist_core.specs.Lawful.{Lawful, state_of}
 use Rattle.ist_check_events.specs.declared.pasts.Past.{Past}
 use Rattle.ist_check_events.specs.declared.replicas.Replica.{Replica}
 use Rattle.ist_check_events.specs.Mirroring.{Mirrors}
-use Rattle.ist_check_events.specs.Remembering.{KnowsOkays, KnowsCalls, KnowsDraws, KnowsPasses, KnowsUpdates, KnowsSlots, KnowsWays, KnowsRefusals, KnowsStarts, KnowsTargets, KnowsLists, KnowsBuilds}
+use Rattle.ist_check_events.specs.Remembering.{KnowsOkays, KnowsCalls, KnowsDraws, KnowsPasses, KnowsUpdates, KnowsSlots, KnowsWays, KnowsRefusals, KnowsStarts, KnowsTargets, KnowsLists, KnowsBuilds, KnowsLeaves}
 
 -- each table but those of the slots and the ways holds what it should of the log
 pub record Remembers (past : Past) (pairs : List Pair) (words : ℕ) (log : Log) : Type 0 where
@@ -23,6 +23,7 @@ pub record Remembers (past : Past) (pairs : List Pair) (words : ℕ) (log : Log)
   pub targets : KnowsTargets past.targets (state_of pairs words log)
   pub lists : KnowsLists past.counts (map (λ v. v.items) past.lists.items) (state_of pairs words log)
   pub builds : KnowsBuilds past.builds log
+  pub leaves : KnowsLeaves past.leaves (state_of pairs words log)
 
 -- the log is lawful, the replica mirrors the state behind it, and the tables hold what they should
 pub record Knows (replica : Replica) (past : Past) (pairs : List Pair) (words : ℕ) (log : Log) : Type 0 where

@@ -101,6 +101,7 @@ fn may_build(
         } => can_place(
             alloc,
             replica,
+            past,
             *caller,
             *rebuild,
             *part,

@@ -103,6 +103,7 @@ fn build_fails(
         } => place_fails(
             alloc,
             replica,
+            past,
             *caller,
             *rebuild,
             *part,

@@ -8,11 +8,11 @@ ghost use Rattle.ist_check_events.specs.Mirroring.{Mirrors};
 ghost use Rattle.ist_check_events.specs.Remembering.{KnowsSlots, KnowsWays};
 ghost use Rattle.ist_check.specs.Knowing.{Remembers};
 
-use ist_check_events::{BuildTable, Past, Replica};
+use ist_check_events::{BuildTable, Past, Replica, no_leaves};
 use ist_check_state::{
-    remember_build, remember_call, remember_draw, remember_lists, remember_okay, remember_pass,
-    remember_refusal, remember_start, remember_target, remember_update, slots_of_start,
-    ways_of_start,
+    remember_build, remember_call, remember_draw, remember_leaves, remember_lists, remember_okay,
+    remember_pass, remember_refusal, remember_start, remember_target, remember_update,
+    slots_of_start, ways_of_start,
 };
 use ist_core::Event;
 use std::alloc::{AllocError, Global};
@@ -48,6 +48,7 @@ pub(crate) fn open_past(alloc: Global, replica: &Replica) -> Result<Past, AllocE
         targets: BTreeSet::new(alloc),
         counts: BTreeSet::new(alloc),
         lists: Vec::new(alloc),
+        leaves: no_leaves(alloc),
     })
 }
 
@@ -85,5 +86,6 @@ pub(crate) fn remember(
         event,
     )?;
     remember_target(replica, &mut past.targets, event)?;
+    remember_leaves(alloc, replica, &mut past.leaves, event)?;
     remember_build(alloc, &mut past.builds, event)
 }

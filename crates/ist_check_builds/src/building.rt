@@ -5,15 +5,16 @@ ghost use Rattle.ist_core.specs.Elements.{Among, Distinct};
 ghost use Rattle.ist_core.specs.Snapshots.{Snapshot, bases_of, HoldsRows};
 ghost use Rattle.ist_core.specs.Building.{CanRoot, CanPlace};
 ghost use Rattle.ist_check_events.specs.Mirroring.{Mirrors, RowHolds};
-ghost use Rattle.ist_check_events.specs.Remembering.{KnowsStarts};
+ghost use Rattle.ist_check_events.specs.Remembering.{KnowsStarts, KnowsLeaves};
 ghost use Rattle.ist_check_builds.specs.Standing.{HeldAreFree};
 ghost use Rattle.ist_check_builds.specs.Publishing.{MayPublish, HasRootOf, HasPart, IsPartOf};
 
 use crate::ideals::nth_part;
-use crate::leaves::{FoundLeaf, add_leaves};
+use crate::leaves::add_leaves;
 use crate::roots::{is_ideal, is_root};
 use ist_check_events::{
-    Past, Replica, degree_of, finished_keys, holds_at, holds_rows, inner_of_word,
+    FoundLeaf, Past, Replica, are_kept, degree_of, finished_keys, holds_at, holds_rows,
+    inner_of_word,
 };
 use ist_core::Row;
 use std::alloc::{AllocError, Global};
@@ -122,6 +123,7 @@ fn has_root(
 pub fn can_place(
     alloc: Global,
     replica: &Replica,
+    past: &Past,
     caller: u64,
     rebuild: u64,
     i: u64,
@@ -129,7 +131,7 @@ pub fn can_place(
     rows: &[Row],
 ) -> Result<bool, AllocError>
     ensures exact { IfOk result (λ may. (t : Snapshot) → Mirrors replica.now t
-        → HeldAreFree t
+        → HeldAreFree t → KnowsLeaves past.now.leaves t
         → (IsTrue may ↔ CanPlace t caller rebuild i word rows.now)) }
 {
     if caller >= replica.callers {
@@ -146,7 +148,7 @@ pub fn can_place(
                 if !is_free(replica, root, i) {
                     return Ok(false);
                 }
-                has_part(alloc, replica, word, i, row.target, root, rows)
+                has_part(alloc, replica, past, word, i, row.target, root, rows)
             }
         },
     }
@@ -168,6 +170,7 @@ fn is_free(replica: &Replica, base: u64, i: u64) -> bool
 fn has_part(
     alloc: Global,
     replica: &Replica,
+    past: &Past,
     word: u64,
     i: u64,
     target: u64,
@@ -175,8 +178,13 @@ fn has_part(
     rows: &[Row],
 ) -> Result<bool, AllocError>
     ensures exact { IfOk result (λ may. (t : Snapshot) → Mirrors replica.now t
+        → KnowsLeaves past.now.leaves t
         → (IsTrue may ↔ HasPart t word i target above rows.now)) }
 {
+    let kept = &past.leaves;
+    if are_kept(kept, target) {
+        return Ok(is_part(word, i, kept.leaves.as_slice(), above, rows));
+    }
     let mut leaves = Vec::new(alloc);
     if !add_leaves(alloc, replica, target, &mut leaves)? {
         return Ok(false);

@@ -9,48 +9,8 @@ ghost use Rattle.ist_check_events.specs.Mirroring.{Mirrors};
 ghost use Rattle.ist_check_builds.specs.Reading.{Gathers, GathersOn, PutsSlots};
 
 use crate::readings::{Reading, read_slot};
-use ist_check_events::Replica;
-use ist_core::LeafRow;
+use ist_check_events::{FoundLeaf, Replica};
 use std::alloc::{AllocError, Global};
-use std::marker::Model;
-
-/// A leaf and its base. Contracts see it as the definitions do.
-#[derive(Drop)]
-pub struct FoundLeaf {
-    base: u64,
-    row: LeafRow,
-}
-
-impl Model for FoundLeaf {
-    ghost use Rattle.ist_core.specs.Leaves.{PlacedLeaf};
-
-    ghost Value = { PlacedLeaf };
-
-    ghost view = { λ f. record { base = f.base; row = f.row } };
-}
-
-impl FoundLeaf {
-    /// The leaf at the base.
-    fn new(base: u64, row: LeafRow) -> FoundLeaf
-        ensures value { result ≡ record { base = base; row = row } }
-    {
-        FoundLeaf { base, row }
-    }
-
-    /// Where the leaf lies.
-    pub fn base(&self) -> u64
-        ensures value { result ≡ self.now.base }
-    {
-        self.base
-    }
-
-    /// Its key.
-    pub fn key(&self) -> u64
-        ensures value { result ≡ self.now.row.key }
-    {
-        self.row.key
-    }
-}
 
 /// Adds the leaves below the inner row, if it has any list of them.
 ///

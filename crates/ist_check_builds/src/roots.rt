@@ -4,8 +4,7 @@ ghost use Rattle.ist_core.specs.References.{unset_word};
 ghost use Rattle.ist_check_builds.specs.Built.{BuildsAt, IsTopAlone, IsRootOf};
 
 use crate::ideals::{built, top_slots};
-use crate::leaves::FoundLeaf;
-use ist_check_events::{degree_of, inner_of_word};
+use ist_check_events::{FoundLeaf, degree_of, inner_of_word};
 use ist_core::Row;
 use ist_math::SHARE_FROM;
 

@@ -13,10 +13,13 @@ use Rattle.ist_core.specs.Statuses.{decided_no}
 use Rattle.ist_core.specs.Pieces.{Change}
 use Rattle.ist_core.specs.Logs.{Log, Ever, Happened, Okays, Passes, Draws, Counts}
 use Rattle.ist_core.specs.Links.{IsChild, Linked, WasLinked, WasLedTo, WasOnChain}
+use Rattle.ist_core.specs.References.{InnerAt}
+use Rattle.ist_core.specs.Leaves.{PlacedLeaf, HasLeaves}
 use Rattle.ist_core.specs.Rebuilding.{IsStarted, IsFinishedWith}
 use Rattle.ist_core.specs.Deciding.{IsUpdateOf, SaysYes}
 use Rattle.ist_core.specs.Building.{IsBeaten}
 use Rattle.ist_core.specs.Marking.{HasTarget, IsCalled}
+use Rattle.ist_check_events.specs.declared.leaves.KeptLeaves.{KeptLeaves}
 use Rattle.ist_check_events.specs.declared.pasts.BuildTable.{BuildTable}
 use Rattle.ist_check_events.specs.declared.pasts.LastUpdate.{LastUpdate}
 use Rattle.ist_check_events.specs.declared.pasts.Slot.{Slot}
@@ -173,3 +176,15 @@ pub record KnowsBuilds (builds : BuildTable) (log : Log) : Type 0 where
       ↔ IsBeaten caller sizes log
   pub came : (sizes : List ℕ) (at : ℕ) → last_with builds sizes ≡ Some at → at ≤ builds.count
   pub seen : (caller : ℕ) → seen_builds (tree.get nat_cmp builds.since caller) ≤ builds.count
+
+-- ---- leaves
+
+-- the row is finished, and these are the leaves below it
+pub record HasFinishedLeaves (t : Snapshot) (node : ℕ) (leaves : List PlacedLeaf) : Type 0 where
+  pub keys : ℕ
+  pub finished : IsFinishedWith t node keys
+  pub reached : HasLeaves t.pieces (Some (InnerAt node)) leaves
+
+-- the leaves that are kept are those of a finished row
+abbrev pub KnowsLeaves : KeptLeaves → Snapshot → Type 0
+KnowsLeaves kept t = (node : ℕ) → kept.of ≡ Some node → HasFinishedLeaves t node kept.leaves.items

@@ -2,6 +2,7 @@
 ghost use Rattle.std.specs.Prelude.{◌≡◌};
 ghost use Rattle.ist_check_events.specs.Remembering as remembering;
 
+use crate::leaves::KeptLeaves;
 use std::collections::{BTreeMap, BTreeSet};
 
 /// A put or remove that was decided yes, and the nodes at which it was counted since.
@@ -70,6 +71,8 @@ pub struct Past {
     pub counts: BTreeSet<u64>,
     /// The building lists for these numbers of keys, each once.
     pub lists: Vec<Vec<u64>>,
+    /// The leaves of the target of the last rebuild of which a part was placed.
+    pub leaves: KeptLeaves,
 }
 
 /// Two words as one key of a table.

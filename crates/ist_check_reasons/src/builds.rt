@@ -3,7 +3,7 @@ ghost use Rattle.std.specs.Prelude.{IfOk, map};
 ghost use Rattle.ist_core.specs.Snapshots.{Snapshot};
 ghost use Rattle.ist_core.specs.Logs.{Log};
 ghost use Rattle.ist_check_events.specs.Mirroring.{Mirrors};
-ghost use Rattle.ist_check_events.specs.Remembering.{KnowsStarts, KnowsLists, KnowsDraws, KnowsBuilds};
+ghost use Rattle.ist_check_events.specs.Remembering.{KnowsStarts, KnowsLists, KnowsDraws, KnowsBuilds, KnowsLeaves};
 ghost use Rattle.ist_check_builds.specs.Standing.{HeldAreFree};
 ghost use Rattle.ist_check_reasons.specs.Failing.{Tells};
 ghost use Rattle.ist_check_reasons.specs.Conditions.{root_says, draw_says, place_says, lose_says};
@@ -74,6 +74,7 @@ pub fn draw_fails(
 pub fn place_fails(
     alloc: Global,
     replica: &Replica,
+    past: &Past,
     caller: u64,
     rebuild: u64,
     i: u64,
@@ -81,9 +82,10 @@ pub fn place_fails(
     rows: &[Row],
 ) -> Result<Option<Condition>, AllocError>
     ensures exact { IfOk result (λ fails. (t : Snapshot) → Mirrors replica.now t
-        → HeldAreFree t → Tells (place_says t caller rebuild i word rows.now) fails) }
+        → HeldAreFree t → KnowsLeaves past.now.leaves t
+        → Tells (place_says t caller rebuild i word rows.now) fails) }
 {
-    let may = can_place(alloc, replica, caller, rebuild, i, word, rows)?;
+    let may = can_place(alloc, replica, past, caller, rebuild, i, word, rows)?;
     Ok(first_failing(&[
         test_of(Condition::Known, is_known(replica, caller)),
         test_of(Condition::Published, has_rebuild(replica, rebuild)),

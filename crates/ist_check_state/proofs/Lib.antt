@@ -29,4 +29,5 @@ pub mod StayingLemmas
 pub mod WayTableLemmas
 pub mod WayToRowLemmas
 pub mod WaitingLemmas
+pub mod KeptLeavesLemmas
 mod LargeTableLemmas

@@ -33,6 +33,6 @@ returns-in-Place c =
           (ap (Place i.caller i.rebuild i.part i.word) c.as_slice-in-Place.ensures.value
           ∙ sym i.is)
           (exact (state_of pairs words log) knows.mirrors
-          (held_are_free pairs words log knows.lawful)))
+          (held_are_free pairs words log knows.lawful) knows.remembers.leaves))
           c.place_fails.ensures.exact;
     }

@@ -1,4 +1,4 @@
-use Rattle.std.proofs.Common.{map, sym, subst}
+use Rattle.std.proofs.Common.{◌∙◌, map, sym, subst}
 use Rattle.ist_core.specs.StartLayout.{start}
 use Rattle.ist_check_events.specs.Remembering.{KnowsLists}
 use Rattle.ist_check.proofs.OpeningLemmas as opening
@@ -18,4 +18,5 @@ returns-clause-exact c pairs words opens mirrors =
       lists = subst (λ items. KnowsLists c.new-11.result (map (λ v. v.items) items) (start pairs words))
           (sym c.new-12.ensures.items) (opening.no_lists pairs words c.new-11.result c.new-11.ensures.empty);
       builds = opening.no_builds _ c.new-8.ensures.empty c.new-9.ensures.empty;
+      leaves = λ node e. absurd (opening.none_kept node (sym c.no_leaves.ensures.none ∙ e));
     }

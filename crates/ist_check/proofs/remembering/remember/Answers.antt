@@ -20,6 +20,7 @@ returns-clause-exact c =
       targets = c.in_ok-remember_target.ensures.exact pairs words log law mirrors past.targets;
       lists = c.in_ok-remember_lists.ensures.exact pairs words log law mirrors past.targets past.lists;
       builds = builds log past.builds;
+      leaves = c.in_ok-remember_leaves.ensures.exact pairs words log law mirrors past.leaves;
     })
     c.remember_build.ensures.exact
 

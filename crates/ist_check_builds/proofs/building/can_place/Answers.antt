@@ -10,7 +10,7 @@ use Rattle.ist_check_builds.proofs.building.can_place.Goals as goal
 pub returns-then-not-may_publish : goal.returns-then-not-may_publish
 returns-then-not-may_publish c =
     record {
-      exact = λ t h free.
+      exact = λ t h free kept.
           never (λ can. is_not c.may_publish.result _ (c.may_publish.ensures.exact t h)
           c.if-not-may_publish.true (place_publishes t c.args.caller c.args.rebuild c.args.i
           c.args.word c.args.rows.now can));
@@ -19,7 +19,7 @@ returns-then-not-may_publish c =
 pub returns-then-not-is_free : goal.returns-then-not-is_free
 returns-then-not-is_free c =
     record {
-      exact = λ t h free.
+      exact = λ t h free kept.
           let stands = rebuild_stands c.args.replica.now t c.args.rebuild h c.in-Some.row.now
           (sym c.in-Some.ensures.value) in
           never (λ can.
@@ -34,12 +34,12 @@ pub returns-else-not-is_free : goal.returns-else-not-is_free
 returns-else-not-is_free c =
     record {
       exact = if_ok c.has_part.result _ _
-          (λ may f t h free.
+          (λ may f t h free kept.
           let stands = rebuild_stands c.args.replica.now t c.args.rebuild h c.in-Some.row.now
           (sym c.in-Some.ensures.value) in
           let publish = (c.may_publish.ensures.exact t h).0 c.if-not-may_publish.false in
           let holds = (c.is_free.ensures.exact t h).0 c.if-not-is_free.false in
-          iff_trans (f t h)
+          iff_trans (f t h kept)
           (part_fits t c.args.caller c.args.rows.now publish free c.args.rebuild c.args.i
           c.args.word c.in-Some-inner_of_word.root c.in-Some.row.now
           (known_caller c.args.replica.now t c.args.caller h c.if-caller-replica.false) stands

@@ -6,7 +6,7 @@ use Rattle.ist_check_reasons.proofs.builds.place_fails.Goals as goal
 pub returns : goal.returns
 returns c =
     record {
-      exact = λ t h free. tells
+      exact = λ t h free kept. tells
           (c.test_of.result ∷ c.test_of-2.result ∷ c.test_of-3.result ∷ c.test_of-4.result ∷ c.test_of-5.result ∷ c.test_of-6.result ∷ [])
           (place_says t c.args.caller c.args.rebuild c.args.i c.args.word c.args.rows.now) c.first_failing.result (
             named c.test_of.ensures.value,
@@ -25,7 +25,7 @@ returns c =
                     holding c.test_of-5.ensures.value (c.holds_rows.ensures.exact t h),
                     (
                       named c.test_of-6.ensures.value,
-                      holding c.test_of-6.ensures.value (c.in_ok-may.ensures.exact t h free),
+                      holding c.test_of-6.ensures.value (c.in_ok-may.ensures.exact t h free kept),
                       tt,
                     ),
                   ),
