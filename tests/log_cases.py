@@ -11,7 +11,6 @@ of one rebuild (two_roots); and a rebuild of a lower row that has its root when 
 behind which its finish is decided no and the rebuild above goes on over it (finish_refused). The last line of what this says is
 'N passed, M failed'.
 """
-import math
 import subprocess
 import sys
 
@@ -155,20 +154,10 @@ def drawn(parts):
     return text + "".join(f"Draw 0 2071 {part}\n" for part in range(parts))
 
 
-def ideal_words(keys):
-    """How many words the rows and leaves of an ideal tree have: a row has as many slots as the root of its keys says, two at least."""
-    if keys < 2:
-        return 2 * keys
-    degree = max(2, math.isqrt(keys))
-    share, longer = divmod(keys, degree)
-    shorter = (degree - longer) * ideal_words(share)
-    return 2 * degree + 3 + shorter + (longer * ideal_words(share + 1) if longer else 0)
-
-
 def large_tables():
     """Tables of many pairs, in just so many words as they need and in one too few."""
     for keys in (255, 256, 20_000):
-        words = 4 + ideal_words(keys)
+        words = logs.laid(4, keys, [])[1]
         pairs = "".join(f" {key}:{key}" for key in range(keys))
         yield f"start {words}{pairs}\n", f"ok next {words} callers 0 anchor 34"
         yield f"start {words - 1}{pairs}\n", f"! form 1: {TABLE}"
@@ -259,9 +248,25 @@ def other_rows():
         yield log, why
 
 
+def placed_parts():
+    """Behind all parts of a shared root but the last: that part as it is, in a slot that is set, as a leaf of another part, without its
+    last row, and with another leaf; and why it may not be placed."""
+    for change, why in [
+        (lambda part, word, rows: (part, word, rows), None),
+        (lambda part, word, rows: (part - 1, word, rows), "the root's slot isn't built yet"),
+        (lambda part, word, rows: (part, 513, "-"), IDEAL),
+        (lambda part, word, rows: (part, word, rows.rpartition(";")[0]), IDEAL),
+        (lambda part, word, rows: (part, word, rows.rpartition(",")[0] + ",513"), IDEAL),
+    ]:
+        log = logs.parts(256)
+        *words, part, word, rows = log.lines.pop().split()
+        log.say(" ".join(map(str, [*words, *change(int(part), word, rows)])))
+        yield log, why
+
+
 def last_events():
     """Logs whose last event may come, or not and why."""
-    for log, why in [*spare_rows(), *cut_off_rows(), *late_rows(), *other_rows()]:
+    for log, why in [*spare_rows(), *cut_off_rows(), *late_rows(), *other_rows(), *placed_parts()]:
         kinds = [line.split()[0] for line in log.lines]
         anchor = [line.split()[3].split(",")[5] for line in log.lines if line.startswith("Install") and ",2,0," in line][-1:]
         at = len(kinds) - 2
