@@ -1,5 +1,5 @@
 #!/usr/bin/env python3
-"""Large lawful logs for `log_check`, in eight shapes.
+"""Large lawful logs for `log_check`, in eleven shapes.
 
     python3 bench/logs.py chain N       N puts of rising keys, so that pair rows hang one below the other
     python3 bench/logs.py root N        the same, and a rebuild at the anchor: all rows are marked, passed and finished, and its Root
@@ -12,6 +12,11 @@
                                         root; and 10 N callers that each give up such a root, as theirs comes too late
     python3 bench/logs.py parts N       a rebuild of a new table of N pairs at the anchor: its rows are marked, passed and finished, its shared
                                         root is put in place, and then each part
+    python3 bench/logs.py turns N       N puts, rebuilds of the first 25 pair rows, one below the other, with their shared roots, and the parts
+                                        of all by turns
+    python3 bench/logs.py below N       N - 2 puts, each below the one before it, below the last leaf of a table of two pairs
+    python3 bench/logs.py holders N     N callers that each hold all rows of a build of 255 keys, and then 300 times reserve a pair row and
+                                        give it up, once a put has made a row with a higher base
 """
 import math
 import sys
@@ -48,16 +53,18 @@ class Log:
         return row, to, word
 
 
-def chain(log, puts, counted=0):
-    """Answers the pair rows from the top on, each with its base and the words in its slots. Each put is counted at the last rows."""
+def chain(log, puts, counted=0, until=None):
+    """Answers the pair rows from the top on, each with its base and the words in its slots. Each put is counted at the last rows; those
+    behind so many puts are not counted."""
     _, _, leaf = log.put(2, 0, 0, 1, False)
     node, index, rows = 2, 0, []
     for key in range(2, puts + 1):
         row, to, word = log.put(node, index, leaf, key, True)
         if rows:
             rows[-1][2] = to
-        for above, _, _ in rows[len(rows) - min(counted, len(rows)):]:
-            log.say(f"Count 0 {above}")
+        if until is None or key <= until:
+            for above, _, _ in rows[len(rows) - min(counted, len(rows)):]:
+                log.say(f"Count 0 {above}")
         rows.append([row, leaf, word])
         node, index, leaf = row, 1, word
     return rows
@@ -84,12 +91,8 @@ def rebuild(log, rows):
     keys = len(rows) + 1
     row = start(log, rows[0][0], 2, 0)
     freeze(log, rows)
-    degree = max(2, math.isqrt(keys))
     if keys >= 256:
-        root = log.reserve(0, 2 * degree + 3)
-        first = [1 + part * (keys // degree) + min(part, keys % degree) for part in range(1, degree)]
-        words = [0, 0, degree, keys, *first, *[7] * degree]
-        log.say(f"Root 0 {row} {root * 8 + 2} {root}={','.join(map(str, words))}")
+        root(log, row, keys, 1)
 
 
 def callers(log, number, first=0):
@@ -183,6 +186,74 @@ def built(log, leaves, first, rows):
     return base * 8 + 2
 
 
+def root(log, row, keys, first):
+    """Puts the shared root of a rebuild over so many keys from the first one on in place, and answers the bounds of its parts."""
+    ends = [sum(lens(keys)[:part]) for part in range(len(lens(keys)) + 1)]
+    base = log.reserve(0, 2 * len(ends) + 1)
+    words = [0, 0, len(ends) - 1, keys, *(first + end for end in ends[1:-1]), *[7] * (len(ends) - 1)]
+    log.say(f"Root 0 {row} {base * 8 + 2} {base}={','.join(map(str, words))}")
+    return ends
+
+
+def place(log, row, part, leaves, ends, first):
+    texts = []
+    word = built(log, leaves[ends[part] : ends[part + 1]], first + ends[part], texts)
+    log.say(f"Place 0 {row} {part} {word} {';'.join(texts)}")
+
+
+def started(log, rows, node, index, number):
+    """Starts the rebuilds of the first rows of a chain, each in the slot of the row above it, and answers their bases."""
+    all = []
+    for above, row in zip([None, *rows], rows[:number]):
+        all.append(start(log, row[0], node, index))
+        if above:
+            above[2] = all[-1] * 8 + 4
+        node, index = row[0], 1
+    return all
+
+
+def shape(keys):
+    """The sizes of the rows of the ideal tree over so many keys."""
+    return [2 * len(lens(keys)) + 3] + [size for part in lens(keys) for size in shape(part)] if keys > 1 else []
+
+
+def holders(log, number, rounds=300):
+    rows = chain(log, 255)
+    row = start(log, rows[0][0], 2, 0)
+    freeze(log, rows)
+    for caller in range(1, number + 1):
+        log.say(f"Enter {caller}")
+        for size in shape(255):
+            log.reserve(caller, size)
+    texts, stood = [], rows[-1][2]
+    word = built(log, [row[1] for row in rows] + [stood], 1, texts)
+    log.say(f"Root 0 {row} {word} {';'.join(texts)}")
+    change = log.reserve(0, 9)
+    log.say(f"Install 0 {change} {change}=0,4,2,0,{row * 8 + 4},{word},0,0,0")
+    log.decide(change)
+    # the last of the rows has the leaf of the last key
+    node = int(texts[-1].partition("=")[0])
+    index = int(texts[-1].split(",")[2]) - 1
+    for key in range(256, 256 + rounds):
+        pairs = [log.reserve(caller, 7) for caller in range(1, number + 1)]
+        node, _, stood = log.put(node, index, stood, key, True)
+        index = 1
+        for caller, pair in enumerate(pairs):
+            log.say(f"Lose {caller + 1} {pair}")
+
+
+def turns(log, number):
+    rows = chain(log, number, 8, 40)
+    leaves = [row[1] for row in rows] + [rows[-1][2]]
+    all = [(at, row, leaves[at:]) for at, row in enumerate(started(log, rows, 2, 0, 25))]
+    freeze(log, rows)
+    ends = [root(log, row, len(below), at + 1) for at, row, below in all]
+    for part in range(max(map(len, ends)) - 1):
+        for (at, row, below), bounds in zip(all, ends):
+            if part + 1 < len(bounds):
+                place(log, row, part, below, bounds, at + 1)
+
+
 def parts(number):
     rows = []
     _, end = laid(4, number, rows)
@@ -197,26 +268,16 @@ def parts(number):
         log.say(f"Finish 0 {base} {keys}")
     # a leaf lies behind those with lower keys
     leaves = sorted(word for _, words, _ in rows for word in words if word % 8 == 1)
-    ends = [sum(lens(number)[:part]) for part in range(len(lens(number)) + 1)]
-    root = log.reserve(0, 2 * len(ends) + 1)
-    words = [0, 0, len(ends) - 1, number, *(end + 1 for end in ends[1:-1]), *[7] * (len(ends) - 1)]
-    log.say(f"Root 0 {row} {root * 8 + 2} {root}={','.join(map(str, words))}")
-    for part, (begin, end) in enumerate(zip(ends, ends[1:])):
-        texts = []
-        word = built(log, leaves[begin:end], begin + 1, texts)
-        log.say(f"Place 0 {row} {part} {word} {';'.join(texts)}")
+    ends = root(log, row, number, 1)
+    for part in range(len(ends) - 1):
+        place(log, row, part, leaves, ends, 1)
     return log
 
 
 def sizes(log, number):
     """Each row that was counted eight times is due. Its rebuild stands in the slot of the row above it."""
     rows = chain(log, number, 8)
-    node, index = 2, 0
-    for above, row in zip([None, *rows], rows[:-8]):
-        word = start(log, row[0], node, index) * 8 + 4
-        if above:
-            above[2] = word
-        node, index = row[0], 1
+    started(log, rows, 2, 0, len(rows) - 8)
     freeze(log, rows)
     for caller in range(1, number + 1):
         log.say(f"Enter {caller}")
@@ -225,28 +286,34 @@ def sizes(log, number):
 
 
 def main():
-    shape, number, log = sys.argv[1], int(sys.argv[2]), Log()
-    if shape == "rebuilds":
+    kind, number, log = sys.argv[1], int(sys.argv[2]), Log()
+    if kind == "rebuilds":
         log = Log(("1:1", "2:2", "3:3", "4:4"), 33)
-    if shape == "losses":
+    if kind in ("losses", "below"):
         log = Log(("1:1", "2:2"), 15)
-    if shape == "callers":
+    if kind == "callers":
         callers(log, number)
-    elif shape == "parts":
+    elif kind == "parts":
         log = parts(number)
     else:
         log.say("Enter 0")
-        if shape == "crowd":
+        if kind == "crowd":
             callers(log, number, 1)
-        if shape == "rebuilds":
+        if kind == "rebuilds":
             rebuilds(log, number)
-        elif shape == "losses":
+        elif kind == "losses":
             losses(log, number)
-        elif shape == "sizes":
+        elif kind == "sizes":
             sizes(log, number)
+        elif kind == "below":
+            grown(log, 0, number)
+        elif kind == "turns":
+            turns(log, number)
+        elif kind == "holders":
+            holders(log, number)
         else:
             rows = chain(log, number)
-        if shape == "root":
+        if kind == "root":
             rebuild(log, rows)
     print("\n".join(log.lines))
 

@@ -216,6 +216,18 @@ def cut_off_rows():
         yield log, None if room < 9 else FAIR
 
 
+def held_builds():
+    """What a caller reserves that holds the whole build of 255 keys, and has given a pair row up twice, and why the last may not be
+    reserved: one row of each kind may."""
+    for sizes, why in [([7], None), ([9, 7, 2, 5], None), ([7, 7], FAIR), ([11], FAIR), ([9, 35], FAIR)]:
+        log = logs.Log()
+        log.say("Enter 0")
+        logs.holders(log, 1, 2)
+        for size in sizes:
+            log.reserve(1, size)
+        yield log, why
+
+
 def late_rows():
     """How many rows of 7 words another caller holds when four keys are rebuilt, whose build has three of them; which it gives up, and
     why it may not. It may once, and no part."""
@@ -266,7 +278,7 @@ def placed_parts():
 
 def last_events():
     """Logs whose last event may come, or not and why."""
-    for log, why in [*spare_rows(), *cut_off_rows(), *late_rows(), *other_rows(), *placed_parts()]:
+    for log, why in [*spare_rows(), *cut_off_rows(), *held_builds(), *late_rows(), *other_rows(), *placed_parts()]:
         kinds = [line.split()[0] for line in log.lines]
         anchor = [line.split()[3].split(",")[5] for line in log.lines if line.startswith("Install") and ",2,0," in line][-1:]
         at = len(kinds) - 2

@@ -1,5 +1,5 @@
 -- The tables of a new table: nothing happened yet. Serves `remembering.rt`.
-use Rattle.std.proofs.Common.{◌≡◌, ◌≤◌, ◌∙◌, ℕ, List, [], ◌∷◌, ◌++◌, Some, None, sym, ap, subst, arith}
+use Rattle.std.proofs.Common.{map, ◌≡◌, ◌≤◌, ◌∙◌, ℕ, List, [], ◌∷◌, ◌++◌, Some, None, sym, ap, subst, arith}
 use Rattle.std.specs.Ordering.{nat_cmp}
 use Rattle.std.specs.BTreeMap as tree
 use Rattle.std.specs.BTreeMap.{BTreeMap, is_at}
@@ -8,37 +8,25 @@ use Rattle.std.specs.Map.{lookup}
 use Rattle.std.specs.BTreeSet.{BTreeSet}
 use Rattle.ist_core.specs.declared.pairs.Pair.{Pair}
 use Rattle.ist_core.specs.declared.events.Event.{Event}
+use Rattle.std.specs.Global.{Vec}
+use Rattle.ist_core.specs.Elements.{Among}
+use Rattle.ist_core.specs.Leaves.{PlacedLeaf}
+use Rattle.ist_core.specs.Snapshots.{Snapshot}
 use Rattle.ist_core.specs.Pieces.{Change}
 use Rattle.ist_core.specs.StartLayout.{start}
 use Rattle.ist_core.specs.Marking.{IsCalled, as_target, as_child, behind_rebuild}
 use Rattle.ist_core.specs.Rebuilding.{IsStarted}
 use Rattle.ist_check_events.specs.declared.pasts.BuildTable.{BuildTable}
 use Rattle.ist_check_events.specs.declared.pasts.LastUpdate.{LastUpdate}
-use Rattle.ist_check_events.specs.Answers.{FindsGreatest}
-use Rattle.ist_check_events.specs.Remembering.{
-  LacksCount,
-  KnowsOkays,
-  KnowsCalls,
-  KnowsDraws,
-  KnowsPasses,
-  KnowsUpdates,
-  KnowsRefusals,
-  KnowsStarts,
-  IsTargeted,
-  KnowsTargets,
-  KnowsLists,
-  KnowsBuilds,
-  CameBehind,
-  last_with,
-  seen_builds,
-}
+use Rattle.ist_check_fairness.specs.declared.lists.BuildingLists.{BuildingLists}
+use Rattle.ist_check_fairness.specs.Answers.{FindsGreatest}
+use Rattle.ist_check_events.specs.Remembering.{LacksCount, KnowsOkays, KnowsCalls, KnowsDraws, KnowsPasses, KnowsUpdates, KnowsRefusals, KnowsStarts, KnowsBuilds, KnowsLeaves, CameBehind, last_with, seen_builds}
+use Rattle.ist_check_fairness.specs.Targets.{IsTargeted, KnowsTargets}
+use Rattle.ist_check_fairness.specs.Knowing.{KnowsLists, HasNone}
+use Rattle.ist_check_fairness.proofs.AnswerLemmas.{finds_none}
+use Rattle.ist_check_fairness.proofs.KeepingLemmas.{none_kept}
 use Rattle.ist_check_state.proofs.TableLemmas.{holds_none}
 use Rattle.ist_links.proofs.QuietLemmas.{start_quiet}
-
--- an empty map has nothing
-pub finds_none : {X : Type 0} (m : BTreeMap ℕ X) (x : ℕ) → m.entries ≡ [] → tree.get nat_cmp m x
-    ≡ None
-finds_none m x empty = ap (lookup (is_at (nat_cmp x))) empty
 
 pub no_okays : (set : BTreeSet ℕ) → set.keys ≡ [] → KnowsOkays set []
 no_okays set empty change = (λ h. holds_none set change empty h, λ h. absurd h)
@@ -99,14 +87,19 @@ module _ (pairs : List Pair) (words : ℕ) where
     λ it. absurd (untargeted node it),
   )
 
-  pub no_lists : (set : BTreeSet ℕ) → set.keys ≡ [] → KnowsLists set [] (start pairs words)
-  no_lists set empty =
+  pub no_lists : (building : BuildingLists) → HasNone building → KnowsLists building (start pairs words)
+  no_lists building none =
       record {
         keys = λ k. (
-          λ h. absurd (holds_none set k empty h),
+          λ h. absurd (holds_none building.counts k none.counts h),
           λ it. absurd (untargeted it.node it.targeted),
         );
-        building = λ l. (λ b. absurd (unstarted b.rebuild b.started), λ a. absurd a);
+        lists = λ l. (
+          λ b. absurd (unstarted b.rebuild b.started),
+          λ a. absurd (subst (λ xs. Among l (map (λ v. v.items) xs)) none.lists a),
+        );
+        shapes = λ n h. absurd (holds_none building.shapes n none.shapes h);
+        kept = none_kept building.kept (map (λ v. v.items) building.lists.items) none.kept;
       }
 
   pub no_refusals : (set : BTreeSet ℕ) → set.keys ≡ [] → KnowsRefusals set (start pairs words)
@@ -136,5 +129,9 @@ module _ (pairs : List Pair) (words : ℕ) where
       longer [] e b is = cc
       longer (x ∷ a) e b is = cc
 
-pub none_kept : (node : ℕ) → None ≡ Some node → ⊥
-none_kept node e = cc
+-- no leaves are kept
+pub no_leaves : (m : BTreeMap ℕ (Vec PlacedLeaf)) → m.entries ≡ [] → (t : Snapshot) → KnowsLeaves m t
+no_leaves m empty t node leaves e = absurd (clash (sym (finds_none m node empty) ∙ e))
+  where
+    clash : None ≡ Some leaves → ⊥
+    clash h = cc

@@ -1,5 +1,5 @@
 -- What the checker knows behind the events so far.
-use Rattle.std.specs.Prelude.{ℕ, List, map}
+use Rattle.std.specs.Prelude.{ℕ, List}
 use Rattle.ist_core.specs.declared.pairs.Pair.{Pair}
 use Rattle.ist_core.specs.declared.events.Event.{Event}
 use Rattle.ist_core.specs.declared.events.Event.TheVariants.{Root, Place}
@@ -9,7 +9,9 @@ use Rattle.ist_core.specs.Lawful.{Lawful, state_of}
 use Rattle.ist_check_events.specs.declared.pasts.Past.{Past}
 use Rattle.ist_check_events.specs.declared.replicas.Replica.{Replica}
 use Rattle.ist_check_events.specs.Mirroring.{Mirrors}
-use Rattle.ist_check_events.specs.Remembering.{KnowsOkays, KnowsCalls, KnowsDraws, KnowsPasses, KnowsUpdates, KnowsSlots, KnowsWays, KnowsRefusals, KnowsStarts, KnowsTargets, KnowsLists, KnowsBuilds, KnowsLeaves}
+use Rattle.ist_check_events.specs.Remembering.{KnowsOkays, KnowsCalls, KnowsDraws, KnowsPasses, KnowsUpdates, KnowsSlots, KnowsWays, KnowsRefusals, KnowsStarts, KnowsBuilds, KnowsLeaves}
+use Rattle.ist_check_fairness.specs.Targets.{KnowsTargets}
+use Rattle.ist_check_fairness.specs.Knowing.{KnowsLists}
 
 -- each table but those of the slots and the ways holds what it should of the log
 pub record Remembers (past : Past) (pairs : List Pair) (words : ℕ) (log : Log) : Type 0 where
@@ -21,7 +23,7 @@ pub record Remembers (past : Past) (pairs : List Pair) (words : ℕ) (log : Log)
   pub refused : KnowsRefusals past.refused (state_of pairs words log)
   pub started : KnowsStarts past.started (state_of pairs words log)
   pub targets : KnowsTargets past.targets (state_of pairs words log)
-  pub lists : KnowsLists past.counts (map (λ v. v.items) past.lists.items) (state_of pairs words log)
+  pub lists : KnowsLists past.building (state_of pairs words log)
   pub builds : KnowsBuilds past.builds log
   pub leaves : KnowsLeaves past.leaves (state_of pairs words log)
 

@@ -1,7 +1,8 @@
 //! Whether a list of events is a lawful log, and the state behind it.
 //!
 //! Read `specs/Lib.antt`, then `faults.rt`, `checking.rt` and `explaining.rt`. Stands on `ist_core`, `ist_links`,
-//! `ist_rebuilds`, `ist_check_events`, `ist_check_builds`, `ist_check_reasons` and `ist_check_state`.
+//! `ist_rebuilds`, `ist_check_fairness`, `ist_check_events`, `ist_check_builds`, `ist_check_reasons` and
+//! `ist_check_state`.
 #![tactic(auto)]
 
 mod checking;

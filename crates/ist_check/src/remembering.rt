@@ -8,11 +8,12 @@ ghost use Rattle.ist_check_events.specs.Mirroring.{Mirrors};
 ghost use Rattle.ist_check_events.specs.Remembering.{KnowsSlots, KnowsWays};
 ghost use Rattle.ist_check.specs.Knowing.{Remembers};
 
-use ist_check_events::{BuildTable, Past, Replica, no_leaves};
+use ist_check_events::{BuildTable, Past, Replica};
+use ist_check_fairness::no_lists;
 use ist_check_state::{
     remember_build, remember_call, remember_draw, remember_leaves, remember_lists, remember_okay,
-    remember_pass, remember_refusal, remember_start, remember_target, remember_update,
-    slots_of_start, ways_of_start,
+    remember_pass, remember_refusal, remember_sizes, remember_start, remember_target,
+    remember_update, slots_of_start, ways_of_start,
 };
 use ist_core::Event;
 use std::alloc::{AllocError, Global};
@@ -46,9 +47,8 @@ pub(crate) fn open_past(alloc: Global, replica: &Replica) -> Result<Past, AllocE
             since: BTreeMap::new(alloc),
         },
         targets: BTreeSet::new(alloc),
-        counts: BTreeSet::new(alloc),
-        lists: Vec::new(alloc),
-        leaves: no_leaves(alloc),
+        building: no_lists(alloc),
+        leaves: BTreeMap::new(alloc),
     })
 }
 
@@ -77,14 +77,8 @@ pub(crate) fn remember(
     remember_update(alloc, replica, &mut past.updates, event)?;
     remember_refusal(replica, &mut past.refused, event)?;
     remember_start(replica, &mut past.started, event)?;
-    remember_lists(
-        alloc,
-        replica,
-        &past.targets,
-        &mut past.counts,
-        &mut past.lists,
-        event,
-    )?;
+    remember_sizes(alloc, replica, &mut past.building, event)?;
+    remember_lists(alloc, replica, &past.targets, &mut past.building, event)?;
     remember_target(replica, &mut past.targets, event)?;
     remember_leaves(alloc, replica, &mut past.leaves, event)?;
     remember_build(alloc, &mut past.builds, event)

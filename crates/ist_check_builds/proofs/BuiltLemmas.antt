@@ -9,7 +9,7 @@ use Rattle.ist_core.specs.References.{Ref, Empty, LeafAt, InnerAt, ref_of}
 use Rattle.ist_core.specs.Parts.{parts}
 use Rattle.ist_core.specs.Pieces.{Inner, inner_of}
 use Rattle.ist_core.specs.Leaves.{PlacedLeaf}
-use Rattle.ist_check_events.proofs.RowLemmas.{behind, split_first}
+use Rattle.ist_check_fairness.proofs.BehindLemmas.{behind, split_first}
 use Rattle.ist_check_builds.specs.Built.{IsTopRow, BuildsRef, builds_none, builds_one, builds_more}
 use Rattle.ist_check_builds.specs.Built.{BuildsAll, BuildsAt, CountsRows, HasTopSlots}
 

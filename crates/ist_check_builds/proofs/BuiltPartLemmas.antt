@@ -6,7 +6,7 @@ use Rattle.ist_core.specs.declared.lists.Row.{Row}
 use Rattle.ist_core.specs.Arithmetic.{degree, part_len, part_lens}
 use Rattle.ist_core.specs.Parts.{cut, parts}
 use Rattle.ist_core.specs.Leaves.{PlacedLeaf}
-use Rattle.ist_check_events.proofs.RowLemmas.{behind}
+use Rattle.ist_check_fairness.proofs.BehindLemmas.{behind}
 use Rattle.ist_check_builds.specs.Built.{part_lens_from, BuildsAll, builds_end, builds_part}
 use Rattle.ist_check_builds.specs.Built.{BuildsAt, CountsRows}
 use Rattle.ist_check_builds.proofs.GatherLemmas.{first_word}

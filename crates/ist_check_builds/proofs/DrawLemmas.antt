@@ -26,7 +26,7 @@ use Rattle.ist_core.specs.Snapshots.{Snapshot}
 use Rattle.ist_core.specs.Logs.{Log, Happened, Draws}
 use Rattle.ist_core.specs.Rebuilding.{IsFinishedWith}
 use Rattle.ist_core.specs.Building.{CanDraw}
-use Rattle.ist_check_events.specs.Answers.{FindsGreatest}
+use Rattle.ist_check_fairness.specs.Answers.{FindsGreatest}
 use Rattle.ist_check_events.proofs.MirrorLemmas.{one_rebuild}
 
 -- where nothing has P, all that has P is below the limit

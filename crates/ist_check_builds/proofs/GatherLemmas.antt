@@ -53,7 +53,7 @@ use Rattle.ist_core.specs.Leaves.{
 use Rattle.ist_core.proofs.LeafLemmas.{reached, slots_reached, same_leaves}
 use Rattle.ist_check_events.specs.declared.replicas.Replica.{Replica}
 use Rattle.ist_check_events.specs.Mirroring.{Mirrors}
-use Rattle.ist_check_events.proofs.RowLemmas.{behind}
+use Rattle.ist_check_fairness.proofs.BehindLemmas.{behind}
 use Rattle.ist_check_builds.specs.Reading.{Gathers, LeavesLeft, GathersOn, PutsSlots}
 
 -- what a call that succeeded brought says more

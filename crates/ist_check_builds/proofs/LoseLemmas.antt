@@ -37,8 +37,8 @@ use Rattle.ist_core.specs.Snapshots.{Snapshot, HoldsRow}
 use Rattle.ist_core.specs.Logs.{Log}
 use Rattle.ist_core.specs.Building.{HoldsSizes, IsBeaten, LosesPair, LosesBuild, CanLose}
 use Rattle.ist_check_builds.specs.Losing.{HasRowAbove, IsTooLate}
-use Rattle.ist_check_events.specs.Searching.{AreBuilding}
-use Rattle.ist_check_events.proofs.RowLemmas.{behind, first_behind}
+use Rattle.ist_check_fairness.specs.Searching.{AreBuilding}
+use Rattle.ist_check_fairness.proofs.BehindLemmas.{behind, first_behind}
 
 -- ---- distinct bases
 

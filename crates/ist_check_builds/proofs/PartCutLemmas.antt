@@ -35,7 +35,7 @@ use Rattle.std.proofs.Math.ListN.{drop_of_length-le}
 use Rattle.ist_core.specs.Arithmetic.{part_len}
 use Rattle.ist_core.specs.Parts.{cut, first_keys}
 use Rattle.ist_core.specs.Leaves.{PlacedLeaf}
-use Rattle.ist_check_events.proofs.RowLemmas.{behind}
+use Rattle.ist_check_fairness.proofs.BehindLemmas.{behind}
 use Rattle.ist_check_builds.specs.Built.{part_lens_from, key_of_leaf}
 use Rattle.ist_check_builds.proofs.GatherLemmas.{first_word}
 

@@ -13,9 +13,9 @@ use crate::ideals::nth_part;
 use crate::leaves::add_leaves;
 use crate::roots::{is_ideal, is_root};
 use ist_check_events::{
-    FoundLeaf, Past, Replica, are_kept, degree_of, finished_keys, holds_at, holds_rows,
-    inner_of_word,
+    FoundLeaf, Past, Replica, finished_keys, holds_at, holds_rows, inner_of_word,
 };
+use ist_check_fairness::degree_of;
 use ist_core::Row;
 use std::alloc::{AllocError, Global};
 
@@ -181,15 +181,16 @@ fn has_part(
         → KnowsLeaves past.now.leaves t
         → (IsTrue may ↔ HasPart t word i target above rows.now)) }
 {
-    let kept = &past.leaves;
-    if are_kept(kept, target) {
-        return Ok(is_part(word, i, kept.leaves.as_slice(), above, rows));
+    match past.leaves.get(&target) {
+        Some(leaves) => Ok(is_part(word, i, leaves.as_slice(), above, rows)),
+        None => {
+            let mut leaves = Vec::new(alloc);
+            if !add_leaves(alloc, replica, target, &mut leaves)? {
+                return Ok(false);
+            }
+            Ok(is_part(word, i, leaves.as_slice(), above, rows))
+        }
     }
-    let mut leaves = Vec::new(alloc);
-    if !add_leaves(alloc, replica, target, &mut leaves)? {
-        return Ok(false);
-    }
-    Ok(is_part(word, i, leaves.as_slice(), above, rows))
 }
 
 /// Are they the ideal subtree over part `i` of these leaves, above the base?

@@ -6,7 +6,8 @@ ghost use Rattle.ist_core.specs.Building.{CanDraw};
 ghost use Rattle.ist_check_events.specs.Mirroring.{Mirrors};
 ghost use Rattle.ist_check_events.specs.Remembering.{KnowsDraws};
 
-use ist_check_events::{Past, Replica, degree_of, finished_keys, pair_key};
+use ist_check_events::{Past, Replica, finished_keys, pair_key};
+use ist_check_fairness::degree_of;
 use ist_math::SHARE_FROM;
 
 /// The word of a part of a shared root that isn't built yet.

@@ -9,9 +9,11 @@ ghost use Rattle.ist_core.specs.Logs.{Log};
 ghost use Rattle.ist_core.specs.Building.{CanLose, LosesPair, LosesBuild, HoldsSizes, IsBeaten};
 ghost use Rattle.ist_check_builds.specs.Losing.{HasRowAbove, IsTooLate};
 ghost use Rattle.ist_check_events.specs.Mirroring.{Mirrors};
-ghost use Rattle.ist_check_events.specs.Remembering.{KnowsLists, KnowsBuilds, seen_builds};
+ghost use Rattle.ist_check_events.specs.Remembering.{KnowsBuilds, seen_builds};
+ghost use Rattle.ist_check_fairness.specs.Knowing.{KnowsLists};
 
-use ist_check_events::{BuildTable, Past, Replica, holds_row, is_listed, size_at};
+use ist_check_events::{BuildTable, Past, Replica, holds_row, size_at};
+use ist_check_fairness::is_listed;
 use ist_layout::PAIR_WORDS;
 use std::alloc::{AllocError, Global};
 
@@ -24,7 +26,7 @@ pub fn can_lose(
     bases: &[u64],
 ) -> Result<bool, AllocError>
     ensures exact { IfOk result (λ may. (t : Snapshot) (log : Log) → Mirrors replica.now t
-        → KnowsLists past.now.counts (map (λ v. v.items) past.now.lists.items) t
+        → KnowsLists past.now.building t
         → KnowsBuilds past.now.builds log
         → (IsTrue may ↔ CanLose t log caller bases.now)) }
 {
@@ -47,7 +49,7 @@ fn loses_build(
     bases: &[u64],
 ) -> Result<bool, AllocError>
     ensures exact { IfOk result (λ may. (t : Snapshot) (log : Log) → Mirrors replica.now t
-        → KnowsLists past.now.counts (map (λ v. v.items) past.now.lists.items) t
+        → KnowsLists past.now.building t
         → KnowsBuilds past.now.builds log
         → (IsTrue may ↔ LosesBuild t log caller bases.now)) }
 {
@@ -87,14 +89,14 @@ fn sizes_at(
 /// caller?
 fn is_too_late(past: &Past, caller: u64, sizes: &[u64]) -> bool
     ensures exact { (t : Snapshot) (log : Log)
-        → KnowsLists past.now.counts (map (λ v. v.items) past.now.lists.items) t
+        → KnowsLists past.now.building t
         → KnowsBuilds past.now.builds log
         → (IsTrue result ↔ IsTooLate t log caller sizes.now) }
 {
     if !is_beaten(&past.builds, caller, sizes) {
         return false;
     }
-    is_listed(past.lists.as_slice(), sizes)
+    is_listed(past.building.lists.as_slice(), sizes)
 }
 
 /// Is this one held pair row, below a published inner row?

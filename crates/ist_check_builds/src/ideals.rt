@@ -6,9 +6,8 @@ ghost use Rattle.ist_core.specs.References.{LeafAt, ref_of};
 ghost use Rattle.ist_core.specs.Parts.{cut, first_keys};
 ghost use Rattle.ist_check_builds.specs.Built.{part_lens_from, key_of_leaf, HasTopSlots, BuildsAt, BuildsAll, CountsRows};
 
-use ist_check_events::{
-    FoundLeaf, degree_of, inner_of_word, leaf_of_word, names_nothing, part_len_of,
-};
+use ist_check_events::{FoundLeaf, inner_of_word, leaf_of_word, names_nothing};
+use ist_check_fairness::{degree_of, part_len_of};
 use ist_core::Row;
 
 /// The status of a row that was never touched.

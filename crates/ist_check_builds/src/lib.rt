@@ -2,7 +2,8 @@
 //! are the ideal subtree over the leaves of its rebuild's target; of a Draw and a Lose too.
 //!
 //! Read `specs/Lib.antt`, then `readings.rt`, `leaves.rt`, `ideals.rt`, `building.rt`, `drawing.rt`
-//! and `giving_up.rt`. Stands on `ist_core`, `ist_layout`, `ist_math` and `ist_check_events`.
+//! and `giving_up.rt`. Stands on `ist_core`, `ist_layout`, `ist_math`, `ist_check_fairness` and
+//! `ist_check_events`.
 #![tactic(auto)]
 
 mod building;

@@ -4,7 +4,8 @@ ghost use Rattle.ist_core.specs.References.{unset_word};
 ghost use Rattle.ist_check_builds.specs.Built.{BuildsAt, IsTopAlone, IsRootOf};
 
 use crate::ideals::{built, top_slots};
-use ist_check_events::{FoundLeaf, degree_of, inner_of_word};
+use ist_check_events::{FoundLeaf, inner_of_word};
+use ist_check_fairness::degree_of;
 use ist_core::Row;
 use ist_math::SHARE_FROM;
 

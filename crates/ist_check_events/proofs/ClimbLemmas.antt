@@ -11,7 +11,7 @@ use Rattle.ist_core.specs.Slots.{IsChildFor}
 use Rattle.ist_check_events.specs.declared.pasts.Slot.{Slot}
 use Rattle.ist_check_events.specs.Remembering.{SlotsRise, KnowsSlots}
 use Rattle.ist_check_events.specs.Ways.{Climbs, at_top, up, ClimbsBy, here, higher, IsJump}
-use Rattle.ist_check_events.proofs.AnswerLemmas.{iff_trans}
+use Rattle.ist_check_fairness.proofs.AnswerLemmas.{iff_trans}
 use Rattle.ist_check_events.proofs.WayLemmas.{comes_is}
 
 module _ (slots : BTreeMap ℕ Slot) (n : ℕ) (slot : Slot) (e : tree.get nat_cmp slots n ≡ Some slot)

@@ -11,7 +11,7 @@ use Rattle.ist_core.specs.Slots.{IsOpen, anchor_is, row_is, SlotHolds, in_anchor
 use Rattle.ist_core.specs.References.{ChangeAt, word_of}
 use Rattle.ist_core.specs.Deciding.{MayBe, CanOkay, CanDecide, CanResolve}
 use Rattle.ist_check_events.specs.Mirroring.{RowHolds}
-use Rattle.ist_check_events.proofs.AnswerLemmas.{is_equal}
+use Rattle.ist_check_fairness.proofs.AnswerLemmas.{is_equal}
 use Rattle.ist_check_events.proofs.MirrorLemmas.{one_inner, one_change}
 
 -- a node other than the anchor is open where its row is

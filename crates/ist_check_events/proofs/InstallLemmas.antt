@@ -36,7 +36,7 @@ use Rattle.ist_core.specs.Installing.{
   CanInstall,
 }
 use Rattle.ist_check_events.specs.Standing.{MayStand}
-use Rattle.ist_check_events.proofs.RowLemmas.{behind, split_first}
+use Rattle.ist_check_fairness.proofs.BehindLemmas.{behind, split_first}
 
 -- words that are read as a change are its words
 change_words_are : (ws : List ℕ) (c : ChangeRow) → change_of ws ≡ Some c → ws ≡ words_of (Change c)

@@ -12,7 +12,7 @@ use Rattle.ist_core.specs.Links.{WasLedTo}
 use Rattle.ist_core.specs.Installing.{IsLeafOf, HasRoomFor, nothing, same_key, ComesByKey, PutsLeaf}
 use Rattle.ist_core.specs.Installing.{PutsPair, Removes, new_leaf}
 use Rattle.ist_check_events.specs.Kinds.{NamesLeafOf, PairsWith}
-use Rattle.ist_check_events.proofs.AnswerLemmas.{is_equal}
+use Rattle.ist_check_fairness.proofs.AnswerLemmas.{is_equal}
 
 -- ---- words
 

@@ -1,4 +1,3 @@
-pub mod AnswerLemmas
 pub mod MirrorLemmas
 pub mod DecisionLemmas
 pub mod MarkLemmas
@@ -11,12 +10,5 @@ pub mod RowLemmas
 pub mod HeldLemmas
 pub mod LetGoLemmas
 pub mod InstallLemmas
-pub mod SpareLemmas
-pub mod FairLemmas
-pub mod AddedLemmas
-pub mod ReadingLemmas
-pub mod RestLemmas
-pub mod ListLemmas
-pub mod BuildLemmas
-pub mod TargetLemmas
+pub mod ReserveLemmas
 pub mod AmongLemmas

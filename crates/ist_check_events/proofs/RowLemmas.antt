@@ -1,33 +1,7 @@
 -- What the code tests of the rows of an event is what the conditions say. Serves `rows.rt` and
 -- `pairs.rt`.
-use Rattle.std.proofs.Common.{
-  ◌≡◌,
-  ◌↔◌,
-  ◌∙◌,
-  ◌<◌,
-  ◌≤◌,
-  ◌-◌,
-  ◌+◌,
-  ℕ,
-  List,
-  [],
-  ◌∷◌,
-  length,
-  take,
-  drop,
-  get_or,
-  refl,
-  sym,
-  ap,
-  subst,
-  arith,
-  inl,
-  inr,
-  ⊎_elim,
-  zero,
-  suc,
-}
-use Rattle.std.proofs.lemmas.List.{take_all, take_more}
+use Rattle.std.proofs.Common.{◌≡◌, ◌↔◌, ◌∙◌, ◌<◌, ◌≤◌, ◌+◌, ℕ, List, [], ◌∷◌, length, take, get_or, sym, ap, subst, arith, inl, inr, ⊎_elim, zero, suc}
+use Rattle.std.proofs.lemmas.List.{take_more}
 use Rattle.ist_core.specs.declared.lists.Row.{Row}
 use Rattle.ist_core.specs.Elements.{Among}
 use Rattle.ist_core.specs.References.{LeafAt, word_of}
@@ -35,20 +9,9 @@ use Rattle.ist_core.specs.Pieces.{row_at}
 use Rattle.ist_core.specs.Snapshots.{Snapshot, HoldsRow, HoldsRows}
 use Rattle.ist_core.specs.Installing.{pair_over}
 use Rattle.ist_core.proofs.ElementLemmas.{among-append, among_right}
+use Rattle.ist_check_fairness.proofs.BehindLemmas.{behind, split_first}
 
 module _ {A : Type 0} where
-  -- what is behind the first of some elements
-  abbrev pub behind : List A → List A
-  behind xs = take (length xs - 1) (drop 1 xs)
-
-  -- some elements are the first and those behind it
-  pub split_first : (xs : List A) (x : A) → 1 ≤ length xs → x ≡ get_or xs 0 x → xs ≡ x ∷ behind xs
-  split_first [] x n e = absurd (omega arith)
-  split_first (y ∷ ys) x n e =
-      let l : length (y ∷ ys) - 1 ≡ length ys = omega arith in
-      ap (λ z. z ∷ ys) (sym e) ∙ ap (λ zs. x ∷ zs)
-      (sym (ap (λ k. take k ys) l ∙ take_all (length ys) ys (omega arith)))
-
   among_take : (n : ℕ) (ys : List A) (y : A) → Among y (take n ys) → Among y ys
   among_take zero ys y a = absurd a
   among_take (suc n) [] y a = absurd a
@@ -69,11 +32,6 @@ module _ {A : Type 0} where
       let both = subst (Among y) (take_more xs i d h) a in
       ⊎_elim none (λ b. ⊎_elim other (λ z. z) b) (among-append y (take i xs) (get_or xs i d ∷ [])
       both)
-
--- some numbers are the first and those behind it
-pub first_behind : (xs : List ℕ) → 1 ≤ length xs → get_or xs 0 0 ∷ behind xs ≡ xs
-first_behind [] n = absurd (omega arith)
-first_behind (y ∷ ys) n = sym (split_first (y ∷ ys) y n refl)
 
 -- the first row is held, and so are the others
 module _ (t : Snapshot) (caller : ℕ) (rows : List Row) (row : Row) (n : 1 ≤ length rows)

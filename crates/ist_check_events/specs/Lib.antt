@@ -1,5 +1,4 @@
 -- what the public contracts rest on, in the order to read them
-pub mod Answers
 pub mod Holding
 pub mod Mirroring
 pub mod Remembering
@@ -8,6 +7,3 @@ pub mod Passing
 pub mod Ways
 pub mod Kinds
 pub mod Standing
-pub mod Searching
-pub mod Readings
-pub mod Builds

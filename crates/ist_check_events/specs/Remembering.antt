@@ -4,6 +4,7 @@ use Rattle.std.specs.Ordering.{nat_cmp}
 use Rattle.std.specs.BTreeMap as tree
 use Rattle.std.specs.BTreeMap.{BTreeMap}
 use Rattle.std.specs.BTreeSet.{BTreeSet}
+use Rattle.std.specs.Global.{Vec}
 use Rattle.std.specs.Cmp.Lexicographic.{slice_cmp}
 use Rattle.ist_core.specs.Snapshots.{Snapshot}
 use Rattle.ist_core.specs.declared.states.ChangeRow.{ChangeRow}
@@ -18,14 +19,12 @@ use Rattle.ist_core.specs.Leaves.{PlacedLeaf, HasLeaves}
 use Rattle.ist_core.specs.Rebuilding.{IsStarted, IsFinishedWith}
 use Rattle.ist_core.specs.Deciding.{IsUpdateOf, SaysYes}
 use Rattle.ist_core.specs.Building.{IsBeaten}
-use Rattle.ist_core.specs.Marking.{HasTarget, IsCalled}
-use Rattle.ist_check_events.specs.declared.leaves.KeptLeaves.{KeptLeaves}
+use Rattle.ist_core.specs.Marking.{IsCalled}
 use Rattle.ist_check_events.specs.declared.pasts.BuildTable.{BuildTable}
 use Rattle.ist_check_events.specs.declared.pasts.LastUpdate.{LastUpdate}
 use Rattle.ist_check_events.specs.declared.pasts.Slot.{Slot}
 use Rattle.ist_check_events.specs.declared.pasts.Way.{Way}
-use Rattle.ist_check_events.specs.Answers.{FindsGreatest, Holds}
-use Rattle.ist_check_events.specs.Searching.{AreBuilding}
+use Rattle.ist_check_fairness.specs.Answers.{FindsGreatest, Holds}
 
 -- numbers of two words, as one key
 abbrev pub pair_key : ℕ → ℕ → ℕ
@@ -126,33 +125,6 @@ KnowsRefusals refused t =
 abbrev pub KnowsStarts : BTreeSet ℕ → Snapshot → Type 0
 KnowsStarts started t = (rebuild : ℕ) → Holds started rebuild ↔ IsStarted t rebuild
 
--- ---- targets and building lists
-
--- the node is the target of a started rebuild
-pub record IsTargeted (t : Snapshot) (node : ℕ) : Type 0 where
-  pub rebuild : ℕ
-  pub of : HasTarget t rebuild node
-  pub started : IsStarted t rebuild
-
--- the set is that of these targets
-abbrev pub KnowsTargets : BTreeSet ℕ → Snapshot → Type 0
-KnowsTargets targets t = (node : ℕ) → Holds targets node ↔ IsTargeted t node
-
--- one of these targets is finished with k keys
-pub record HasFinishedTarget (t : Snapshot) (k : ℕ) : Type 0 where
-  pub node : ℕ
-  pub targeted : IsTargeted t node
-  pub finished : IsFinishedWith t node k
-
--- the set has with how many keys these targets are finished, and the lists are the building lists
-pub record KnowsLists (counts : BTreeSet ℕ) (lists : List (List ℕ)) (t : Snapshot) : Type 0 where
-  pub keys : (k : ℕ) → Holds counts k ↔ HasFinishedTarget t k
-  pub building : AreBuilding t lists
-
--- in the second state targets are finished with so many keys as in the first, and with those of which P holds
-abbrev pub GainsKeys : Snapshot → Snapshot → (ℕ → Type 0) → Type 0
-GainsKeys t u P = (k : ℕ) → HasFinishedTarget u k ↔ (HasFinishedTarget t k ⊎ P k)
-
 -- ---- builds
 
 -- how many builds came up to the caller's last Root, Place or Lose
@@ -185,6 +157,8 @@ pub record HasFinishedLeaves (t : Snapshot) (node : ℕ) (leaves : List PlacedLe
   pub finished : IsFinishedWith t node keys
   pub reached : HasLeaves t.pieces (Some (InnerAt node)) leaves
 
--- the leaves that are kept are those of a finished row
-abbrev pub KnowsLeaves : KeptLeaves → Snapshot → Type 0
-KnowsLeaves kept t = (node : ℕ) → kept.of ≡ Some node → HasFinishedLeaves t node kept.leaves.items
+-- the leaves that are kept of a row are those of a finished row
+abbrev pub KnowsLeaves : BTreeMap ℕ (Vec PlacedLeaf) → Snapshot → Type 0
+KnowsLeaves kept t =
+    (node : ℕ) (leaves : Vec PlacedLeaf) → tree.get nat_cmp kept node ≡ Some leaves
+    → HasFinishedLeaves t node leaves.items

@@ -1,14 +1,14 @@
 //! When a caller may enter, and when a row may be reserved.
-ghost use Rattle.std.specs.Prelude.{◌↔◌, IsTrue, IfOk, map};
+ghost use Rattle.std.specs.Prelude.{◌↔◌, IsTrue, IfOk};
 ghost use Rattle.ist_core.specs.Snapshots.{Snapshot};
 ghost use Rattle.ist_core.specs.Enabled.{CanEnter, CanReserve};
 ghost use Rattle.ist_check_events.specs.Mirroring.{Mirrors};
-ghost use Rattle.ist_check_events.specs.Remembering.{KnowsLists};
+ghost use Rattle.ist_check_fairness.specs.Knowing.{KnowsLists};
 
-use crate::fairness::{are_all_spare, is_fair};
 use crate::held::sizes_held;
 use crate::pasts::Past;
 use crate::replicas::Replica;
+use ist_check_fairness::is_fair_for;
 use std::alloc::{AllocError, Global};
 
 /// Callers have numbers below this one.
@@ -31,7 +31,7 @@ pub fn can_reserve(
     size: u64,
 ) -> Result<bool, AllocError>
     ensures exact { IfOk result (λ may. (t : Snapshot) → Mirrors replica.now t
-        → KnowsLists past.now.counts (map (λ v. v.items) past.now.lists.items) t
+        → KnowsLists past.now.building t
         → (IsTrue may ↔ CanReserve t caller base size)) }
 {
     if caller >= replica.callers || base != replica.next {
@@ -43,8 +43,5 @@ pub fn can_reserve(
     let room = replica.words - replica.next;
     let mut sizes = sizes_held(alloc, &replica.held, caller)?;
     sizes.push(size)?;
-    if are_all_spare(sizes.as_slice()) {
-        return Ok(true);
-    }
-    is_fair(alloc, past.lists.as_slice(), room, sizes.as_slice())
+    is_fair_for(alloc, &past.building, room, caller, sizes.as_slice())
 }

@@ -4,7 +4,7 @@ ghost use Rattle.ist_core.specs.Snapshots.{Snapshot};
 ghost use Rattle.ist_core.specs.Logs.{Log, state};
 ghost use Rattle.ist_core.specs.Rebuilding.{IsBuilt};
 ghost use Rattle.ist_core.specs.Installing.{HasRoomFor, IsLeafOf, ComesByKey, PutsLeaf, PutsPair, Removes, Starts, Finishes};
-ghost use Rattle.ist_check_events.specs.Answers.{FindsOne};
+ghost use Rattle.ist_check_fairness.specs.Answers.{FindsOne};
 ghost use Rattle.ist_check_events.specs.Mirroring.{Mirrors};
 ghost use Rattle.ist_check_events.specs.Remembering.{KnowsSlots, KnowsWays, KnowsStarts};
 ghost use Rattle.ist_check_events.specs.Kinds.{NamesLeafOf, MayBeRebuilt, IsFinishOf, PairsWith};

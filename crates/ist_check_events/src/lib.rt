@@ -3,14 +3,13 @@
 //!
 //! Read `specs/Lib.antt`, then `replicas.rt` and `pasts.rt`, and the files that decide events:
 //! `entering.rt`, `installing.rt`, `deciding.rt`, `counting.rt` and `marking.rt`. Stands on
-//! `ist_core`, `ist_math` and `ist_layout`.
+//! `ist_core`, `ist_math`, `ist_layout` and `ist_check_fairness`.
 #![tactic(auto)]
 
 mod climbing;
 mod counting;
 mod deciding;
 mod entering;
-mod fairness;
 mod held;
 mod installing;
 mod kinds;
@@ -22,21 +21,16 @@ mod pairs;
 mod pasts;
 mod replicas;
 mod rows;
-mod shapes;
-mod shares;
 
 pub use counting::can_count;
 pub use deciding::{can_decide, can_okay, can_resolve};
 pub use entering::{can_enter, can_reserve};
-pub use fairness::are_same;
-pub use held::{HeldTable, hold, let_go, no_rows, rows_held};
+pub use held::{HeldTable, hold, let_go, no_rows, rows_held, sizes_held};
 pub use installing::can_install;
-pub use leaves::{FoundLeaf, KeptLeaves, are_kept, no_leaves};
+pub use leaves::FoundLeaf;
 pub use marking::{can_finish, can_mark, can_pass, target_keys};
 pub use naming::{inner_of_word, leaf_of_word, names_nothing, rebuild_of_word};
 pub use nodes::{finished_keys, holds_at, is_open, slot_holds};
 pub use pasts::{BuildTable, LastUpdate, Past, Slot, Way, pair_key};
 pub use replicas::Replica;
 pub use rows::{change_of_words, holds_row, holds_rows, size_at};
-pub use shapes::{add_keys, is_listed};
-pub use shares::{degree_of, part_len_of};

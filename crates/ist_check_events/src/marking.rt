@@ -4,7 +4,7 @@ ghost use Rattle.ist_core.specs.References.{ChangeAt, ref_of};
 ghost use Rattle.ist_core.specs.Snapshots.{Snapshot};
 ghost use Rattle.ist_core.specs.Logs.{Log};
 ghost use Rattle.ist_core.specs.Marking.{CanMark, CanPass, CanFinish, CountsFor, ArePassed};
-ghost use Rattle.ist_check_events.specs.Answers.{FindsOne};
+ghost use Rattle.ist_check_fairness.specs.Answers.{FindsOne};
 ghost use Rattle.ist_check_events.specs.Mirroring.{Mirrors};
 ghost use Rattle.ist_check_events.specs.Passing.{PassCounts, TargetFinishedWith};
 ghost use Rattle.ist_check_events.specs.Remembering.{KnowsCalls, KnowsPasses};

@@ -1,7 +1,7 @@
 //! Which row a word names.
 ghost use Rattle.std.specs.Prelude.{◌≡◌, ◌↔◌, ℕ, IsTrue, Some};
 ghost use Rattle.ist_core.specs.References.{Empty, LeafAt, InnerAt, RebuildAt, ref_of};
-ghost use Rattle.ist_check_events.specs.Answers.{FindsOne};
+ghost use Rattle.ist_check_fairness.specs.Answers.{FindsOne};
 
 use ist_layout::Ref;
 

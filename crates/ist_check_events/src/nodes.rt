@@ -5,7 +5,7 @@ ghost use Rattle.ist_core.specs.Statuses.{finished_word};
 ghost use Rattle.ist_core.specs.Snapshots.{Snapshot};
 ghost use Rattle.ist_core.specs.Slots.{IsOpen, SlotHolds};
 ghost use Rattle.ist_core.specs.Rebuilding.{IsFinishedWith};
-ghost use Rattle.ist_check_events.specs.Answers.{FindsOne};
+ghost use Rattle.ist_check_fairness.specs.Answers.{FindsOne};
 ghost use Rattle.ist_check_events.specs.Mirroring.{Mirrors, RowHolds};
 
 use crate::replicas::Replica;

@@ -2,7 +2,8 @@
 ghost use Rattle.std.specs.Prelude.{◌≡◌};
 ghost use Rattle.ist_check_events.specs.Remembering as remembering;
 
-use crate::leaves::KeptLeaves;
+use crate::leaves::FoundLeaf;
+use ist_check_fairness::BuildingLists;
 use std::collections::{BTreeMap, BTreeSet};
 
 /// A put or remove that was decided yes, and the nodes at which it was counted since.
@@ -67,12 +68,10 @@ pub struct Past {
     pub builds: BuildTable,
     /// The targets of the rebuilds that were started.
     pub targets: BTreeSet<u64>,
-    /// With how many keys such targets are finished.
-    pub counts: BTreeSet<u64>,
-    /// The building lists for these numbers of keys, each once.
-    pub lists: Vec<Vec<u64>>,
-    /// The leaves of the target of the last rebuild of which a part was placed.
-    pub leaves: KeptLeaves,
+    /// The building lists.
+    pub building: BuildingLists,
+    /// The leaves of the targets of rebuilds of which a part was placed, child by child.
+    pub leaves: BTreeMap<u64, Vec<FoundLeaf>>,
 }
 
 /// Two words as one key of a table.

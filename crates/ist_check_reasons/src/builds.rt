@@ -1,9 +1,10 @@
 //! Which condition fails of an event of a build.
-ghost use Rattle.std.specs.Prelude.{IfOk, map};
+ghost use Rattle.std.specs.Prelude.{IfOk};
 ghost use Rattle.ist_core.specs.Snapshots.{Snapshot};
 ghost use Rattle.ist_core.specs.Logs.{Log};
 ghost use Rattle.ist_check_events.specs.Mirroring.{Mirrors};
-ghost use Rattle.ist_check_events.specs.Remembering.{KnowsStarts, KnowsLists, KnowsDraws, KnowsBuilds, KnowsLeaves};
+ghost use Rattle.ist_check_events.specs.Remembering.{KnowsStarts, KnowsDraws, KnowsBuilds, KnowsLeaves};
+ghost use Rattle.ist_check_fairness.specs.Knowing.{KnowsLists};
 ghost use Rattle.ist_check_builds.specs.Standing.{HeldAreFree};
 ghost use Rattle.ist_check_reasons.specs.Failing.{Tells};
 ghost use Rattle.ist_check_reasons.specs.Conditions.{root_says, draw_says, place_says, lose_says};
@@ -105,7 +106,7 @@ pub fn lose_fails(
     bases: &[u64],
 ) -> Result<Option<Condition>, AllocError>
     ensures exact { IfOk result (λ fails. (t : Snapshot) (log : Log) → Mirrors replica.now t
-        → KnowsLists past.now.counts (map (λ v. v.items) past.now.lists.items) t
+        → KnowsLists past.now.building t
         → KnowsBuilds past.now.builds log → Tells (lose_says t log caller bases.now) fails) }
 {
     let may = can_lose(alloc, replica, past, caller, bases)?;

@@ -1,9 +1,10 @@
 //! Which condition fails of an event by which a caller enters, reserves a row, or makes a change.
-ghost use Rattle.std.specs.Prelude.{◌≡◌, ◌↔◌, IsTrue, IfOk, map};
+ghost use Rattle.std.specs.Prelude.{◌≡◌, ◌↔◌, IsTrue, IfOk};
 ghost use Rattle.ist_core.specs.Snapshots.{Snapshot};
 ghost use Rattle.ist_core.specs.Logs.{Log, state};
 ghost use Rattle.ist_check_events.specs.Mirroring.{Mirrors};
-ghost use Rattle.ist_check_events.specs.Remembering.{KnowsSlots, KnowsWays, KnowsLists, KnowsOkays, KnowsUpdates};
+ghost use Rattle.ist_check_events.specs.Remembering.{KnowsSlots, KnowsWays, KnowsOkays, KnowsUpdates};
+ghost use Rattle.ist_check_fairness.specs.Knowing.{KnowsLists};
 ghost use Rattle.ist_check_events.specs.Ways.{KeysStay};
 ghost use Rattle.ist_check_reasons.specs.Failing.{Tells};
 ghost use Rattle.ist_check_reasons.specs.Conditions.{enter_says, reserve_says, okay_says, decide_says, resolve_says, count_says};
@@ -38,7 +39,7 @@ pub fn reserve_fails(
     size: u64,
 ) -> Result<Option<Condition>, AllocError>
     ensures exact { IfOk result (λ fails. (t : Snapshot) → Mirrors replica.now t
-        → KnowsLists past.now.counts (map (λ v. v.items) past.now.lists.items) t
+        → KnowsLists past.now.building t
         → Tells (reserve_says t caller base size) fails) }
 {
     let may = can_reserve(alloc, replica, past, caller, base, size)?;

@@ -2,7 +2,7 @@
 //!
 //! Read `specs/Lib.antt`, then `conditions.rt`, `failing.rt`, `single.rt` and the files that go through the conditions of each kind:
 //! `changes.rt`, `installs.rt`, `nodes.rt` and `builds.rt`. Stands on `ist_core`, `ist_math`, `ist_layout`,
-//! `ist_check_events` and `ist_check_builds`.
+//! `ist_check_fairness`, `ist_check_events` and `ist_check_builds`.
 #![tactic(auto)]
 
 mod builds;

@@ -29,7 +29,7 @@ use Rattle.ist_core.specs.Logs.{Log}
 use Rattle.ist_core.specs.Building.{IsBeaten}
 use Rattle.ist_check_events.specs.declared.pasts.BuildTable.{BuildTable}
 use Rattle.ist_check_events.specs.Remembering.{CameBehind, KnowsBuilds, last_with, seen_builds}
-use Rattle.ist_check_events.proofs.AnswerLemmas.{iff_trans}
+use Rattle.ist_check_fairness.proofs.AnswerLemmas.{iff_trans}
 use Rattle.ist_check_state.proofs.SizesFoundLemmas.{are_sizes, sizes_are, sizes_same}
 use Rattle.ist_check_state.proofs.TableLemmas.{updated_here, updated_other}
 

@@ -8,7 +8,7 @@ use Rattle.ist_core.specs.Snapshots.{Snapshot}
 use Rattle.ist_core.specs.Logs.{Log}
 use Rattle.ist_core.specs.Lawful.{Lawful, state_of}
 use Rattle.ist_check_events.specs.declared.replicas.Replica.{Replica}
-use Rattle.ist_check_events.specs.Answers.{Holds}
+use Rattle.ist_check_fairness.specs.Answers.{Holds}
 use Rattle.ist_check_events.specs.Mirroring.{Mirrors}
 use Rattle.ist_check_state.specs.Calls.{StartCalls, WordCalls}
 use Rattle.ist_check_state.proofs.EventLemmas.{at_event}

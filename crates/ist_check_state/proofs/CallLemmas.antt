@@ -39,7 +39,7 @@ use Rattle.ist_core.specs.Lawful.{Lawful, EachEnabled, CanOpen, state_of}
 use Rattle.ist_core.proofs.GrowingLemmas.{rebuild_there}
 use Rattle.ist_core.proofs.NamingLemmas.{SlotNames, SideNames, IsRebuildFor, slot_grows}
 use Rattle.ist_core.proofs.OrderLemmas.{names}
-use Rattle.ist_check_events.specs.Answers.{Holds}
+use Rattle.ist_check_fairness.specs.Answers.{Holds}
 use Rattle.ist_check_events.specs.Remembering.{KnowsCalls}
 use Rattle.ist_check_events.proofs.MirrorLemmas.{one_rebuild}
 use Rattle.ist_check_state.specs.Remembered.{StartsRebuild}

@@ -33,7 +33,7 @@ use Rattle.ist_core.specs.Snapshots.{Snapshot, with_slot_at}
 use Rattle.ist_core.specs.After.{with_fresh, with_change, installed}
 use Rattle.ist_check_events.specs.declared.replicas.Replica.{Replica}
 use Rattle.ist_check_events.specs.Mirroring.{Mirrors}
-use Rattle.ist_check_events.proofs.RowLemmas.{behind, split_first}
+use Rattle.ist_check_fairness.proofs.BehindLemmas.{behind, split_first}
 
 -- a test that holds chooses the first, and one that fails the second
 pub start_chosen : {A : Type 0} (kind : ℕ) (a b : A) → kind ≡ start_kind → a

@@ -1,31 +1,6 @@
 -- What one part more adds to a list made by an index, and to the rows of a new table. Serves `opening.rt`.
-use Rattle.std.proofs.Common.{
-  ◌≡◌,
-  ◌∙◌,
-  ◌+◌,
-  ◌-◌,
-  ◌<◌,
-  ◌≤◌,
-  ℕ,
-  List,
-  [],
-  ◌∷◌,
-  ◌++◌,
-  length,
-  map,
-  get_or,
-  Some,
-  None,
-  sym,
-  ap,
-  subst,
-  refl,
-  arith,
-}
+use Rattle.std.proofs.Common.{◌≡◌, ◌∙◌, ◌+◌, ◌-◌, ◌<◌, ◌≤◌, ℕ, List, [], ◌∷◌, ◌++◌, length, map, get_or, Some, None, sym, ap, subst, arith}
 use Rattle.std.specs.List.{range_with_len}
-use Rattle.std.specs.Ordering.{nat_cmp}
-use Rattle.std.specs.BTreeMap as tree
-use Rattle.std.specs.BTreeMap.{BTreeMap}
 use Rattle.std.proofs.lemmas.List.FromFn.{map-range_with_len_more}
 use Rattle.ist_core.specs.declared.pairs.Pair.{Pair}
 use Rattle.ist_core.specs.declared.states.InnerRow.{InnerRow}
@@ -174,8 +149,3 @@ opened r t first pairs e m =
     (subst (λ base. Mirrors r (record t {
       pieces = with_pieces (λ at. None) (rows_from base pairs);
     })) e m)
-
--- nothing is found in a map without entries
-pub none_found : {X : Type 0} (m : BTreeMap ℕ X) (key : ℕ) → m.entries ≡ []
-    → tree.get nat_cmp m key ≡ None
-none_found m key e = rw e refl

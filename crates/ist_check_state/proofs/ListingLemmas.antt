@@ -11,10 +11,12 @@ use Rattle.ist_core.specs.Snapshots.{Snapshot}
 use Rattle.ist_core.specs.Logs.{Log}
 use Rattle.ist_core.specs.Lawful.{Lawful, state_of}
 use Rattle.ist_check_events.specs.declared.replicas.Replica.{Replica}
-use Rattle.ist_check_events.specs.Answers.{Holds, FindsOne}
+use Rattle.ist_check_fairness.specs.declared.lists.BuildingLists.{BuildingLists}
+use Rattle.ist_check_fairness.specs.Answers.{Holds, FindsOne}
 use Rattle.ist_check_events.specs.Mirroring.{Mirrors}
-use Rattle.ist_check_events.specs.Remembering.{KnowsTargets, KnowsLists, GainsKeys}
-use Rattle.ist_check_events.proofs.TargetLemmas.{lists_stay}
+use Rattle.ist_check_fairness.specs.Targets.{KnowsTargets, GainsKeys}
+use Rattle.ist_check_fairness.specs.Knowing.{KnowsLists}
+use Rattle.ist_check_fairness.proofs.TargetLemmas.{lists_stay}
 use Rattle.ist_check_state.specs.Remembered.{StartsFinished}
 use Rattle.ist_check_state.specs.Calls.{StartCalls}
 use Rattle.ist_check_state.proofs.EventLemmas.{at_event}
@@ -93,7 +95,7 @@ module _ (replica : Replica) (e : Event) (targets : BTreeSet ℕ) where
 
 -- ---- building lists
 
-module _ (replica : Replica) (e : Event) (targets old new : BTreeSet ℕ) (lists more : List (List ℕ))
+module _ (replica : Replica) (e : Event) (targets : BTreeSet ℕ) (old new : BuildingLists)
   where
     -- the event brings the numbers and the lists from the ones to the others, beside the replica
     -- and the targets before it
@@ -101,16 +103,16 @@ module _ (replica : Replica) (e : Event) (targets old new : BTreeSet ℕ) (lists
     RemembersLists =
         (pairs : List Pair) (words : ℕ) (log : Log) → Lawful pairs words (e ∷ log)
         → Mirrors replica (state_of pairs words log) → KnowsTargets targets (state_of pairs words log)
-        → KnowsLists old lists (state_of pairs words log)
-        → KnowsLists new more (state_of pairs words (e ∷ log))
+        → KnowsLists old (state_of pairs words log)
+        → KnowsLists new (state_of pairs words (e ∷ log))
 
     -- a yes adds those of what it starts
     pub start_lists : (by base : ℕ) (said : Bool) → e ≡ Decide by base said → said ≡ true
         → ((t u : Snapshot) → Mirrors replica t → GainsKeys t u (StartsFinished t base)
-        → KnowsLists old lists t → KnowsLists new more u)
+        → KnowsLists old t → KnowsLists new u)
         → RemembersLists
     start_lists by base said is so adds pairs words log law mirrors of known =
-        at_event pairs words log (λ l. KnowsLists new more (state_of pairs words l)) e
+        at_event pairs words log (λ l. KnowsLists new (state_of pairs words l)) e
         (Decide by base true) (is ∙ ap (Decide by base) so) law
         (λ lawful.
         adds (state_of pairs words log) (state_of pairs words (Decide by base true ∷ log)) mirrors
@@ -118,43 +120,43 @@ module _ (replica : Replica) (e : Event) (targets old new : BTreeSet ℕ) (lists
 
     -- a Finish of a target adds those of its keys
     pub finish_lists : (by node keys : ℕ) → e ≡ Finish by node keys → Holds targets node
-        → ((t u : Snapshot) → GainsKeys t u (λ k. k ≡ keys) → KnowsLists old lists t
-        → KnowsLists new more u)
+        → ((t u : Snapshot) → GainsKeys t u (λ k. k ≡ keys) → KnowsLists old t
+        → KnowsLists new u)
         → RemembersLists
     finish_lists by node keys is has adds pairs words log law mirrors of known =
-        at_event pairs words log (λ l. KnowsLists new more (state_of pairs words l)) e
+        at_event pairs words log (λ l. KnowsLists new (state_of pairs words l)) e
         (Finish by node keys) is law
         (λ lawful.
         adds (state_of pairs words log) (state_of pairs words (Finish by node keys ∷ log))
         (gains_so _ _ _ keys ((of node).0 has)
         (keys_finished pairs words log by node keys lawful)) known)
 
-module _ (replica : Replica) (e : Event) (targets counts : BTreeSet ℕ) (lists : List (List ℕ)) where
+module _ (replica : Replica) (e : Event) (targets : BTreeSet ℕ) (lists : BuildingLists) where
   -- a no adds none
   pub refusal_lists_none : (by base : ℕ) (said : Bool) → e ≡ Decide by base said → said ≡ false
-      → RemembersLists replica e targets counts counts lists lists
+      → RemembersLists replica e targets lists lists
   refusal_lists_none by base said is so pairs words log law mirrors of known =
-      at_event pairs words log (λ l. KnowsLists counts lists (state_of pairs words l)) e
+      at_event pairs words log (λ l. KnowsLists lists (state_of pairs words l)) e
       (Decide by base false) (is ∙ ap (Decide by base) so) law
       (λ lawful.
-      lists_stay _ _ (λ k. ⊥) (keys_refused pairs words log by base lawful) counts lists
+      lists_stay _ _ (λ k. ⊥) (keys_refused pairs words log by base lawful) lists
       (λ k none. absurd none) known)
 
   -- nor does a Finish of another row
   pub unlisted_finish : (by node keys : ℕ) → e ≡ Finish by node keys → ¬ (Holds targets node)
-      → RemembersLists replica e targets counts counts lists lists
+      → RemembersLists replica e targets lists lists
   unlisted_finish by node keys is lacks pairs words log law mirrors of known =
-      at_event pairs words log (λ l. KnowsLists counts lists (state_of pairs words l)) e
+      at_event pairs words log (λ l. KnowsLists lists (state_of pairs words l)) e
       (Finish by node keys) is law
       (λ lawful.
-      lists_stay _ _ _ (keys_finished pairs words log by node keys lawful) counts lists
+      lists_stay _ _ _ (keys_finished pairs words log by node keys lawful) lists
       (λ k now. absurd (lacks ((of node).1 now.0))) known)
 
   -- nor does any other event
   pub others_list_none : ((c b : ℕ) (x : Bool) → e ≢ Decide c b x)
       → ((c n k : ℕ) → e ≢ Finish c n k)
-      → RemembersLists replica e targets counts counts lists lists
+      → RemembersLists replica e targets lists lists
   others_list_none no_decide no_finish pairs words log law mirrors of known =
       lists_stay _ _ (λ k. ⊥)
-      (keys_kept pairs words log e no_decide (unfinished e no_finish) law) counts lists
+      (keys_kept pairs words log e no_decide (unfinished e no_finish) law) lists
       (λ k none. absurd none) known

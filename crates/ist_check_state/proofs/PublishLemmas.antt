@@ -37,7 +37,7 @@ use Rattle.ist_core.specs.Pieces.{
 use Rattle.ist_core.specs.Snapshots.{Snapshot}
 use Rattle.ist_check_events.specs.declared.replicas.Replica.{Replica}
 use Rattle.ist_check_events.specs.Mirroring.{Mirrors}
-use Rattle.ist_check_events.proofs.RowLemmas.{behind, split_first}
+use Rattle.ist_check_fairness.proofs.BehindLemmas.{behind, split_first}
 use Rattle.ist_check_builds.proofs.PartCutLemmas.{from, from-drop, drop_min}
 
 -- the replica mirrors a snapshot with other rows, if these are the same

@@ -33,7 +33,7 @@ use Rattle.ist_core.specs.Logs.{Log}
 use Rattle.ist_core.specs.StartLayout.{start}
 use Rattle.ist_core.specs.Lawful.{Lawful, state_of}
 use Rattle.ist_core.proofs.RowLemmas.{changed_at-same}
-use Rattle.ist_check_events.specs.Answers.{Holds}
+use Rattle.ist_check_fairness.specs.Answers.{Holds}
 use Rattle.ist_check_events.specs.Remembering.{HasRefusal, KnowsRefusals, pair_key}
 use Rattle.ist_check_state.specs.Remembered.{Refuses}
 use Rattle.ist_check_state.proofs.DecisionLemmas.{came_step, came_decided, decided_stays}

@@ -19,7 +19,7 @@ use Rattle.ist_core.proofs.MoveLemmas.{HeldLieApart}
 use Rattle.ist_core.proofs.SoundLemmas.{sound}
 use Rattle.ist_core.proofs.StartLemmas.{sound_start}
 use Rattle.ist_core.proofs.StepLemmas.{known, grow_step}
-use Rattle.ist_check_events.specs.Answers.{Holds}
+use Rattle.ist_check_fairness.specs.Answers.{Holds}
 use Rattle.ist_check_events.specs.Remembering.{KnowsStarts}
 use Rattle.ist_check_state.specs.Remembered.{StartsRebuild}
 use Rattle.ist_check_state.proofs.DecisionLemmas.{came_step, came_decided, decided_stays}

@@ -58,7 +58,7 @@ use Rattle.ist_core.specs.declared.events.Event.TheVariants.{
   Lose,
 }
 use Rattle.ist_core.specs.Logs.{Log, Happened, Draws, Passes}
-use Rattle.ist_check_events.specs.Answers.{FindsGreatest, Holds}
+use Rattle.ist_check_fairness.specs.Answers.{FindsGreatest, Holds}
 use Rattle.ist_check_events.specs.Remembering.{pair_key, KnowsDraws, KnowsPasses}
 use Rattle.ist_check_state.specs.Remembered.{PassesAreOne}
 

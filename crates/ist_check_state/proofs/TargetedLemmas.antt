@@ -14,8 +14,8 @@ use Rattle.ist_core.specs.Marking.{HasTarget}
 use Rattle.ist_core.specs.StartLayout.{start}
 use Rattle.ist_core.specs.Lawful.{Lawful, state_of}
 use Rattle.ist_core.proofs.DrawLemmas.{finished_grows}
-use Rattle.ist_check_events.specs.Answers.{Holds}
-use Rattle.ist_check_events.specs.Remembering.{IsTargeted, KnowsTargets, HasFinishedTarget, GainsKeys}
+use Rattle.ist_check_fairness.specs.Answers.{Holds}
+use Rattle.ist_check_fairness.specs.Targets.{IsTargeted, KnowsTargets, HasFinishedTarget, GainsKeys}
 use Rattle.ist_check_state.specs.Remembered.{StartsFinished}
 use Rattle.ist_check_state.specs.Calls.{StartCalls}
 use Rattle.ist_check_state.proofs.StartedLemmas.{is_sound, rows_grow, start_stays, started_before}

@@ -5,7 +5,7 @@ ghost use Rattle.ist_core.specs.Snapshots.{Snapshot};
 ghost use Rattle.ist_core.specs.Logs.{Log};
 ghost use Rattle.ist_core.specs.Lawful.{Lawful, state_of};
 ghost use Rattle.ist_core.specs.Marking.{HasTarget};
-ghost use Rattle.ist_check_events.specs.Answers.{Holds};
+ghost use Rattle.ist_check_fairness.specs.Answers.{Holds};
 ghost use Rattle.ist_check_events.specs.Mirroring.{Mirrors};
 ghost use Rattle.ist_check_events.specs.Remembering.{KnowsCalls};
 ghost use Rattle.ist_check_state.specs.Calls.{StartCalls, WordCalls};

@@ -1,7 +1,7 @@
 //! Brings the checker's copy of a table forward by an event.
 //!
 //! Read `writes.rt`, then `advancing.rt`. Stands on `ist_core`, `ist_layout`, `ist_math`, `ist_image`,
-//! `ist_check_events` and `ist_check_builds`, and on the laws of `ist_links` and `ist_rebuilds`.
+//! `ist_check_fairness`, `ist_check_events` and `ist_check_builds`, and on the laws of `ist_links` and `ist_rebuilds`.
 #![tactic(auto)]
 
 mod advancing;
@@ -13,6 +13,7 @@ mod opening;
 mod placing;
 mod publishing;
 mod remembering;
+mod reserving;
 mod starting;
 mod targeting;
 mod updating;
@@ -28,6 +29,7 @@ pub use opening::open_replica;
 pub use placing::remember_leaves;
 pub use publishing::{put_as_inner, put_as_leaf, put_as_rebuild, put_change, put_inners};
 pub use remembering::{remember_build, remember_draw, remember_okay, remember_pass};
+pub use reserving::remember_sizes;
 pub use starting::{remember_refusal, remember_start};
 pub use targeting::{remember_lists, remember_target};
 pub use updating::remember_update;

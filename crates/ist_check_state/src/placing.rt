@@ -9,16 +9,18 @@ ghost use Rattle.ist_check_events.specs.Mirroring.{Mirrors};
 ghost use Rattle.ist_check_events.specs.Remembering.{KnowsLeaves};
 
 use ist_check_builds::add_leaves;
-use ist_check_events::{KeptLeaves, Replica, are_kept, finished_keys};
+use ist_check_events::{FoundLeaf, Replica, finished_keys, rebuild_of_word};
 use ist_core::Event;
+use ist_layout::FINISH_KIND;
 use std::alloc::{AllocError, Global};
+use std::collections::BTreeMap;
 
-/// Keeps the leaves of the target of the rebuild of which a part is placed, in the place of those of
-/// another. The replica is that of the state before.
+/// Keeps the leaves of the target of a rebuild of which a part is placed, and drops them when the
+/// rebuild is finished. The replica is that of the state before.
 pub fn remember_leaves(
     alloc: Global,
     replica: &Replica,
-    kept: &mut KeptLeaves,
+    kept: &mut BTreeMap<u64, Vec<FoundLeaf>>,
     event: &Event,
 ) -> Result<(), AllocError>
     ensures exact { OnOk result ((pairs : List APair) → (words : ℕ) → (log : Log)
@@ -27,17 +29,43 @@ pub fn remember_leaves(
         → KnowsLeaves kept.old (state_of pairs words log)
         → KnowsLeaves kept.new (state_of pairs words (event.now ∷ log))) }
 {
-    if let Event::Place { rebuild, .. } = event {
-        return keep_of_rebuild(alloc, replica, kept, *rebuild);
+    match event {
+        Event::Place { rebuild, .. } => keep_of_rebuild(alloc, replica, kept, *rebuild),
+        Event::Decide { change, .. } => {
+            drop_by_finish(replica, kept, *change);
+            Ok(())
+        }
+        _ => Ok(()),
     }
-    Ok(())
+}
+
+/// Drops the leaves of the target of the rebuild that the change finishes, if it finishes one.
+fn drop_by_finish(replica: &Replica, kept: &mut BTreeMap<u64, Vec<FoundLeaf>>, change: u64)
+    ensures exact { (t : Snapshot) → KnowsLeaves kept.old t → KnowsLeaves kept.new t }
+{
+    if let Some(row) = replica.changes.get(&change) {
+        if row.kind == FINISH_KIND {
+            drop_by_word(replica, kept, row.from);
+        }
+    }
+}
+
+/// Drops the leaves of the target of the rebuild that the word names, if it names one.
+fn drop_by_word(replica: &Replica, kept: &mut BTreeMap<u64, Vec<FoundLeaf>>, word: u64)
+    ensures exact { (t : Snapshot) → KnowsLeaves kept.old t → KnowsLeaves kept.new t }
+{
+    if let Some(rebuild) = rebuild_of_word(word) {
+        if let Some(row) = replica.rebuilds.get(&rebuild) {
+            kept.remove(&row.target);
+        }
+    }
 }
 
 /// Keeps the leaves of the target of a rebuild, if there is such a rebuild.
 fn keep_of_rebuild(
     alloc: Global,
     replica: &Replica,
-    kept: &mut KeptLeaves,
+    kept: &mut BTreeMap<u64, Vec<FoundLeaf>>,
     rebuild: u64,
 ) -> Result<(), AllocError>
     ensures exact { OnOk result ((t : Snapshot) → Mirrors replica.now t → KnowsLeaves kept.old t
@@ -53,13 +81,13 @@ fn keep_of_rebuild(
 fn keep_leaves(
     alloc: Global,
     replica: &Replica,
-    kept: &mut KeptLeaves,
+    kept: &mut BTreeMap<u64, Vec<FoundLeaf>>,
     node: u64,
 ) -> Result<(), AllocError>
     ensures exact { OnOk result ((t : Snapshot) → Mirrors replica.now t → KnowsLeaves kept.old t
         → KnowsLeaves kept.new t) }
 {
-    if are_kept(kept, node) {
+    if kept.contains_key(&node) {
         return Ok(());
     }
     match finished_keys(replica, node) {
@@ -72,7 +100,7 @@ fn keep_leaves(
 fn read_leaves(
     alloc: Global,
     replica: &Replica,
-    kept: &mut KeptLeaves,
+    kept: &mut BTreeMap<u64, Vec<FoundLeaf>>,
     node: u64,
 ) -> Result<(), AllocError>
     ensures exact { OnOk result ((t : Snapshot) (k : ℕ) → Mirrors replica.now t
@@ -80,10 +108,7 @@ fn read_leaves(
 {
     let mut leaves = Vec::new(alloc);
     if add_leaves(alloc, replica, node, &mut leaves)? {
-        *kept = KeptLeaves {
-            of: Some(node),
-            leaves,
-        };
+        kept.insert(node, leaves)?;
     }
     Ok(())
 }

@@ -4,7 +4,7 @@ ghost use Rattle.ist_core.specs.declared.pairs.Pair.{Pair as APair};
 ghost use Rattle.ist_core.specs.Snapshots.{Snapshot};
 ghost use Rattle.ist_core.specs.Logs.{Log};
 ghost use Rattle.ist_core.specs.Lawful.{Lawful, state_of};
-ghost use Rattle.ist_check_events.specs.Answers.{Holds};
+ghost use Rattle.ist_check_fairness.specs.Answers.{Holds};
 ghost use Rattle.ist_check_events.specs.Mirroring.{Mirrors};
 ghost use Rattle.ist_check_events.specs.Remembering.{KnowsRefusals, KnowsStarts, pair_key as the_key};
 ghost use Rattle.ist_check_state.specs.Remembered.{Refuses, StartsRebuild};

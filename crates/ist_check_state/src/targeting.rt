@@ -1,16 +1,18 @@
 //! What the checker remembers of the targets of started rebuilds, and the building lists for them.
-ghost use Rattle.std.specs.Prelude.{◌∷◌, ℕ, List, OnOk, map};
+ghost use Rattle.std.specs.Prelude.{◌∷◌, ℕ, List, OnOk};
 ghost use Rattle.ist_core.specs.declared.pairs.Pair.{Pair as APair};
 ghost use Rattle.ist_core.specs.Snapshots.{Snapshot};
 ghost use Rattle.ist_core.specs.Logs.{Log};
 ghost use Rattle.ist_core.specs.Lawful.{Lawful, state_of};
-ghost use Rattle.ist_check_events.specs.Answers.{FindsOne};
+ghost use Rattle.ist_check_fairness.specs.Answers.{FindsOne};
 ghost use Rattle.ist_check_events.specs.Mirroring.{Mirrors};
-ghost use Rattle.ist_check_events.specs.Remembering.{KnowsTargets, KnowsLists, GainsKeys};
+ghost use Rattle.ist_check_fairness.specs.Targets.{KnowsTargets, GainsKeys};
+ghost use Rattle.ist_check_fairness.specs.Knowing.{KnowsLists};
 ghost use Rattle.ist_check_state.specs.Remembered.{StartsFinished};
 
 use crate::calling::call_by_start;
-use ist_check_events::{Replica, add_keys, rebuild_of_word, target_keys};
+use ist_check_events::{Replica, rebuild_of_word, target_keys};
+use ist_check_fairness::{BuildingLists, add_keys};
 use ist_core::Event;
 use ist_layout::START_KIND;
 use std::alloc::{AllocError, Global};
@@ -47,30 +49,28 @@ pub fn remember_lists(
     alloc: Global,
     replica: &Replica,
     targets: &BTreeSet<u64>,
-    counts: &mut BTreeSet<u64>,
-    lists: &mut Vec<Vec<u64>>,
+    building: &mut BuildingLists,
     event: &Event,
 ) -> Result<(), AllocError>
     ensures exact { OnOk result ((pairs : List APair) → (words : ℕ) → (log : Log)
         → Lawful pairs words (event.now ∷ log)
         → Mirrors replica.now (state_of pairs words log)
         → KnowsTargets targets.now (state_of pairs words log)
-        → KnowsLists counts.old (map (λ v. v.items) lists.old.items) (state_of pairs words log)
-        → KnowsLists counts.new (map (λ v. v.items) lists.new.items)
-        (state_of pairs words (event.now ∷ log))) }
+        → KnowsLists building.old (state_of pairs words log)
+        → KnowsLists building.new (state_of pairs words (event.now ∷ log))) }
 {
     match event {
         Event::Decide { change, yes, .. } => {
             if !*yes {
                 return Ok(());
             }
-            list_by_start(alloc, replica, counts, lists, *change)
+            list_by_start(alloc, replica, building, *change)
         }
         Event::Finish { node, keys, .. } => {
             if !targets.contains(node) {
                 return Ok(());
             }
-            add_keys(alloc, counts, lists, *keys)
+            add_keys(alloc, building, *keys)
         }
         _ => Ok(()),
     }
@@ -81,18 +81,16 @@ pub fn remember_lists(
 fn list_by_start(
     alloc: Global,
     replica: &Replica,
-    counts: &mut BTreeSet<u64>,
-    lists: &mut Vec<Vec<u64>>,
+    building: &mut BuildingLists,
     change: u64,
 ) -> Result<(), AllocError>
     ensures exact { OnOk result ((t u : Snapshot) → Mirrors replica.now t
         → GainsKeys t u (StartsFinished t change)
-        → KnowsLists counts.old (map (λ v. v.items) lists.old.items) t
-        → KnowsLists counts.new (map (λ v. v.items) lists.new.items) u) }
+        → KnowsLists building.old t → KnowsLists building.new u) }
 {
     match keys_by_start(replica, change) {
         None => Ok(()),
-        Some(keys) => add_keys(alloc, counts, lists, keys),
+        Some(keys) => add_keys(alloc, building, keys),
     }
 }
 

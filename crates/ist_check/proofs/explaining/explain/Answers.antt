@@ -4,7 +4,7 @@ use Rattle.ist_core.specs.StartLayout.{start}
 use Rattle.ist_core.specs.Lawful.{Lawful, state_of}
 use Rattle.ist_check_events.specs.Mirroring.{Mirrors}
 use Rattle.ist_check_events.specs.Remembering.{KnowsSlots, KnowsWays}
-use Rattle.ist_check_events.proofs.AnswerLemmas.{if_ok}
+use Rattle.ist_check_fairness.proofs.AnswerLemmas.{if_ok}
 use Rattle.ist_check.specs.Knowing.{Knows}
 use Rattle.ist_check.proofs.CheckingLemmas.{reverse_more, found_fails, found_first, lawful_more}
 use Rattle.ist_check.proofs.CheckingLemmas.{known_more}

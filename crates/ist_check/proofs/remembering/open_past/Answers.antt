@@ -1,6 +1,4 @@
-use Rattle.std.proofs.Common.{◌∙◌, map, sym, subst}
 use Rattle.ist_core.specs.StartLayout.{start}
-use Rattle.ist_check_events.specs.Remembering.{KnowsLists}
 use Rattle.ist_check.proofs.OpeningLemmas as opening
 use Rattle.ist_check.proofs.remembering.open_past.Goals as goal
 
@@ -15,8 +13,7 @@ returns-clause-exact c pairs words opens mirrors =
       refused = opening.no_refusals pairs words c.new-6.result c.new-6.ensures.empty;
       started = opening.no_starts pairs words c.new-7.result c.new-7.ensures.empty;
       targets = opening.no_targets pairs words c.new-10.result c.new-10.ensures.empty;
-      lists = subst (λ items. KnowsLists c.new-11.result (map (λ v. v.items) items) (start pairs words))
-          (sym c.new-12.ensures.items) (opening.no_lists pairs words c.new-11.result c.new-11.ensures.empty);
+      lists = opening.no_lists pairs words c.no_lists.result c.no_lists.ensures.none;
       builds = opening.no_builds _ c.new-8.ensures.empty c.new-9.ensures.empty;
-      leaves = λ node e. absurd (opening.none_kept node (sym c.no_leaves.ensures.none ∙ e));
+      leaves = opening.no_leaves c.new-11.result c.new-11.ensures.empty (start pairs words);
     }

@@ -1,4 +1,5 @@
 use Rattle.std.proofs.Common.{◌∷◌}
+use Rattle.ist_core.specs.Lawful.{state_of}
 use Rattle.ist_core.proofs.FrozenLemmas as frozen
 use Rattle.ist_check_state.proofs.TableLemmas.{on_success}
 use Rattle.ist_check.proofs.remembering.remember.Goals as goal
@@ -18,7 +19,8 @@ returns-clause-exact c =
       refused = c.in_ok-remember_refusal.ensures.exact pairs words log law mirrors past.refused;
       started = c.in_ok-remember_start.ensures.exact pairs words log law mirrors past.started;
       targets = c.in_ok-remember_target.ensures.exact pairs words log law mirrors past.targets;
-      lists = c.in_ok-remember_lists.ensures.exact pairs words log law mirrors past.targets past.lists;
+      lists = c.in_ok-remember_lists.ensures.exact pairs words log law mirrors past.targets
+          (c.in_ok-remember_sizes.ensures.exact (state_of pairs words log) past.lists);
       builds = builds log past.builds;
       leaves = c.in_ok-remember_leaves.ensures.exact pairs words log law mirrors past.leaves;
     })

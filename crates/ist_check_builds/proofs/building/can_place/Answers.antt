@@ -1,7 +1,7 @@
 use Rattle.std.proofs.Common.{sym, subst}
 use Rattle.ist_core.specs.References.{unset_word}
 use Rattle.ist_check_events.specs.Mirroring.{RowHolds}
-use Rattle.ist_check_events.proofs.AnswerLemmas.{iff_trans, never, is_not}
+use Rattle.ist_check_fairness.proofs.AnswerLemmas.{iff_trans, never, is_not}
 use Rattle.ist_check_events.proofs.MirrorLemmas.{rebuild_stands}
 use Rattle.ist_check_builds.proofs.GatherLemmas.{if_ok, known_caller}
 use Rattle.ist_check_builds.proofs.PartFitLemmas.{part_fits, place_publishes, place_root}

@@ -1,5 +1,5 @@
 use Rattle.std.proofs.Common.{◌∙◌, sym}
-use Rattle.ist_check_events.proofs.AnswerLemmas.{iff_trans, never, is_not}
+use Rattle.ist_check_fairness.proofs.AnswerLemmas.{iff_trans, never, is_not}
 use Rattle.ist_check_events.proofs.MirrorLemmas.{rebuild_stands}
 use Rattle.ist_check_builds.proofs.GatherLemmas.{if_ok, known_caller}
 use Rattle.ist_check_builds.proofs.FitLemmas.{root_is, root_publishes, root_finished}

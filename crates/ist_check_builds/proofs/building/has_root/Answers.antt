@@ -1,5 +1,5 @@
 use Rattle.std.proofs.Common.{◌↔◌, IsTrue, true, subst}
-use Rattle.ist_check_events.proofs.AnswerLemmas.{iff_trans, never}
+use Rattle.ist_check_fairness.proofs.AnswerLemmas.{iff_trans, never}
 use Rattle.ist_check_builds.specs.Reading.{Gathers}
 use Rattle.ist_check_builds.specs.Built.{IsRootOf}
 use Rattle.ist_check_builds.proofs.FitLemmas.{Below, no_root, root_over}

@@ -1,5 +1,5 @@
 use Rattle.std.proofs.Common.{◌∙◌, sym}
-use Rattle.ist_check_events.proofs.AnswerLemmas.{iff_trans, never}
+use Rattle.ist_check_fairness.proofs.AnswerLemmas.{iff_trans, never}
 use Rattle.ist_check_builds.proofs.BuiltSizeLemmas.{nth_by_degree}
 use Rattle.ist_check_builds.proofs.PartFitLemmas.{no_such_part, such_part}
 use Rattle.ist_check_builds.proofs.building.is_part.Goals as goal

@@ -1,4 +1,4 @@
-use Rattle.ist_check_events.proofs.AnswerLemmas.{iff_trans, never, is_not}
+use Rattle.ist_check_fairness.proofs.AnswerLemmas.{iff_trans, never, is_not}
 use Rattle.ist_check_builds.proofs.building.may_publish.Goals as goal
 
 pub returns-then-not-holds_rows : goal.returns-then-not-holds_rows

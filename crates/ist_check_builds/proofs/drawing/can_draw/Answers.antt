@@ -1,7 +1,7 @@
 use Rattle.std.proofs.Common.{◌<◌, ◌≤◌, ◌↔◌, ℕ, IsTrue, sym, subst, arith}
 use Rattle.ist_core.specs.Logs.{Happened, Draws}
 use Rattle.ist_core.specs.Shapes.{share_from, share_from_is}
-use Rattle.ist_check_events.proofs.AnswerLemmas.{iff_trans, never}
+use Rattle.ist_check_fairness.proofs.AnswerLemmas.{iff_trans, never}
 use Rattle.ist_check_events.proofs.MirrorLemmas.{rebuild_stands}
 use Rattle.ist_check_builds.proofs.DrawLemmas.{draw_unfinished, draw_unshared, draw_is}
 use Rattle.ist_check_builds.proofs.drawing.can_draw.Goals as goal

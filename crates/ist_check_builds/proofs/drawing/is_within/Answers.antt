@@ -2,7 +2,7 @@ use Rattle.std.proofs.Common.{ℕ, subst, sym, arith}
 use Rattle.std.specs.Ordering.{nat_cmp}
 use Rattle.std.specs.BTreeMap as tree
 use Rattle.ist_core.specs.Logs.{Happened, Draws}
-use Rattle.ist_check_events.specs.Answers.{FindsGreatest}
+use Rattle.ist_check_fairness.specs.Answers.{FindsGreatest}
 use Rattle.ist_check_builds.proofs.DrawLemmas.{none_below, most_below}
 use Rattle.ist_check_builds.proofs.drawing.is_within.Goals as goal
 

@@ -1,8 +1,8 @@
 use Rattle.std.proofs.Common.{◌↔◌, IsTrue, get_or, subst, sym}
 use Rattle.ist_core.specs.Elements.{Among}
-use Rattle.ist_check_events.proofs.AnswerLemmas.{iff_trans, is_not, never}
+use Rattle.ist_check_fairness.proofs.AnswerLemmas.{iff_trans, is_not, never}
 use Rattle.ist_check_events.proofs.AmongLemmas.{any_among}
-use Rattle.ist_check_events.proofs.RowLemmas.{behind}
+use Rattle.ist_check_fairness.proofs.BehindLemmas.{behind}
 use Rattle.ist_check_builds.proofs.LoseLemmas.{distinct_first, distinct_not}
 use Rattle.ist_check_builds.proofs.giving_up.+are_distinct.Goals as goal
 

@@ -1,5 +1,5 @@
 use Rattle.std.proofs.Common.{◌<◌, refl, arith}
-use Rattle.ist_check_events.proofs.AnswerLemmas.{if_ok, iff_trans, is_not}
+use Rattle.ist_check_fairness.proofs.AnswerLemmas.{if_ok, iff_trans, is_not}
 use Rattle.ist_check_builds.proofs.LoseLemmas.{lose_pair, lose_is}
 use Rattle.ist_check_builds.proofs.giving_up.can_lose.Goals as goal
 

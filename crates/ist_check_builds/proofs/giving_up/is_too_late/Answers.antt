@@ -1,6 +1,6 @@
 use Rattle.std.proofs.Common.{sym, subst, map}
-use Rattle.ist_check_events.specs.Searching.{AreBuilding}
-use Rattle.ist_check_events.proofs.AnswerLemmas.{iff_trans}
+use Rattle.ist_check_fairness.specs.Searching.{AreBuilding}
+use Rattle.ist_check_fairness.proofs.AnswerLemmas.{iff_trans}
 use Rattle.ist_check_builds.proofs.LoseLemmas.{late_is}
 use Rattle.ist_check_builds.proofs.giving_up.is_too_late.Goals as goal
 
@@ -9,7 +9,7 @@ returns c =
     record {
       exact = λ t log s k.
           let lists = subst (λ xs. AreBuilding t (map (λ v. v.items) xs))
-          (sym c.as_slice.ensures.value) s.building in
+          (sym c.as_slice.ensures.value) s.lists in
           let beaten = (c.is_beaten.ensures.exact log k).0 c.if-not-is_beaten.false in
           iff_trans c.is_listed.ensures.exact
           (late_is t log c.args.caller c.args.sizes.now beaten _ lists);

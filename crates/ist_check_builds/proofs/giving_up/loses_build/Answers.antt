@@ -1,6 +1,6 @@
 use Rattle.std.proofs.Common.{subst}
 use Rattle.ist_check_builds.specs.Losing.{IsTooLate}
-use Rattle.ist_check_events.proofs.AnswerLemmas.{iff_trans, is_not, never}
+use Rattle.ist_check_fairness.proofs.AnswerLemmas.{iff_trans, is_not, never}
 use Rattle.ist_check_builds.proofs.LoseLemmas.{sizes_found, build_is, build_not}
 use Rattle.ist_check_builds.proofs.giving_up.loses_build.Goals as goal
 

@@ -1,5 +1,5 @@
 use Rattle.std.proofs.Common.{◌≡◌, length, arith}
-use Rattle.ist_check_events.proofs.AnswerLemmas.{iff_trans, is_not, never}
+use Rattle.ist_check_fairness.proofs.AnswerLemmas.{iff_trans, is_not, never}
 use Rattle.ist_check_builds.proofs.LoseLemmas.{pair_is, pair_not}
 use Rattle.ist_check_builds.proofs.giving_up.loses_pair.Goals as goal
 

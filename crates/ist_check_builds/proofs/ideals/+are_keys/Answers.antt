@@ -1,5 +1,5 @@
 use Rattle.std.proofs.Common.{◌↔◌, ◌≡◌, ◌∙◌, IsTrue, sym, subst}
-use Rattle.ist_check_events.proofs.AnswerLemmas.{never}
+use Rattle.ist_check_fairness.proofs.AnswerLemmas.{never}
 use Rattle.ist_check_builds.specs.Built.{key_of_leaf}
 use Rattle.ist_check_builds.proofs.PartCutLemmas.{keys_skip, keys_first, keys_some, rest_keys}
 use Rattle.ist_check_builds.proofs.PartCutLemmas.{none_begins, begins_so}

@@ -1,6 +1,6 @@
 use Rattle.std.proofs.Common.{◌≤◌, ◌∙◌, ap, length, Some, None, arith}
 use Rattle.ist_core.specs.References.{LeafAt}
-use Rattle.ist_check_events.proofs.RowLemmas.{behind}
+use Rattle.ist_check_fairness.proofs.BehindLemmas.{behind}
 use Rattle.ist_check_builds.proofs.BuiltLemmas as built
 use Rattle.ist_check_builds.proofs.BuiltPartLemmas as parts
 use Rattle.ist_check_builds.proofs.BuiltSizeLemmas as sizes

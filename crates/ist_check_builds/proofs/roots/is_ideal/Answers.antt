@@ -1,4 +1,4 @@
-use Rattle.ist_check_events.proofs.AnswerLemmas.{never}
+use Rattle.ist_check_fairness.proofs.AnswerLemmas.{never}
 use Rattle.ist_check_builds.specs.Built.{BuildsAt}
 use Rattle.ist_check_builds.proofs.RootLemmas.{none_whole, some_whole}
 use Rattle.ist_check_builds.proofs.roots.is_ideal.Goals as goal

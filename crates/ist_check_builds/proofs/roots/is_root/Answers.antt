@@ -1,4 +1,4 @@
-use Rattle.ist_check_events.proofs.AnswerLemmas.{iff_trans}
+use Rattle.ist_check_fairness.proofs.AnswerLemmas.{iff_trans}
 use Rattle.ist_check_builds.proofs.RootLemmas.{whole_is, top_is}
 use Rattle.ist_check_builds.proofs.roots.is_root.Goals as goal
 

@@ -1,4 +1,4 @@
-use Rattle.ist_check_events.proofs.AnswerLemmas.{never}
+use Rattle.ist_check_fairness.proofs.AnswerLemmas.{never}
 use Rattle.ist_check_builds.proofs.RootLemmas.{no_top_alone}
 use Rattle.ist_check_builds.proofs.roots.is_top_alone.Goals as goal
 

@@ -1,7 +1,7 @@
 use Rattle.std.proofs.Common.{◌≡◌, ◌≢◌, sym, subst, refl, arith}
 use Rattle.ist_core.specs.RowLayout.{anchor}
 use Rattle.ist_check_events.specs.Ways.{Climbs, at_top}
-use Rattle.ist_check_events.proofs.AnswerLemmas.{iff_trans, never, is_not}
+use Rattle.ist_check_fairness.proofs.AnswerLemmas.{iff_trans, never, is_not}
 use Rattle.ist_check_events.proofs.ClimbLemmas.{climbs_on, climbs_off, climbs_none}
 use Rattle.ist_check_events.proofs.climbing.climbs.Goals as goal
 

@@ -1,6 +1,6 @@
 use Rattle.std.proofs.Common.{◌≡◌, arith}
 use Rattle.ist_core.specs.RowLayout.{anchor}
-use Rattle.ist_check_events.proofs.AnswerLemmas.{iff_trans}
+use Rattle.ist_check_fairness.proofs.AnswerLemmas.{iff_trans}
 use Rattle.ist_check_events.proofs.WayLemmas.{child_of_row}
 use Rattle.ist_check_events.proofs.climbing.is_child_for.Goals as goal
 use Rattle.ist_check_events.proofs.climbing.is_child_for.Goals.{

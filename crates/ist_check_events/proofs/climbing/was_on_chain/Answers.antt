@@ -1,7 +1,7 @@
 use Rattle.std.proofs.Common.{◌≡◌, ◌↔◌, IsTrue, sym, subst, arith}
 use Rattle.std.proofs.lemmas.Bool.Decides.{nat_tests}
 use Rattle.ist_check_events.specs.Ways.{ClimbsBy}
-use Rattle.ist_check_events.proofs.AnswerLemmas.{iff_trans, never}
+use Rattle.ist_check_fairness.proofs.AnswerLemmas.{iff_trans, never}
 use Rattle.ist_check_events.proofs.WayLemmas.{comes_is}
 use Rattle.ist_check_events.proofs.ClimbLemmas.{comes_here, comes_low}
 use Rattle.ist_check_events.proofs.climbing.was_on_chain.Goals as goal

@@ -2,9 +2,9 @@ use Rattle.std.proofs.Common.{◌≡◌, ◌<◌, ◌∙◌, ℕ, Bool, true, fa
 use Rattle.std.specs.Ordering.{nat_cmp}
 use Rattle.std.specs.BTreeMap as tree
 use Rattle.ist_core.specs.Logs.{state}
-use Rattle.ist_check_events.specs.Answers.{Holds}
+use Rattle.ist_check_fairness.specs.Answers.{Holds}
 use Rattle.ist_check_events.specs.Remembering.{IsUncounted, LacksCount}
-use Rattle.ist_check_events.proofs.AnswerLemmas.{iff_trans, never}
+use Rattle.ist_check_fairness.proofs.AnswerLemmas.{iff_trans, never}
 use Rattle.ist_check_events.proofs.MirrorLemmas.{change_stands, no_change}
 use Rattle.ist_check_events.proofs.CountLemmas.{count_uncounted, count_is}
 use Rattle.ist_check_events.proofs.counting.can_count.Goals as goal

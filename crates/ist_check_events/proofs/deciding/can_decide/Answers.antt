@@ -1,6 +1,6 @@
 use Rattle.std.proofs.Common.{◌<◌, sym, arith, subst, ◌↔◌, IsTrue, not}
 use Rattle.ist_core.specs.Deciding.{MayBe}
-use Rattle.ist_check_events.proofs.AnswerLemmas.{iff_trans, not_so}
+use Rattle.ist_check_fairness.proofs.AnswerLemmas.{iff_trans, not_so}
 use Rattle.ist_check_events.proofs.MirrorLemmas.{change_stands}
 use Rattle.ist_check_events.proofs.DecisionLemmas.{decision_is}
 use Rattle.ist_check_events.proofs.deciding.can_decide.Goals as goal

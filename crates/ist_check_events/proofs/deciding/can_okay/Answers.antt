@@ -1,5 +1,5 @@
 use Rattle.std.proofs.Common.{◌<◌, sym, arith}
-use Rattle.ist_check_events.proofs.AnswerLemmas.{iff_trans}
+use Rattle.ist_check_fairness.proofs.AnswerLemmas.{iff_trans}
 use Rattle.ist_check_events.proofs.MirrorLemmas.{change_stands}
 use Rattle.ist_check_events.proofs.DecisionLemmas.{okay_is}
 use Rattle.ist_check_events.proofs.deciding.can_okay.Goals as goal

@@ -1,6 +1,6 @@
 use Rattle.std.proofs.Common.{◌<◌, ◌↔◌, IsTrue, sym, arith, subst}
 use Rattle.ist_core.specs.Slots.{SlotHolds}
-use Rattle.ist_check_events.proofs.AnswerLemmas.{iff_trans}
+use Rattle.ist_check_fairness.proofs.AnswerLemmas.{iff_trans}
 use Rattle.ist_check_events.proofs.MirrorLemmas.{change_stands}
 use Rattle.ist_check_events.proofs.DecisionLemmas.{resolve_is}
 use Rattle.ist_check_events.proofs.deciding.can_resolve.Goals as goal

@@ -2,7 +2,7 @@ use Rattle.std.proofs.Common.{◌∙◌, sym, ap}
 use Rattle.std.specs.BTreeMap.{is_at}
 use Rattle.std.specs.Map.{lookup}
 use Rattle.std.specs.Ordering.{nat_cmp}
-use Rattle.ist_check_events.proofs.AnswerLemmas.{never, iff_trans}
+use Rattle.ist_check_fairness.proofs.AnswerLemmas.{never, iff_trans}
 use Rattle.ist_check_events.proofs.HeldLemmas.{none_found, one_found}
 use Rattle.ist_check_events.proofs.held.has_row.Goals as goal
 

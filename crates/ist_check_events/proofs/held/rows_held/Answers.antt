@@ -1,5 +1,5 @@
 use Rattle.std.proofs.Common.{◌∙◌, map, ap}
-use Rattle.ist_check_events.proofs.AnswerLemmas.{if_ok}
+use Rattle.ist_check_fairness.proofs.AnswerLemmas.{if_ok}
 use Rattle.ist_check_events.proofs.LetGoLemmas.{values_by_base}
 use Rattle.ist_check_events.proofs.held.rows_held.Goals as goal
 

@@ -1,7 +1,7 @@
 use Rattle.std.proofs.Common.{◌≡◌, ◌<◌, ◌∙◌, Some, sym, ap, arith}
 use Rattle.ist_core.specs.Pieces.{change_of}
 use Rattle.ist_core.specs.Logs.{state}
-use Rattle.ist_check_events.proofs.AnswerLemmas.{iff_trans, is_not, never}
+use Rattle.ist_check_fairness.proofs.AnswerLemmas.{iff_trans, is_not, never}
 use Rattle.ist_check_events.proofs.InstallLemmas.{install_is, install_stands}
 use Rattle.ist_check_events.proofs.installing.can_install.Goals as goal
 

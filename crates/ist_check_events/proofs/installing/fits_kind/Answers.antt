@@ -1,7 +1,7 @@
 use Rattle.std.proofs.Common.{◌↔◌, refl}
 use Rattle.ist_core.specs.Logs.{state}
 use Rattle.ist_core.specs.Installing.{Finishes, FitsKind, a_put, a_pair, a_remove}
-use Rattle.ist_check_events.proofs.AnswerLemmas.{iff_trans, is_not}
+use Rattle.ist_check_fairness.proofs.AnswerLemmas.{iff_trans, is_not}
 use Rattle.ist_check_events.proofs.InstallLemmas.{fits_finish}
 use Rattle.ist_check_events.proofs.installing.fits_kind.Goals as goal
 use Rattle.ist_check_events.proofs.installing.fits_kind.Goals.{then-comes_by_key+else-puts_leaf+else-puts_pair+else-removes}

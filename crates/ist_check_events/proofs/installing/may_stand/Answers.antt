@@ -1,7 +1,7 @@
 use Rattle.std.proofs.Common.{◌≡◌, ◌↔◌, IsTrue, subst, arith}
 use Rattle.ist_core.specs.Logs.{state}
 use Rattle.ist_core.specs.Slots.{SlotHolds}
-use Rattle.ist_check_events.proofs.AnswerLemmas.{is_not, never}
+use Rattle.ist_check_fairness.proofs.AnswerLemmas.{is_not, never}
 use Rattle.ist_check_events.proofs.installing.may_stand.Goals as goal
 
 pub returns-then-not-slot_holds : goal.returns-then-not-slot_holds

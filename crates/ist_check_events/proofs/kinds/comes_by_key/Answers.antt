@@ -1,5 +1,5 @@
 use Rattle.ist_core.specs.Logs.{state}
-use Rattle.ist_check_events.proofs.AnswerLemmas.{iff_trans}
+use Rattle.ist_check_fairness.proofs.AnswerLemmas.{iff_trans}
 use Rattle.ist_check_events.proofs.KindLemmas.{key_is}
 use Rattle.ist_check_events.proofs.kinds.comes_by_key.Goals as goal
 

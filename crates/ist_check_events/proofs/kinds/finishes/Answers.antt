@@ -1,5 +1,5 @@
 use Rattle.std.proofs.Common.{arith}
-use Rattle.ist_check_events.proofs.AnswerLemmas.{iff_trans}
+use Rattle.ist_check_fairness.proofs.AnswerLemmas.{iff_trans}
 use Rattle.ist_check_events.proofs.KindLemmas.{empty_rows}
 use Rattle.ist_check_events.proofs.RebuildKindLemmas.{finishes_is}
 use Rattle.ist_check_events.proofs.kinds.finishes.Goals as goal

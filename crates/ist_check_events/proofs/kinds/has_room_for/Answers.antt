@@ -1,4 +1,4 @@
-use Rattle.ist_check_events.proofs.AnswerLemmas.{iff_trans, is_not}
+use Rattle.ist_check_fairness.proofs.AnswerLemmas.{iff_trans, is_not}
 use Rattle.ist_check_events.proofs.KindLemmas.{room_is}
 use Rattle.ist_check_events.proofs.kinds.has_room_for.Goals as goal
 

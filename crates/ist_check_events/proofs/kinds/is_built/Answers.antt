@@ -1,7 +1,7 @@
 use Rattle.std.proofs.Common.{◌↔◌, IsTrue, subst, sym, refl, arith}
 use Rattle.ist_core.specs.Elements.{Among}
 use Rattle.ist_core.specs.References.{unset_word}
-use Rattle.ist_check_events.proofs.AnswerLemmas.{iff_trans, not_so}
+use Rattle.ist_check_fairness.proofs.AnswerLemmas.{iff_trans, not_so}
 use Rattle.ist_check_events.proofs.MirrorLemmas.{inner_stands, no_inner}
 use Rattle.ist_check_events.proofs.AmongLemmas.{any_among}
 use Rattle.ist_check_events.proofs.RebuildKindLemmas.{built_is, built_alone}

@@ -1,5 +1,5 @@
 use Rattle.std.proofs.Common.{[], IsTrue, subst, sym, arith}
-use Rattle.ist_check_events.proofs.AnswerLemmas.{iff_trans}
+use Rattle.ist_check_fairness.proofs.AnswerLemmas.{iff_trans}
 use Rattle.ist_check_events.proofs.MirrorLemmas.{rebuild_stands}
 use Rattle.ist_check_events.proofs.RebuildKindLemmas.{finish_of_is}
 use Rattle.ist_check_events.proofs.kinds.is_finish_of.Goals as goal

@@ -1,4 +1,4 @@
-use Rattle.ist_check_events.proofs.AnswerLemmas.{never}
+use Rattle.ist_check_fairness.proofs.AnswerLemmas.{never}
 use Rattle.ist_check_events.proofs.KindLemmas.{names_is, names_none}
 use Rattle.ist_check_events.proofs.kinds.names_leaf_of.Goals as goal
 

@@ -1,6 +1,6 @@
 use Rattle.std.proofs.Common.{arith}
 use Rattle.ist_core.specs.Logs.{state}
-use Rattle.ist_check_events.proofs.AnswerLemmas.{iff_trans, is_not, never}
+use Rattle.ist_check_fairness.proofs.AnswerLemmas.{iff_trans, is_not, never}
 use Rattle.ist_check_events.proofs.KindLemmas.{puts_leaf_is, puts_leaf_not}
 use Rattle.ist_check_events.proofs.kinds.puts_leaf.Goals as goal
 

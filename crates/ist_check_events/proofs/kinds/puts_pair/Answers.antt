@@ -1,6 +1,6 @@
 use Rattle.std.proofs.Common.{arith}
 use Rattle.ist_core.specs.Logs.{state}
-use Rattle.ist_check_events.proofs.AnswerLemmas.{iff_trans, never}
+use Rattle.ist_check_fairness.proofs.AnswerLemmas.{iff_trans, never}
 use Rattle.ist_check_events.proofs.KindLemmas.{puts_pair_is, puts_pair_none, puts_pair_same}
 use Rattle.ist_check_events.proofs.kinds.puts_pair.Goals as goal
 

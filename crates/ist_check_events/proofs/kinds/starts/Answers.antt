@@ -1,5 +1,5 @@
 use Rattle.std.proofs.Common.{arith}
-use Rattle.ist_check_events.proofs.AnswerLemmas.{iff_trans, is_not, never}
+use Rattle.ist_check_fairness.proofs.AnswerLemmas.{iff_trans, is_not, never}
 use Rattle.ist_check_events.proofs.RebuildKindLemmas.{starts_is, starts_not}
 use Rattle.ist_check_events.proofs.kinds.starts.Goals as goal
 

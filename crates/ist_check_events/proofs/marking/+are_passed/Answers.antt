@@ -1,5 +1,5 @@
 use Rattle.std.proofs.Common.{arith}
-use Rattle.ist_check_events.proofs.AnswerLemmas.{iff_trans, never, is_zero}
+use Rattle.ist_check_fairness.proofs.AnswerLemmas.{iff_trans, never, is_zero}
 use Rattle.ist_check_events.proofs.MarkLemmas.{passed_none, passed_first, passed_beyond}
 use Rattle.ist_check_events.proofs.MarkLemmas.{passed_without}
 use Rattle.ist_check_events.proofs.marking.+are_passed.Goals as goal

@@ -1,6 +1,6 @@
 use Rattle.std.proofs.Common.{◌<◌, ◌↔◌, IsTrue, sym, arith, subst}
 use Rattle.ist_core.specs.Marking.{IsCalled}
-use Rattle.ist_check_events.proofs.AnswerLemmas.{iff_trans}
+use Rattle.ist_check_fairness.proofs.AnswerLemmas.{iff_trans}
 use Rattle.ist_check_events.proofs.MirrorLemmas.{inner_stands}
 use Rattle.ist_check_events.proofs.MarkLemmas.{mark_is}
 use Rattle.ist_check_events.proofs.marking.can_mark.Goals as goal

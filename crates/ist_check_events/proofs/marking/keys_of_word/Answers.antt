@@ -5,7 +5,7 @@ use Rattle.ist_core.specs.Rebuilding.{IsFinishedWith}
 use Rattle.ist_core.specs.Marking.{CountsFor}
 use Rattle.ist_layout.specs.Meanings.{ref_meant}
 use Rattle.ist_check_events.specs.Passing.{TargetFinishedWith}
-use Rattle.ist_check_events.proofs.AnswerLemmas.{finds_same}
+use Rattle.ist_check_fairness.proofs.AnswerLemmas.{finds_same}
 use Rattle.ist_check_events.proofs.MarkLemmas.{counts_empty, counts_leaf, counts_inner}
 use Rattle.ist_check_events.proofs.MarkLemmas.{counts_rebuild}
 use Rattle.ist_check_events.proofs.marking.keys_of_word.Goals as goal

@@ -2,7 +2,7 @@ use Rattle.std.proofs.Common.{◌≡◌, sym, subst, Some, None, arith}
 use Rattle.std.specs.Ordering.{nat_cmp}
 use Rattle.std.specs.BTreeMap as tree
 use Rattle.ist_check_events.specs.Remembering.{pair_key}
-use Rattle.ist_check_events.proofs.AnswerLemmas.{finds_same}
+use Rattle.ist_check_fairness.proofs.AnswerLemmas.{finds_same}
 use Rattle.ist_check_events.proofs.MarkLemmas.{pass_counts, none_passed}
 use Rattle.ist_check_events.proofs.marking.passed_keys.Goals as goal
 

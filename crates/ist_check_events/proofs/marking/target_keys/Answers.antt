@@ -1,5 +1,5 @@
 use Rattle.std.proofs.Common.{sym}
-use Rattle.ist_check_events.proofs.AnswerLemmas.{finds_same}
+use Rattle.ist_check_fairness.proofs.AnswerLemmas.{finds_same}
 use Rattle.ist_check_events.proofs.MirrorLemmas.{rebuild_stands}
 use Rattle.ist_check_events.proofs.MarkLemmas.{target_is}
 use Rattle.ist_check_events.proofs.marking.target_keys.Goals as goal

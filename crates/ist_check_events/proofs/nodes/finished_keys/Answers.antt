@@ -1,5 +1,5 @@
 use Rattle.std.proofs.Common.{sym}
-use Rattle.ist_check_events.proofs.AnswerLemmas.{finds_same}
+use Rattle.ist_check_fairness.proofs.AnswerLemmas.{finds_same}
 use Rattle.ist_check_events.proofs.MirrorLemmas.{inner_stands}
 use Rattle.ist_check_events.proofs.MarkLemmas.{finished_is}
 use Rattle.ist_check_events.proofs.nodes.finished_keys.Goals as goal

@@ -1,5 +1,5 @@
 use Rattle.std.proofs.Common.{refl}
-use Rattle.ist_check_events.proofs.AnswerLemmas.{is_not, iff_trans}
+use Rattle.ist_check_fairness.proofs.AnswerLemmas.{is_not, iff_trans}
 use Rattle.ist_check_events.proofs.DecisionLemmas.{slot_of_row, slot_of_anchor}
 use Rattle.ist_check_events.proofs.nodes.slot_holds.Goals as goal
 

@@ -1,6 +1,6 @@
 use Rattle.std.proofs.Common.{◌≡◌, ◌∙◌, get_or, length, sym, arith, eq-eqb}
 use Rattle.ist_core.specs.References.{LeafAt, word_of}
-use Rattle.ist_check_events.proofs.AnswerLemmas.{is_equal}
+use Rattle.ist_check_fairness.proofs.AnswerLemmas.{is_equal}
 use Rattle.ist_check_events.proofs.RowLemmas.{pair_over_is}
 use Rattle.ist_check_events.proofs.pairs.is_pair_over.Goals as goal
 

@@ -1,6 +1,6 @@
 use Rattle.std.proofs.Common.{◌↔◌, IsTrue, subst, length}
 use Rattle.ist_core.specs.Snapshots.{HoldsRow}
-use Rattle.ist_check_events.proofs.AnswerLemmas.{iff_trans, never, is_not}
+use Rattle.ist_check_fairness.proofs.AnswerLemmas.{iff_trans, never, is_not}
 use Rattle.ist_check_events.proofs.RowLemmas.{holds_first, lacks_first}
 use Rattle.ist_check_events.proofs.rows.+holds_rows.Goals as goal
 

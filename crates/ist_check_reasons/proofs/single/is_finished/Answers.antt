@@ -1,6 +1,6 @@
 use Rattle.std.proofs.Common.{sym, subst}
 use Rattle.ist_core.specs.Rebuilding.{IsFinishedWith}
-use Rattle.ist_check_events.proofs.AnswerLemmas.{never}
+use Rattle.ist_check_fairness.proofs.AnswerLemmas.{never}
 use Rattle.ist_check_events.proofs.MirrorLemmas.{rebuild_stands, one_rebuild}
 use Rattle.ist_check_reasons.proofs.single.is_finished.Goals as goal
 

@@ -1,6 +1,6 @@
 use Rattle.std.proofs.Common.{◌↔◌, IsTrue, sym, subst, refl}
 use Rattle.ist_check_events.specs.Remembering.{LacksCount}
-use Rattle.ist_check_events.proofs.AnswerLemmas.{iff_trans, never, not_so}
+use Rattle.ist_check_fairness.proofs.AnswerLemmas.{iff_trans, never, not_so}
 use Rattle.ist_check_reasons.proofs.single.is_uncounted.Goals as goal
 
 pub returns-in-None : goal.returns-in-None

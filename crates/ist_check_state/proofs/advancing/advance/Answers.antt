@@ -3,7 +3,7 @@ use Rattle.ist_core.specs.Pieces.{with_inners, changed_at, with_root, as_rebuild
 use Rattle.ist_core.specs.Snapshots.{bases_of, without}
 use Rattle.ist_core.specs.After.{installed, placed}
 use Rattle.ist_check_events.specs.Mirroring.{Mirrors}
-use Rattle.ist_check_events.proofs.AnswerLemmas.{on_ok}
+use Rattle.ist_check_fairness.proofs.AnswerLemmas.{on_ok}
 use Rattle.ist_check_state.proofs.EventLemmas.{by_event, installed_given_up, takes_none}
 use Rattle.ist_check_state.proofs.advancing.advance.Goals as goal
 

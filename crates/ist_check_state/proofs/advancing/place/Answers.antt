@@ -2,7 +2,7 @@ use Rattle.std.proofs.Common.{◌≡◌, ◌∙◌, subst}
 use Rattle.ist_core.specs.Pieces.{as_rebuild, with_inners}
 use Rattle.ist_core.specs.After.{placed}
 use Rattle.ist_check_events.specs.Mirroring.{Mirrors}
-use Rattle.ist_check_events.proofs.AnswerLemmas.{on_ok}
+use Rattle.ist_check_fairness.proofs.AnswerLemmas.{on_ok}
 use Rattle.ist_check_state.proofs.advancing.place.Goals as goal
 
 pub returns : goal.returns

@@ -1,5 +1,5 @@
 use Rattle.ist_core.specs.Pieces.{with_inners, changed_at, with_root}
-use Rattle.ist_check_events.proofs.AnswerLemmas.{on_ok}
+use Rattle.ist_check_fairness.proofs.AnswerLemmas.{on_ok}
 use Rattle.ist_check_state.proofs.advancing.root.Goals as goal
 
 pub returns : goal.returns

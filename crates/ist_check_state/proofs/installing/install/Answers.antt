@@ -1,7 +1,7 @@
 use Rattle.std.proofs.Common.{◌∙◌, Some, ap, refl}
 use Rattle.ist_core.specs.Pieces.{Change, change_of, with_row}
 use Rattle.ist_core.specs.After.{with_fresh}
-use Rattle.ist_check_events.proofs.RowLemmas.{behind}
+use Rattle.ist_check_fairness.proofs.BehindLemmas.{behind}
 use Rattle.ist_check_state.proofs.FreshLemmas.{install_is}
 use Rattle.ist_check_state.proofs.installing.install.Goals as goal
 

@@ -1,6 +1,6 @@
 use Rattle.std.proofs.Common.{ap}
 use Rattle.ist_core.specs.Pieces.{leaf_of, inner_of, with_row}
-use Rattle.ist_check_events.proofs.AnswerLemmas.{on_ok}
+use Rattle.ist_check_fairness.proofs.AnswerLemmas.{on_ok}
 use Rattle.ist_check_state.proofs.PublishLemmas.{mirrors_row}
 use Rattle.ist_check_state.proofs.FreshLemmas.{one_row, two_rows, one_fresh, two_fresh}
 use Rattle.ist_check_state.proofs.installing.put_fresh.Goals as goal

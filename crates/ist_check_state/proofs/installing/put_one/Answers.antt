@@ -1,6 +1,6 @@
 use Rattle.std.proofs.Common.{◌∙◌, ap}
 use Rattle.ist_core.specs.Pieces.{leaf_of, rebuild_of}
-use Rattle.ist_check_events.proofs.AnswerLemmas.{on_ok}
+use Rattle.ist_check_fairness.proofs.AnswerLemmas.{on_ok}
 use Rattle.ist_check_state.proofs.PublishLemmas.{mirrors_row}
 use Rattle.ist_check_state.proofs.FreshLemmas.{start_chosen, other_chosen}
 use Rattle.ist_check_state.proofs.installing.put_one.Goals as goal

@@ -1,6 +1,6 @@
 use Rattle.std.proofs.Common.{◌≡◌, ◌∙◌, ◌-◌, ◌<◌, ap, arith, subst, length}
 use Rattle.ist_core.specs.Arithmetic.{degree}
-use Rattle.ist_check_events.proofs.AnswerLemmas.{on_ok}
+use Rattle.ist_check_fairness.proofs.AnswerLemmas.{on_ok}
 use Rattle.ist_image.specs.Placing.{rows_behind, part_base}
 use Rattle.ist_image.proofs.PlacingSizeLemmas.{part_base-last, part_fits_at}
 use Rattle.ist_image.proofs.PlacedLemmas.{length-cut_part, cut_part}

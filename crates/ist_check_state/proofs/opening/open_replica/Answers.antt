@@ -3,7 +3,8 @@ use Rattle.ist_core.specs.RowLayout.{first_row}
 use Rattle.ist_core.specs.References.{word_of}
 use Rattle.ist_core.specs.StartLayout.{start, tree_at}
 use Rattle.ist_image.proofs.PlacingSizeLemmas.{few_fit, opens_fit}
-use Rattle.ist_check_state.proofs.LaidLemmas.{opened, none_found}
+use Rattle.ist_check_fairness.proofs.AnswerLemmas.{finds_none}
+use Rattle.ist_check_state.proofs.LaidLemmas.{opened}
 use Rattle.ist_check_state.proofs.opening.open_replica.Goals as goal
 
 pub ideal_words-requires : goal.ideal_words-requires
@@ -31,10 +32,10 @@ returns c =
             callers = refl;
             anchor = c.word_at.ensures.value pairs refl ∙ ap (λ base. word_of (tree_at base pairs))
                 first;
-            leaves = λ base. none_found c.new.result base c.new.ensures.empty;
-            inners = λ base. none_found c.new-2.result base c.new-2.ensures.empty;
-            changes = λ base. none_found c.new-3.result base c.new-3.ensures.empty;
-            rebuilds = λ base. none_found c.new-4.result base c.new-4.ensures.empty;
+            leaves = λ base. finds_none c.new.result base c.new.ensures.empty;
+            inners = λ base. finds_none c.new-2.result base c.new-2.ensures.empty;
+            changes = λ base. finds_none c.new-3.result base c.new-3.ensures.empty;
+            rebuilds = λ base. finds_none c.new-4.result base c.new-4.ensures.empty;
             held = c.no_rows.ensures.none;
           });
     }

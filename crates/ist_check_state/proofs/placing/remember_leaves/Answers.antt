@@ -12,8 +12,16 @@ returns-in-Place c =
           c.keep_of_rebuild.ensures.exact;
     }
 
-pub returns : goal.returns
-returns c =
+pub returns-in-Decide : goal.returns-in-Decide
+returns-in-Decide c =
+    record {
+      exact = λ pairs words log law mirrors known. kept_on pairs words log c.args.event.now law
+          c.drop_by_finish.new.kept
+          (c.drop_by_finish.ensures.exact (state_of pairs words log) known);
+    }
+
+pub returns-in_default : goal.returns-in_default
+returns-in_default c =
     record {
       exact = λ pairs words log law mirrors known. kept_on pairs words log c.args.event.now law
           c.args.kept.now known;

@@ -1,8 +1,8 @@
 use Rattle.std.proofs.Common.{subst}
 use Rattle.ist_core.specs.Pieces.{inner_of, with_row, with_inners}
 use Rattle.ist_check_events.specs.Mirroring.{Mirrors}
-use Rattle.ist_check_events.proofs.AnswerLemmas.{on_ok}
-use Rattle.ist_check_events.proofs.RowLemmas.{behind}
+use Rattle.ist_check_fairness.proofs.AnswerLemmas.{on_ok}
+use Rattle.ist_check_fairness.proofs.BehindLemmas.{behind}
 use Rattle.ist_check_state.proofs.PublishLemmas.{first_published}
 use Rattle.ist_check_state.proofs.publishing.+put_inners.Goals as goal
 

@@ -1,4 +1,4 @@
-use Rattle.ist_check_events.proofs.AnswerLemmas.{on_ok}
+use Rattle.ist_check_fairness.proofs.AnswerLemmas.{on_ok}
 use Rattle.ist_check_state.proofs.PublishLemmas.{mirrors_row, long_words}
 use Rattle.ist_check_state.proofs.publishing.put_as_inner.Goals as goal
 

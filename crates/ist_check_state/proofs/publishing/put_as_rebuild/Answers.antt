@@ -1,5 +1,5 @@
 use Rattle.std.proofs.Common.{arith}
-use Rattle.ist_check_events.proofs.AnswerLemmas.{on_ok}
+use Rattle.ist_check_fairness.proofs.AnswerLemmas.{on_ok}
 use Rattle.ist_check_state.proofs.PublishLemmas.{mirrors_row, five_words}
 use Rattle.ist_check_state.proofs.publishing.put_as_rebuild.Goals as goal
 

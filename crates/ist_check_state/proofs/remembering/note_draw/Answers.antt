@@ -3,7 +3,7 @@ use Rattle.std.specs.Ordering.{nat_cmp}
 use Rattle.std.specs.BTreeMap as tree
 use Rattle.ist_core.specs.Logs.{Happened, Draws}
 use Rattle.ist_core.specs.declared.events.Event.TheVariants.{Draw}
-use Rattle.ist_check_events.specs.Answers.{FindsGreatest}
+use Rattle.ist_check_fairness.specs.Answers.{FindsGreatest}
 use Rattle.ist_check_state.proofs.TableLemmas.{draw_known, most_first, most_later}
 use Rattle.ist_check_state.proofs.remembering.note_draw.Goals as goal
 use Rattle.ist_check_state.proofs.remembering.note_draw.Goals.{in-None, in-Some}

@@ -1,6 +1,6 @@
 use Rattle.std.proofs.Common.{◌∙◌, sym, ap, inl, inr, ⊎_elim}
 use Rattle.ist_check_events.specs.Remembering.{pair_key}
-use Rattle.ist_check_events.proofs.TargetLemmas.{held_behind}
+use Rattle.ist_check_fairness.proofs.TargetLemmas.{held_behind}
 use Rattle.ist_check_state.proofs.TableLemmas.{pair_once}
 use Rattle.ist_check_state.proofs.starting.put_refusal.Goals as goal
 

@@ -1,5 +1,5 @@
 use Rattle.std.proofs.Common.{sym}
-use Rattle.ist_check_events.proofs.AnswerLemmas.{finds_same}
+use Rattle.ist_check_fairness.proofs.AnswerLemmas.{finds_same}
 use Rattle.ist_check_events.proofs.MirrorLemmas.{change_stands}
 use Rattle.ist_check_state.proofs.CallingLemmas.{start_finished}
 use Rattle.ist_check_state.proofs.targeting.keys_by_start.Goals as goal

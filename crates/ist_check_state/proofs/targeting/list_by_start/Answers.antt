@@ -1,5 +1,4 @@
-use Rattle.std.proofs.Common.{map}
-use Rattle.ist_check_events.proofs.TargetLemmas.{lists_stay}
+use Rattle.ist_check_fairness.proofs.TargetLemmas.{lists_stay}
 use Rattle.ist_check_state.specs.Remembered.{StartsFinished}
 use Rattle.ist_check_state.proofs.TableLemmas.{on_success}
 use Rattle.ist_check_state.proofs.ListingLemmas.{gains_one}
@@ -9,8 +8,7 @@ pub returns-in-None : goal.returns-in-None
 returns-in-None c =
     record {
       exact = λ t u mirrors gains known.
-          lists_stay t u (StartsFinished t c.args.change) gains c.args.counts.now
-          (map (λ v. v.items) c.args.lists.now.items)
+          lists_stay t u (StartsFinished t c.args.change) gains c.args.building.now
           (λ k starts. absurd (c.in-None.ensures.exact t mirrors k starts)) known;
     }
 

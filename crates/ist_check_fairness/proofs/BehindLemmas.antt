@@ -1,0 +1,22 @@
+-- Some elements are the first one and those behind it.
+use Rattle.std.proofs.Common.{◌≡◌, ◌∙◌, ◌≤◌, ◌-◌, ℕ, List, [], ◌∷◌, length, take, drop, get_or}
+use Rattle.std.proofs.Common.{refl, sym, ap, arith}
+use Rattle.std.proofs.lemmas.List.{take_all}
+
+module _ {A : Type 0} where
+  -- what is behind the first of some elements
+  abbrev pub behind : List A → List A
+  behind xs = take (length xs - 1) (drop 1 xs)
+
+  -- some elements are the first and those behind it
+  pub split_first : (xs : List A) (x : A) → 1 ≤ length xs → x ≡ get_or xs 0 x → xs ≡ x ∷ behind xs
+  split_first [] x n e = absurd (omega arith)
+  split_first (y ∷ ys) x n e =
+      let l : length (y ∷ ys) - 1 ≡ length ys = omega arith in
+      ap (λ z. z ∷ ys) (sym e) ∙ ap (λ zs. x ∷ zs)
+      (sym (ap (λ k. take k ys) l ∙ take_all (length ys) ys (omega arith)))
+
+-- some numbers are the first and those behind it
+pub first_behind : (xs : List ℕ) → 1 ≤ length xs → get_or xs 0 0 ∷ behind xs ≡ xs
+first_behind [] n = absurd (omega arith)
+first_behind (y ∷ ys) n = sym (split_first (y ∷ ys) y n refl)

@@ -1,0 +1,11 @@
+pub mod AnswerLemmas
+pub mod BehindLemmas
+pub mod SpareLemmas
+pub mod FairLemmas
+pub mod AddedLemmas
+pub mod ReadingLemmas
+pub mod RestLemmas
+pub mod KeepingLemmas
+pub mod ListLemmas
+pub mod BuildLemmas
+pub mod TargetLemmas

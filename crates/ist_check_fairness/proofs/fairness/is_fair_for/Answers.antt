@@ -1,0 +1,23 @@
+use Rattle.std.proofs.Common.{map, refl, sym, subst}
+use Rattle.ist_check_fairness.specs.Searching.{AreBuilding}
+use Rattle.ist_check_fairness.proofs.AnswerLemmas.{if_ok}
+use Rattle.ist_check_fairness.proofs.FairLemmas.{spare_is_fair}
+use Rattle.ist_check_fairness.proofs.fairness.is_fair_for.Goals as goal
+
+pub returns-then-are_all_spare : goal.returns-then-are_all_spare
+returns-then-are_all_spare c =
+    record {
+      exact = λ t k w. (
+        (λ _. spare_is_fair t c.args.sizes.now
+            (c.are_all_spare.ensures.exact.0 c.if-are_all_spare.true)),
+        (λ _. refl),
+      );
+    }
+
+pub returns : goal.returns
+returns c =
+    record {
+      exact = if_ok c.is_fair.result _ _
+          (λ b f t k w. f t (subst (λ xs. AreBuilding t (map (λ v. v.items) xs))
+          (sym c.as_slice.ensures.value) k.lists) w) c.is_fair.ensures.exact;
+    }

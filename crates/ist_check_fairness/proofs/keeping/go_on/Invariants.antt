@@ -1,0 +1,8 @@
+use Rattle.std.proofs.Common.{map}
+use Rattle.ist_check_fairness.specs.Keeping.{IsKept}
+use Rattle.ist_check_fairness.proofs.keeping.go_on.Given as goal
+
+-- what is kept so far is right, where it was
+abbrev pub invariant-loop-size : goal.invariant-loop-size
+invariant-loop-size l = IsKept (map (λ v. v.items) l.lists) l.initial.kept
+    → IsKept (map (λ v. v.items) l.lists) l.kept

@@ -1,0 +1,214 @@
+//! What is kept of the readings of the sizes that callers hold, so that they aren't read anew for a row
+//! more, nor where the last rows are held no longer.
+//!
+//! They are readings with room for every row, so that no list is left for another, and by the building
+//! lists that there were when they were begun. Such a reading is one with less room too, and beside
+//! more lists. Where none goes on, all sizes are to be read anew.
+ghost use Rattle.std.specs.Prelude.{◌≡◌, ◌+◌, ◌-◌, ◌<◌, ◌≤◌, ◌^◌, ℕ, IsTrue, IfOk, OnOk, List, [], map, take, length, slice_index_or};
+ghost use Rattle.ist_core.specs.Snapshots.{Snapshot};
+ghost use Rattle.ist_core.specs.Fairness.{IsFair};
+ghost use Rattle.ist_check_fairness.specs.Keeping.{IsKept, KnowsReadings};
+ghost use Rattle.ist_check_fairness.specs.Knowing.{KnowsLists};
+
+use crate::lists::BuildingLists;
+use crate::readings::{Reading, first_readings, read_further, read_on};
+use crate::spares::are_all_spare;
+use std::alloc::{AllocError, Global};
+use std::collections::BTreeMap;
+
+/// What the readings of some sizes leave.
+#[derive(Drop)]
+pub struct KeptReadings {
+    /// How many building lists there were.
+    pub lists: usize,
+    /// The sizes.
+    pub sizes: Vec<u64>,
+    /// What is left before each of them, and behind the last.
+    pub left: Vec<Vec<Reading>>,
+}
+
+/// How many sizes both lists begin with.
+fn common_len(xs: &[u64], ys: &[u64]) -> usize
+    ensures within { (result ≤ length xs.now) × (result ≤ length ys.now) }
+    ensures same { take result xs.now ≡ take result ys.now }
+{
+    let len = xs.len().min(ys.len());
+    for n in 0..len {
+        if xs[n] != ys[n] {
+            return n;
+        }
+    }
+    len
+}
+
+/// What is left behind the first `n` sizes, and nothing where so many aren't kept.
+fn left_at(left: &[Vec<Reading>], n: usize) -> &[Reading]
+    ensures value { result.now ≡ slice_index_or (map (λ v. v.items) left.now) n [] }
+{
+    match left.get(n) {
+        None => &[],
+        Some(readings) => readings.as_slice(),
+    }
+}
+
+/// The first `n` of the lists.
+fn first_lists(lists: &[Vec<u64>], n: usize) -> &[Vec<u64>]
+    ensures value { n ≤ length lists.now → result.now ≡ take n lists.now }
+{
+    if n > lists.len() {
+        return lists;
+    }
+    &lists[..n]
+}
+
+/// Can the sizes be read on from those that are kept for the caller? It may be that none are.
+pub(crate) fn goes_on(
+    alloc: Global,
+    building: &BuildingLists,
+    caller: u64,
+    sizes: &[u64],
+) -> Result<bool, AllocError>
+    ensures fair { IfOk result (λ goes. IsTrue goes → (t : Snapshot) (room : ℕ)
+        → KnowsLists building.now t → t.words ≡ t.next + room → room < 2 ^ 64
+        → IsFair t sizes.now) }
+{
+    match building.kept.get(&caller) {
+        None => Ok(false),
+        Some(kept) => {
+            let n = common_len(kept.sizes.as_slice(), sizes);
+            let lists = first_lists(building.lists.as_slice(), kept.lists);
+            let left = left_at(kept.left.as_slice(), n);
+            let readings = read_further(alloc, lists, u64::MAX, left, &sizes[n..])?;
+            Ok(!readings.is_empty())
+        }
+    }
+}
+
+/// Keeps the readings of the sizes that a caller comes to hold, but not those of one row, nor of spare
+/// rows alone.
+pub fn keep_readings(
+    alloc: Global,
+    building: &mut BuildingLists,
+    caller: u64,
+    sizes: &[u64],
+) -> Result<(), AllocError>
+    ensures exact { OnOk result ((t : Snapshot) → KnowsLists building.old t
+        → KnowsLists building.new t) }
+{
+    if sizes.len() < 2 || are_all_spare(sizes) {
+        return Ok(());
+    }
+    keep(
+        alloc,
+        building.lists.as_slice(),
+        &mut building.kept,
+        caller,
+        sizes,
+    )
+}
+
+/// Keeps the readings of the sizes for the caller.
+fn keep(
+    alloc: Global,
+    lists: &[Vec<u64>],
+    all: &mut BTreeMap<u64, KeptReadings>,
+    caller: u64,
+    sizes: &[u64],
+) -> Result<(), AllocError>
+    ensures kept { OnOk result (KnowsReadings all.old (map (λ v. v.items) lists.now)
+        → KnowsReadings all.new (map (λ v. v.items) lists.now)) }
+{
+    match all.get_mut(&caller) {
+        None => {
+            all.insert(caller, read_anew(alloc, lists, sizes)?)?;
+            Ok(())
+        }
+        Some(kept) => change_to(alloc, lists, kept, sizes),
+    }
+}
+
+/// What is kept where the sizes are read from the first on.
+fn read_anew(alloc: Global, lists: &[Vec<u64>], sizes: &[u64]) -> Result<KeptReadings, AllocError>
+    ensures kept { IfOk result (λ kept. IsKept (map (λ v. v.items) lists.now) kept) }
+{
+    let mut kept = none_read(alloc, lists)?;
+    go_on(alloc, lists, &mut kept, sizes)?;
+    Ok(kept)
+}
+
+/// What is kept before any size is read.
+fn none_read(alloc: Global, lists: &[Vec<u64>]) -> Result<KeptReadings, AllocError>
+    ensures kept { IfOk result (λ kept. IsKept (map (λ v. v.items) lists.now) kept) }
+{
+    let mut left = Vec::new(alloc);
+    left.push(first_readings(alloc, lists)?)?;
+    Ok(KeptReadings {
+        lists: lists.len(),
+        sizes: Vec::new(alloc),
+        left,
+    })
+}
+
+/// Keeps the readings of these sizes in the place of those of others, as far as they differ, and all
+/// anew where none goes on.
+fn change_to(
+    alloc: Global,
+    lists: &[Vec<u64>],
+    kept: &mut KeptReadings,
+    sizes: &[u64],
+) -> Result<(), AllocError>
+    ensures kept { OnOk result (IsKept (map (λ v. v.items) lists.now) kept.old
+        → IsKept (map (λ v. v.items) lists.now) kept.new) }
+{
+    let n = common_len(kept.sizes.as_slice(), sizes);
+    cut(kept, n);
+    go_on(alloc, lists, kept, &sizes[n..])?;
+    if left_at(kept.left.as_slice(), sizes.len()).is_empty() {
+        *kept = read_anew(alloc, lists, sizes)?;
+    }
+    Ok(())
+}
+
+/// Leaves the first sizes alone.
+fn cut(kept: &mut KeptReadings, n: usize)
+    requires within { n ≤ length kept.old.sizes.items }
+    requires fits { n < 2 ^ 64 - 1 }
+    ensures kept { (lists : List (List ℕ)) → IsKept lists kept.old → IsKept lists kept.new }
+{
+    kept.sizes.truncate(n);
+    kept.left.truncate(n + 1);
+}
+
+/// Goes on with more sizes.
+fn go_on(
+    alloc: Global,
+    lists: &[Vec<u64>],
+    kept: &mut KeptReadings,
+    sizes: &[u64],
+) -> Result<(), AllocError>
+    ensures kept { OnOk result (IsKept (map (λ v. v.items) lists.now) kept.old
+        → IsKept (map (λ v. v.items) lists.now) kept.new) }
+{
+    for size in sizes {
+        add_size(alloc, lists, kept, *size)?;
+    }
+    Ok(())
+}
+
+/// Goes on with one more size.
+fn add_size(
+    alloc: Global,
+    lists: &[Vec<u64>],
+    kept: &mut KeptReadings,
+    size: u64,
+) -> Result<(), AllocError>
+    ensures kept { OnOk result (IsKept (map (λ v. v.items) lists.now) kept.old
+        → IsKept (map (λ v. v.items) lists.now) kept.new) }
+{
+    let known = first_lists(lists, kept.lists);
+    let left = left_at(kept.left.as_slice(), kept.sizes.len());
+    let next = read_on(alloc, known, u64::MAX, left, size)?;
+    kept.left.push(next)?;
+    kept.sizes.push(size)?;
+    Ok(())
+}

@@ -1,0 +1,30 @@
+//! What the checker keeps of the readings of the sizes that a caller holds, with each row more.
+ghost use Rattle.std.specs.Prelude.{OnOk};
+ghost use Rattle.ist_core.specs.Snapshots.{Snapshot};
+ghost use Rattle.ist_check_fairness.specs.Knowing.{KnowsLists};
+
+use ist_check_events::{Replica, sizes_held};
+use ist_check_fairness::{BuildingLists, keep_readings};
+use ist_core::Event;
+use std::alloc::{AllocError, Global};
+
+/// Keeps the readings of the sizes that a caller holds with that of the row which it reserves. The
+/// replica is that of the state before.
+pub fn remember_sizes(
+    alloc: Global,
+    replica: &Replica,
+    building: &mut BuildingLists,
+    event: &Event,
+) -> Result<(), AllocError>
+    ensures exact { OnOk result ((t : Snapshot) → KnowsLists building.old t
+        → KnowsLists building.new t) }
+{
+    match event {
+        Event::Reserve { caller, size, .. } => {
+            let mut sizes = sizes_held(alloc, &replica.held, *caller)?;
+            sizes.push(*size)?;
+            keep_readings(alloc, building, *caller, sizes.as_slice())
+        }
+        _ => Ok(()),
+    }
+}
