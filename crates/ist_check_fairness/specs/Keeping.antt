@@ -35,3 +35,9 @@ pub record IsKept (lists : List (List ℕ)) (kept : KeptReadings) : Type 0 where
 abbrev pub KnowsReadings : BTreeMap ℕ KeptReadings → List (List ℕ) → Type 0
 KnowsReadings all lists =
     (caller : ℕ) (kept : KeptReadings) → tree.get nat_cmp all caller ≡ Some kept → IsKept lists kept
+
+-- what is kept for the caller is of these sizes
+pub record AreKept (all : BTreeMap ℕ KeptReadings) (caller : ℕ) (sizes : List ℕ) : Type 0 where
+  pub kept : KeptReadings
+  pub found : tree.get nat_cmp all caller ≡ Some kept
+  pub sizes_are : kept.sizes.items ≡ sizes

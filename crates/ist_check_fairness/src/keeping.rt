@@ -4,11 +4,11 @@
 //! They are readings with room for every row, so that no list is left for another, and by the building
 //! lists that there were when they were begun. Such a reading is one with less room too, and beside
 //! more lists. Where none goes on, all sizes are to be read anew.
-ghost use Rattle.std.specs.Prelude.{◌≡◌, ◌+◌, ◌-◌, ◌<◌, ◌≤◌, ◌^◌, ℕ, IsTrue, IfOk, OnOk, List, [], map, take, length, slice_index_or};
+ghost use Rattle.std.specs.Prelude.{◌≡◌, ◌++◌, ◌∷◌, ◌+◌, ◌-◌, ◌<◌, ◌≤◌, ◌^◌, ℕ, IsTrue, IfOk, OnOk, List, [], map, take, length, slice_index_or};
 ghost use Rattle.ist_core.specs.Snapshots.{Snapshot};
 ghost use Rattle.ist_core.specs.Fairness.{IsFair};
-ghost use Rattle.ist_check_fairness.specs.Keeping.{IsKept, KnowsReadings};
-ghost use Rattle.ist_check_fairness.specs.Knowing.{KnowsLists};
+ghost use Rattle.ist_check_fairness.specs.Keeping.{IsKept, KnowsReadings, AreKept};
+ghost use Rattle.ist_check_fairness.specs.Knowing.{KnowsLists, KeepsSizes};
 
 use crate::lists::BuildingLists;
 use crate::readings::{Reading, first_readings, read_further, read_on};
@@ -94,6 +94,7 @@ pub fn keep_readings(
 ) -> Result<(), AllocError>
     ensures exact { OnOk result ((t : Snapshot) → KnowsLists building.old t
         → KnowsLists building.new t) }
+    ensures kept { OnOk result (KeepsSizes building.new caller sizes.now) }
 {
     if sizes.len() < 2 || are_all_spare(sizes) {
         return Ok(());
@@ -115,8 +116,9 @@ fn keep(
     caller: u64,
     sizes: &[u64],
 ) -> Result<(), AllocError>
-    ensures kept { OnOk result (KnowsReadings all.old (map (λ v. v.items) lists.now)
+    ensures right { OnOk result (KnowsReadings all.old (map (λ v. v.items) lists.now)
         → KnowsReadings all.new (map (λ v. v.items) lists.now)) }
+    ensures kept { OnOk result (AreKept all.new caller sizes.now) }
 {
     match all.get_mut(&caller) {
         None => {
@@ -130,6 +132,7 @@ fn keep(
 /// What is kept where the sizes are read from the first on.
 fn read_anew(alloc: Global, lists: &[Vec<u64>], sizes: &[u64]) -> Result<KeptReadings, AllocError>
     ensures kept { IfOk result (λ kept. IsKept (map (λ v. v.items) lists.now) kept) }
+    ensures sizes { IfOk result (λ kept. kept.sizes.items ≡ sizes.now) }
 {
     let mut kept = none_read(alloc, lists)?;
     go_on(alloc, lists, &mut kept, sizes)?;
@@ -139,6 +142,7 @@ fn read_anew(alloc: Global, lists: &[Vec<u64>], sizes: &[u64]) -> Result<KeptRea
 /// What is kept before any size is read.
 fn none_read(alloc: Global, lists: &[Vec<u64>]) -> Result<KeptReadings, AllocError>
     ensures kept { IfOk result (λ kept. IsKept (map (λ v. v.items) lists.now) kept) }
+    ensures none { IfOk result (λ kept. kept.sizes.items ≡ []) }
 {
     let mut left = Vec::new(alloc);
     left.push(first_readings(alloc, lists)?)?;
@@ -159,6 +163,7 @@ fn change_to(
 ) -> Result<(), AllocError>
     ensures kept { OnOk result (IsKept (map (λ v. v.items) lists.now) kept.old
         → IsKept (map (λ v. v.items) lists.now) kept.new) }
+    ensures sizes { OnOk result (kept.new.sizes.items ≡ sizes.now) }
 {
     let n = common_len(kept.sizes.as_slice(), sizes);
     cut(kept, n);
@@ -174,6 +179,7 @@ fn cut(kept: &mut KeptReadings, n: usize)
     requires within { n ≤ length kept.old.sizes.items }
     requires fits { n < 2 ^ 64 - 1 }
     ensures kept { (lists : List (List ℕ)) → IsKept lists kept.old → IsKept lists kept.new }
+    ensures sizes { kept.new.sizes.items ≡ take n kept.old.sizes.items }
 {
     kept.sizes.truncate(n);
     kept.left.truncate(n + 1);
@@ -188,6 +194,7 @@ fn go_on(
 ) -> Result<(), AllocError>
     ensures kept { OnOk result (IsKept (map (λ v. v.items) lists.now) kept.old
         → IsKept (map (λ v. v.items) lists.now) kept.new) }
+    ensures sizes { OnOk result (kept.new.sizes.items ≡ kept.old.sizes.items ++ sizes.now) }
 {
     for size in sizes {
         add_size(alloc, lists, kept, *size)?;
@@ -204,6 +211,7 @@ fn add_size(
 ) -> Result<(), AllocError>
     ensures kept { OnOk result (IsKept (map (λ v. v.items) lists.now) kept.old
         → IsKept (map (λ v. v.items) lists.now) kept.new) }
+    ensures sizes { OnOk result (kept.new.sizes.items ≡ kept.old.sizes.items ++ size ∷ []) }
 {
     let known = first_lists(lists, kept.lists);
     let left = left_at(kept.left.as_slice(), kept.sizes.len());

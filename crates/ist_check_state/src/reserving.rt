@@ -1,9 +1,11 @@
 //! What the checker keeps of the readings of the sizes that a caller holds, with each row more.
-ghost use Rattle.std.specs.Prelude.{OnOk};
-ghost use Rattle.ist_core.specs.Snapshots.{Snapshot};
-ghost use Rattle.ist_check_fairness.specs.Knowing.{KnowsLists};
+ghost use Rattle.std.specs.Prelude.{◌≡◌, ◌++◌, ◌∷◌, [], ℕ, OnOk};
+ghost use Rattle.ist_core.specs.declared.events.Event.TheVariants.{Reserve};
+ghost use Rattle.ist_core.specs.Snapshots.{Snapshot, sizes_held};
+ghost use Rattle.ist_check_fairness.specs.Knowing.{KnowsLists, KeepsSizes};
+ghost use Rattle.ist_check_events.specs.Mirroring.{Mirrors};
 
-use ist_check_events::{Replica, sizes_held};
+use ist_check_events::{Replica, sizes_held as held_sizes};
 use ist_check_fairness::{BuildingLists, keep_readings};
 use ist_core::Event;
 use std::alloc::{AllocError, Global};
@@ -18,10 +20,13 @@ pub fn remember_sizes(
 ) -> Result<(), AllocError>
     ensures exact { OnOk result ((t : Snapshot) → KnowsLists building.old t
         → KnowsLists building.new t) }
+    ensures kept { OnOk result ((t : Snapshot) (caller base size : ℕ) → Mirrors replica.now t
+        → event.now ≡ Reserve caller base size
+        → KeepsSizes building.new caller (sizes_held t caller ++ size ∷ [])) }
 {
     match event {
         Event::Reserve { caller, size, .. } => {
-            let mut sizes = sizes_held(alloc, &replica.held, *caller)?;
+            let mut sizes = held_sizes(alloc, &replica.held, *caller)?;
             sizes.push(*size)?;
             keep_readings(alloc, building, *caller, sizes.as_slice())
         }

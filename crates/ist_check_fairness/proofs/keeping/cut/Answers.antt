@@ -8,4 +8,5 @@ returns c =
       kept = λ lists k.
           kept_cut lists c.args.kept.now _ c.args.n refl c.requires.within c.truncate.ensures.items
           c.truncate-2.ensures.items k;
+      sizes = c.truncate.ensures.items;
     }
