@@ -1,32 +1,6 @@
--- The events that were checked so far, and those that are left. Serves `checking.rt`.
-use Rattle.std.proofs.Common.{
-  ◌≡◌,
-  ◌∙◌,
-  ◌+◌,
-  ◌<◌,
-  ℕ,
-  suc,
-  List,
-  [],
-  ◌∷◌,
-  ◌++◌,
-  length,
-  get_or,
-  take,
-  drop,
-  reverse,
-  Result,
-  Option,
-  Some,
-  None,
-  IfSome,
-  Err,
-  subst,
-  sym,
-  ap,
-  arith,
-  drop-cons,
-}
+-- The events that were checked so far, and those that are left. Serves `judging.rt`.
+use Rattle.std.proofs.Common.{◌≡◌, ◌∙◌, ◌+◌, ◌<◌, ℕ, suc, List, [], ◌∷◌, ◌++◌, length, get_or}
+use Rattle.std.proofs.Common.{take, drop, reverse, Some, sym, ap, arith, drop-cons}
 use Rattle.std.proofs.lemmas.List.{take_more, take-append-drop, reverse-append, length-take-le}
 use Rattle.std.specs.BTreeMap.{BTreeMap}
 use Rattle.ist_core.specs.declared.pairs.Pair.{Pair}
@@ -37,28 +11,16 @@ use Rattle.ist_core.specs.Lawful.{Lawful, state_of}
 use Rattle.ist_check_events.specs.declared.replicas.Replica.{Replica}
 use Rattle.ist_check_events.specs.Mirroring.{Mirrors}
 use Rattle.ist_check_events.specs.Remembering.{KnowsSlots, KnowsWays}
-use Rattle.ist_core.specs.declared.states.State.{State}
-use Rattle.ist_check.specs.declared.faults.CheckFault.{CheckFault}
-use Rattle.ist_check.specs.declared.faults.CheckFault.TheVariants.{Unlawful}
 use Rattle.ist_core.specs.Logs.{Log}
 use Rattle.ist_check_events.specs.declared.pasts.Past.{Past}
 use Rattle.ist_check_events.specs.declared.pasts.Slot.{Slot}
 use Rattle.ist_check_events.specs.declared.pasts.Way.{Way}
-use Rattle.ist_check.specs.declared.explaining.Refusal.{Refusal}
 use Rattle.ist_check_reasons.specs.declared.conditions.Condition.{Condition}
 use Rattle.ist_check_reasons.specs.Conditions.{says_of}
 use Rattle.ist_check_reasons.specs.Failing.{Tells}
 use Rattle.ist_check.specs.Knowing.{Knows, Remembers}
 use Rattle.ist_check.specs.Verdicts.{IsFirstUnlawful, FailsAt}
 use Rattle.ist_check.proofs.ReasonLemmas.{not_covered}
-
--- the answer is the fault that names this event
-abbrev IsFault : ℕ → Result State CheckFault → Type 0
-IsFault at answer = Err (Unlawful at) ≡ answer
-
--- a fault names one number
-pub at_number : (at other : ℕ) → IsFault at (Err (Unlawful other)) → at ≡ other
-at_number at other e = cc
 
 module _ (events : List Event) (at : ℕ) (event : Event) (below : at < length events)
     (is : event ≡ get_or events at event) where
@@ -105,26 +67,6 @@ module _ (events : List Event) (at : ℕ) (event : Event) (below : at < length e
         fails = tells;
         uncovered = not_covered pairs words (reverse (take at events)) lawful event condition tells;
       }
-
-  -- where one is named of an event that may not come, that event is the first such
-  pub found_first : (pairs : List Pair) (words : ℕ) → Lawful pairs words (reverse (take at events))
-      → ¬ (Enabled (start pairs words) (reverse (take at events)) event)
-      → (found : Option Refusal) → IfSome found (λ r. (r.at ≡ at)
-      × Tells (says_of (start pairs words) (reverse (take at events)) event) (Some r.condition))
-      → IfSome found (λ r. IsFirstUnlawful pairs words events r.at)
-  found_first pairs words lawful refused None f = tt
-  found_first pairs words lawful refused (Some r) f =
-      subst (IsFirstUnlawful pairs words events) (sym f.0) (first_unlawful pairs words lawful refused)
-
-  -- and so it is told, where one is named
-  pub found_fails : (pairs : List Pair) (words : ℕ) → Lawful pairs words (reverse (take at events))
-      → (found : Option Refusal) → IfSome found (λ r. (r.at ≡ at)
-      × Tells (says_of (start pairs words) (reverse (take at events)) event) (Some r.condition))
-      → IfSome found (λ r. FailsAt pairs words events r.at r.condition)
-  found_fails pairs words lawful None f = tt
-  found_fails pairs words lawful (Some r) f =
-      subst (λ n. FailsAt pairs words events n r.condition) (sym f.0)
-      (fails_at pairs words r.condition lawful f.1)
 
 -- what the other tables hold doesn't depend on those of the slots and the ways
 slots_apart : (past : Past) (slots : BTreeMap ℕ Slot) (ways : BTreeMap ℕ Way) (pairs : List Pair) (words : ℕ) (log : Log)

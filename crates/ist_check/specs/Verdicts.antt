@@ -5,11 +5,14 @@ use Rattle.ist_core.specs.declared.events.Event.{Event}
 use Rattle.ist_core.specs.declared.events.Event.TheVariants.{Pass, Draw}
 use Rattle.ist_core.specs.StartLayout.{start}
 use Rattle.ist_core.specs.Enabled.{Enabled}
-use Rattle.ist_core.specs.Lawful.{Lawful}
+use Rattle.ist_core.specs.Lawful.{Lawful, state_of}
+use Rattle.ist_core.specs.Snapshots.{Shows}
 use Rattle.ist_check_reasons.specs.declared.conditions.Condition.{Condition}
 use Rattle.ist_check_reasons.specs.declared.conditions.Condition.TheVariants.{Finished, Set}
 use Rattle.ist_check_reasons.specs.Conditions.{says_of}
 use Rattle.ist_check_reasons.specs.Failing.{Tells}
+use Rattle.ist_check.specs.declared.judging.Judgement.{Judgement}
+use Rattle.ist_check.specs.declared.judging.Judgement.TheVariants.{AllLawful, Refused}
 
 -- event number `at`, from 0, is the first that may not come: those before it are a lawful log, and it isn't enabled behind it
 pub record IsFirstUnlawful (pairs : List Pair) (words : ℕ) (events : List Event) (at : ℕ) : Type 0 where
@@ -38,3 +41,11 @@ pub record FailsAt (pairs : List Pair) (words : ℕ) (events : List Event) (at :
   pub lawful : Lawful pairs words (reverse before)
   pub fails : Tells (says_of (start pairs words) (reverse before) event) (Some condition)
   pub uncovered : ¬ (IsCovered event condition)
+
+-- what is found of the events is true: they are a lawful log, and the state is the one behind it, or the event is the first that may
+-- not come, and the condition fails there
+abbrev pub IsTrueJudgement : List Pair → ℕ → List Event → Judgement → Type 0
+IsTrueJudgement pairs words events (AllLawful state) =
+    Lawful pairs words (reverse events) × Shows state (state_of pairs words (reverse events))
+IsTrueJudgement pairs words events (Refused r) =
+    IsFirstUnlawful pairs words events r.at × FailsAt pairs words events r.at r.condition

@@ -1,6 +1,6 @@
 -- What the code tests of the rows of an event is what the conditions say. Serves `rows.rt` and
 -- `pairs.rt`.
-use Rattle.std.proofs.Common.{◌≡◌, ◌↔◌, ◌∙◌, ◌<◌, ◌≤◌, ◌+◌, ℕ, List, [], ◌∷◌, length, take, get_or, sym, ap, subst, arith, inl, inr, ⊎_elim, zero, suc}
+use Rattle.std.proofs.Common.{◌≡◌, ◌↔◌, ◌∙◌, ◌<◌, ◌≤◌, ◌+◌, ℕ, List, [], ◌∷◌, length, take, get_or, sym, ap, subst, arith, inl, ⊎_elim}
 use Rattle.std.proofs.lemmas.List.{take_more}
 use Rattle.ist_core.specs.declared.lists.Row.{Row}
 use Rattle.ist_core.specs.Elements.{Among}
@@ -9,21 +9,15 @@ use Rattle.ist_core.specs.Pieces.{row_at}
 use Rattle.ist_core.specs.Snapshots.{Snapshot, HoldsRow, HoldsRows}
 use Rattle.ist_core.specs.Installing.{pair_over}
 use Rattle.ist_core.proofs.ElementLemmas.{among-append, among_right}
-use Rattle.ist_check_fairness.proofs.BehindLemmas.{behind, split_first}
+use Rattle.ist_check_fairness.proofs.BehindLemmas.{among_first, behind, split_first}
 
 module _ {A : Type 0} where
-  among_take : (n : ℕ) (ys : List A) (y : A) → Among y (take n ys) → Among y ys
-  among_take zero ys y a = absurd a
-  among_take (suc n) [] y a = absurd a
-  among_take (suc n) (z ∷ ys) y (inl k) = inl k
-  among_take (suc n) (z ∷ ys) y (inr k) = inr (among_take n ys y k)
-
   -- an element at a place is among the elements
   pub among_place : (xs : List A) (i : ℕ) (x d : A) → i < length xs → x ≡ get_or xs i d → Among x xs
   among_place xs i x d h e =
       let more : Among x (take (i + 1) xs) = subst (Among x) (sym (take_more xs i d h))
       (among_right x (take i xs) (get_or xs i d ∷ []) (inl e)) in
-      among_take (i + 1) xs x more
+      among_first (i + 1) xs x more
 
   -- what isn't among the elements so far, nor the next one, isn't among those up to it
   pub not_among_more : (xs : List A) (i : ℕ) (y d : A) → i < length xs → ¬ (Among y (take i xs))

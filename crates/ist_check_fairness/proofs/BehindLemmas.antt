@@ -1,7 +1,8 @@
--- Some elements are the first one and those behind it.
-use Rattle.std.proofs.Common.{◌≡◌, ◌∙◌, ◌≤◌, ◌-◌, ℕ, List, [], ◌∷◌, length, take, drop, get_or}
-use Rattle.std.proofs.Common.{refl, sym, ap, arith}
+-- Some elements are the first one and those behind it; the first ones are among them.
+use Rattle.std.proofs.Common.{◌≡◌, ◌∙◌, ◌≤◌, ◌-◌, ℕ, zero, suc, List, [], ◌∷◌, length, take, drop, get_or}
+use Rattle.std.proofs.Common.{refl, sym, ap, inl, inr, arith}
 use Rattle.std.proofs.lemmas.List.{take_all}
+use Rattle.ist_core.specs.Elements.{Among}
 
 module _ {A : Type 0} where
   -- what is behind the first of some elements
@@ -15,6 +16,13 @@ module _ {A : Type 0} where
       let l : length (y ∷ ys) - 1 ≡ length ys = omega arith in
       ap (λ z. z ∷ ys) (sym e) ∙ ap (λ zs. x ∷ zs)
       (sym (ap (λ k. take k ys) l ∙ take_all (length ys) ys (omega arith)))
+
+  -- one of the first elements is one of the elements
+  pub among_first : (n : ℕ) (ys : List A) (y : A) → Among y (take n ys) → Among y ys
+  among_first zero ys y a = absurd a
+  among_first (suc n) [] y a = absurd a
+  among_first (suc n) (z ∷ ys) y (inl k) = inl k
+  among_first (suc n) (z ∷ ys) y (inr k) = inr (among_first n ys y k)
 
 -- some numbers are the first and those behind it
 pub first_behind : (xs : List ℕ) → 1 ≤ length xs → get_or xs 0 0 ∷ behind xs ≡ xs

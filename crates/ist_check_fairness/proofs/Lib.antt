@@ -6,6 +6,8 @@ pub mod AddedLemmas
 pub mod ReadingLemmas
 pub mod RestLemmas
 pub mod KeepingLemmas
+pub mod GoingOnLemmas
+pub mod RoomLemmas
 pub mod ListLemmas
 pub mod BuildLemmas
 pub mod TargetLemmas

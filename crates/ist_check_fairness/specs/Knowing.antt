@@ -26,4 +26,5 @@ pub record HasNone (building : BuildingLists) : Type 0 where
 -- readings of these sizes are kept for the caller, unless they are one size, or those of spare rows alone
 abbrev pub KeepsSizes : BuildingLists → ℕ → List ℕ → Type 0
 KeepsSizes building caller sizes =
-    2 ≤ length sizes → ¬ (AreSpare all_spare sizes) → AreKept building.kept caller sizes
+    2 ≤ length sizes → ¬ (AreSpare all_spare sizes)
+    → AreKept building.kept (map (λ v. v.items) building.lists.items) caller sizes

@@ -4,10 +4,9 @@
 //! They are readings with room for every row, so that no list is left for another, and by the building
 //! lists that there were when they were begun. Such a reading is one with less room too, and beside
 //! more lists. Where none goes on, all sizes are to be read anew.
-ghost use Rattle.std.specs.Prelude.{◌≡◌, ◌++◌, ◌∷◌, ◌+◌, ◌-◌, ◌<◌, ◌≤◌, ◌^◌, ℕ, IsTrue, IfOk, OnOk, List, [], map, take, length, slice_index_or};
+ghost use Rattle.std.specs.Prelude.{◌≡◌, ◌↔◌, ◌++◌, ◌∷◌, ◌-◌, ◌<◌, ◌≤◌, ◌^◌, ℕ, IsTrue, IfOk, OnOk, List, [], map, take, length, get_or, slice_index_or};
 ghost use Rattle.ist_core.specs.Snapshots.{Snapshot};
-ghost use Rattle.ist_core.specs.Fairness.{IsFair};
-ghost use Rattle.ist_check_fairness.specs.Keeping.{IsKept, KnowsReadings, AreKept};
+ghost use Rattle.ist_check_fairness.specs.Keeping.{IsKept, KnowsReadings, GoOnFrom, AreKeptIn, AreKept};
 ghost use Rattle.ist_check_fairness.specs.Knowing.{KnowsLists, KeepsSizes};
 
 use crate::lists::BuildingLists;
@@ -31,6 +30,8 @@ pub struct KeptReadings {
 fn common_len(xs: &[u64], ys: &[u64]) -> usize
     ensures within { (result ≤ length xs.now) × (result ≤ length ys.now) }
     ensures same { take result xs.now ≡ take result ys.now }
+    ensures most { result < length xs.now → result < length ys.now
+        → ¬ (get_or xs.now result 0 ≡ get_or ys.now result 0) }
 {
     let len = xs.len().min(ys.len());
     for n in 0..len {
@@ -61,16 +62,17 @@ fn first_lists(lists: &[Vec<u64>], n: usize) -> &[Vec<u64>]
     &lists[..n]
 }
 
-/// Can the sizes be read on from those that are kept for the caller? It may be that none are.
+/// Are readings kept for the caller, and can the sizes be read by the lists that there were then, where
+/// there is room for every row?
 pub(crate) fn goes_on(
     alloc: Global,
     building: &BuildingLists,
     caller: u64,
     sizes: &[u64],
 ) -> Result<bool, AllocError>
-    ensures fair { IfOk result (λ goes. IsTrue goes → (t : Snapshot) (room : ℕ)
-        → KnowsLists building.now t → t.words ≡ t.next + room → room < 2 ^ 64
-        → IsFair t sizes.now) }
+    ensures exact { let lists = map (λ v. v.items) building.now.lists.items in
+        IfOk result (λ goes. KnowsReadings building.now.kept lists
+        → (IsTrue goes ↔ GoOnFrom building.now.kept lists caller sizes.now)) }
 {
     match building.kept.get(&caller) {
         None => Ok(false),
@@ -94,7 +96,8 @@ pub fn keep_readings(
 ) -> Result<(), AllocError>
     ensures exact { OnOk result ((t : Snapshot) → KnowsLists building.old t
         → KnowsLists building.new t) }
-    ensures kept { OnOk result (KeepsSizes building.new caller sizes.now) }
+    ensures kept { let lists = map (λ v. v.items) building.old.lists.items in
+        OnOk result (KnowsReadings building.old.kept lists → KeepsSizes building.new caller sizes.now) }
 {
     if sizes.len() < 2 || are_all_spare(sizes) {
         return Ok(());
@@ -118,7 +121,8 @@ fn keep(
 ) -> Result<(), AllocError>
     ensures right { OnOk result (KnowsReadings all.old (map (λ v. v.items) lists.now)
         → KnowsReadings all.new (map (λ v. v.items) lists.now)) }
-    ensures kept { OnOk result (AreKept all.new caller sizes.now) }
+    ensures kept { let known = map (λ v. v.items) lists.now in
+        OnOk result (KnowsReadings all.old known → AreKept all.new known caller sizes.now) }
 {
     match all.get_mut(&caller) {
         None => {
@@ -132,7 +136,7 @@ fn keep(
 /// What is kept where the sizes are read from the first on.
 fn read_anew(alloc: Global, lists: &[Vec<u64>], sizes: &[u64]) -> Result<KeptReadings, AllocError>
     ensures kept { IfOk result (λ kept. IsKept (map (λ v. v.items) lists.now) kept) }
-    ensures sizes { IfOk result (λ kept. kept.sizes.items ≡ sizes.now) }
+    ensures sizes { IfOk result (λ kept. AreKeptIn (map (λ v. v.items) lists.now) sizes.now kept) }
 {
     let mut kept = none_read(alloc, lists)?;
     go_on(alloc, lists, &mut kept, sizes)?;
@@ -143,6 +147,7 @@ fn read_anew(alloc: Global, lists: &[Vec<u64>], sizes: &[u64]) -> Result<KeptRea
 fn none_read(alloc: Global, lists: &[Vec<u64>]) -> Result<KeptReadings, AllocError>
     ensures kept { IfOk result (λ kept. IsKept (map (λ v. v.items) lists.now) kept) }
     ensures none { IfOk result (λ kept. kept.sizes.items ≡ []) }
+    ensures lists { IfOk result (λ kept. kept.lists ≡ length lists.now) }
 {
     let mut left = Vec::new(alloc);
     left.push(first_readings(alloc, lists)?)?;
@@ -163,7 +168,8 @@ fn change_to(
 ) -> Result<(), AllocError>
     ensures kept { OnOk result (IsKept (map (λ v. v.items) lists.now) kept.old
         → IsKept (map (λ v. v.items) lists.now) kept.new) }
-    ensures sizes { OnOk result (kept.new.sizes.items ≡ sizes.now) }
+    ensures sizes { let known = map (λ v. v.items) lists.now in
+        OnOk result (IsKept known kept.old → AreKeptIn known sizes.now kept.new) }
 {
     let n = common_len(kept.sizes.as_slice(), sizes);
     cut(kept, n);
@@ -195,6 +201,7 @@ fn go_on(
     ensures kept { OnOk result (IsKept (map (λ v. v.items) lists.now) kept.old
         → IsKept (map (λ v. v.items) lists.now) kept.new) }
     ensures sizes { OnOk result (kept.new.sizes.items ≡ kept.old.sizes.items ++ sizes.now) }
+    ensures lists { OnOk result (kept.new.lists ≡ kept.old.lists) }
 {
     for size in sizes {
         add_size(alloc, lists, kept, *size)?;
@@ -212,6 +219,7 @@ fn add_size(
     ensures kept { OnOk result (IsKept (map (λ v. v.items) lists.now) kept.old
         → IsKept (map (λ v. v.items) lists.now) kept.new) }
     ensures sizes { OnOk result (kept.new.sizes.items ≡ kept.old.sizes.items ++ size ∷ []) }
+    ensures lists { OnOk result (kept.new.lists ≡ kept.old.lists) }
 {
     let known = first_lists(lists, kept.lists);
     let left = left_at(kept.left.as_slice(), kept.sizes.len());

@@ -21,7 +21,7 @@ pub fn remember_sizes(
     ensures exact { OnOk result ((t : Snapshot) → KnowsLists building.old t
         → KnowsLists building.new t) }
     ensures kept { OnOk result ((t : Snapshot) (caller base size : ℕ) → Mirrors replica.now t
-        → event.now ≡ Reserve caller base size
+        → KnowsLists building.old t → event.now ≡ Reserve caller base size
         → KeepsSizes building.new caller (sizes_held t caller ++ size ∷ [])) }
 {
     match event {

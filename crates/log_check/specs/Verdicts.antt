@@ -2,7 +2,7 @@
 use Rattle.std.specs.Prelude.{◌≡◌, ℕ, reverse}
 use Rattle.ist_core.specs.Snapshots.{Snapshot}
 use Rattle.ist_core.specs.Lawful.{Lawful, state_of}
-use Rattle.ist_check.specs.Verdicts.{IsFirstUnlawful}
+use Rattle.ist_check.specs.Verdicts.{IsFirstUnlawful, FailsAt}
 use Rattle.log_check.specs.declared.logs.Log.{Log}
 use Rattle.log_check.specs.declared.verdicts.Verdict.{Verdict}
 use Rattle.log_check.specs.declared.verdicts.Verdict.TheVariants.{AllLawful, Unlawful}
@@ -21,4 +21,6 @@ pub record EndsWith (log : Log) (next callers anchor : ℕ) : Type 0 where
 -- what is said of the log is true
 abbrev pub IsTrueOf : Log → Verdict → Type 0
 IsTrueOf log (AllLawful next callers anchor) = EndsWith log next callers anchor
-IsTrueOf log (Unlawful at) = IsFirstUnlawful log.pairs.items log.words log.events.items at
+IsTrueOf log (Unlawful at condition) =
+    IsFirstUnlawful log.pairs.items log.words log.events.items at
+    × FailsAt log.pairs.items log.words log.events.items at condition

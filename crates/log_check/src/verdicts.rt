@@ -4,7 +4,8 @@ ghost use Rattle.log_check.specs.Opening.{LogOpens};
 ghost use Rattle.log_check.specs.Verdicts.{IsTrueOf};
 
 use crate::logs::Log;
-use ist_check::{CheckFault, check};
+use ist_check::{Judgement, judge};
+use ist_check_reasons::Condition;
 use std::alloc::{AllocError, Global};
 use std::fmt;
 
@@ -18,9 +19,11 @@ pub enum Verdict {
         callers: u64,
         anchor: u64,
     },
-    /// The number of the first event that may not come, counted from 0.
+    /// The number of the first event that may not come, counted from 0, and the first of its
+    /// conditions that is false.
     Unlawful {
         at: u64,
+        condition: Condition,
     },
 }
 
@@ -32,28 +35,31 @@ impl fmt::Display for Verdict {
                 callers,
                 anchor,
             } => write!(f, "ok next {next} callers {callers} anchor {anchor}"),
-            Verdict::Unlawful { at } => write!(f, "unlawful {at}"),
+            Verdict::Unlawful { at, .. } => write!(f, "unlawful {at}"),
         }
     }
 }
 
-/// Whether the log is lawful, and how it ends, or the first event that may not come.
-pub fn judge(alloc: Global, log: &Log) -> Result<Verdict, AllocError>
+/// Whether the log is lawful, and how it ends, or the first event that may not come, and why.
+pub fn verdict_on(alloc: Global, log: &Log) -> Result<Verdict, AllocError>
     requires opens { LogOpens log.now }
     ensures exact { IfOk result (IsTrueOf log.now) }
 {
-    match check(
+    let judgement = judge(
         alloc,
         log.pairs.as_slice(),
         log.words,
         log.events.as_slice(),
-    ) {
-        Ok(state) => Ok(Verdict::AllLawful {
+    )?;
+    match judgement {
+        Judgement::AllLawful { state } => Ok(Verdict::AllLawful {
             next: state.next,
             callers: state.callers,
             anchor: state.anchor,
         }),
-        Err(CheckFault::Unlawful { at }) => Ok(Verdict::Unlawful { at }),
-        Err(CheckFault::Memory) => Err(AllocError),
+        Judgement::Refused { refusal } => Ok(Verdict::Unlawful {
+            at: refusal.at,
+            condition: refusal.condition,
+        }),
     }
 }

@@ -30,4 +30,5 @@ returns c =
           ↔ SomeGoes (map (λ v. v.items) c.first_lists-known.result.now) any_room rs
           (c.args.size ∷ more)) left (c.in_ok-next.ensures.exact more))) k;
       sizes = c.in_ok-push-2.ensures.items;
+      lists = refl;
     }

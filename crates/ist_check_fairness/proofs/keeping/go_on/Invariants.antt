@@ -2,8 +2,9 @@ use Rattle.std.proofs.Common.{◌≡◌, ◌++◌, map, take}
 use Rattle.ist_check_fairness.specs.Keeping.{IsKept}
 use Rattle.ist_check_fairness.proofs.keeping.go_on.Given as goal
 
--- what is kept so far is right, where it was, and of the sizes up to here
+-- what is kept so far is right, where it was, of the sizes up to here, and by the same lists
 abbrev pub invariant-loop-size : goal.invariant-loop-size
 invariant-loop-size l =
     (IsKept (map (λ v. v.items) l.lists) l.initial.kept → IsKept (map (λ v. v.items) l.lists) l.kept)
-    × (l.kept.sizes.items ≡ l.initial.kept.sizes.items ++ take l.size-index l.sizes)
+    × ((l.kept.sizes.items ≡ l.initial.kept.sizes.items ++ take l.size-index l.sizes)
+    × (l.kept.lists ≡ l.initial.kept.lists))

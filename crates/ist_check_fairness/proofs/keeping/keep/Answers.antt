@@ -1,4 +1,5 @@
-use Rattle.std.proofs.Common.{rules}
+use Rattle.std.proofs.Common.{map, rules}
+use Rattle.ist_check_fairness.specs.Keeping.{AreKept}
 use Rattle.ist_check_fairness.proofs.AnswerLemmas.{on_ok}
 use Rattle.ist_check_fairness.proofs.keeping.keep.Goals as goal
 
@@ -7,4 +8,8 @@ returns-in-Some-clause-kept c =
     let new = c.change_to.new.kept in
     let written = (c.get_mut.follows.holds new).3 (search rules) in
     on_ok c.change_to.result _ _
-    (λ same. record { kept = new; found = written.1; sizes_are = same }) c.change_to.ensures.sizes
+    (λ are known. record {
+      kept = new;
+      found = written.1;
+      are_kept = are (known c.args.caller c.in-Some.kept.now (search rules));
+    }) c.change_to.ensures.sizes

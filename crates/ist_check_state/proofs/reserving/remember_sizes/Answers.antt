@@ -14,7 +14,7 @@ same_size e = cc
 pub returns-in_ok-push-in-Reserve-clause-kept : goal.returns-in_ok-push-in-Reserve-clause-kept
 returns-in_ok-push-in-Reserve-clause-kept c =
     on_success c.keep_readings.result
-    (λ kept t caller base size mirrors e.
+    (λ kept t caller base size mirrors lists e.
     let is = sym c.in-Reserve.is ∙ e in
     let sizes : c.as_slice.result.now ≡ sizes_held t c.in-Reserve.caller ++ c.in-Reserve.size ∷ [] =
     c.as_slice.ensures.value ∙ c.in_ok-push-in-Reserve.ensures.items
@@ -25,5 +25,5 @@ returns-in_ok-push-in-Reserve-clause-kept c =
     (same_size is)
     (subst (λ by. KeepsSizes c.keep_readings.new.building by (sizes_held t by
     ++ c.in-Reserve.size ∷ [])) (same_caller is)
-    (subst (KeepsSizes c.keep_readings.new.building c.in-Reserve.caller) sizes kept)))
+    (subst (KeepsSizes c.keep_readings.new.building c.in-Reserve.caller) sizes (kept lists.kept))))
     c.keep_readings.ensures.kept

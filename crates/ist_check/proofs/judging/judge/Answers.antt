@@ -1,18 +1,25 @@
-use Rattle.std.proofs.Common.{◌≡◌, ◌∙◌, true, false, reverse, take, take_all, sym, ap}
+use Rattle.std.proofs.Common.{◌≡◌, ◌≢◌, Option, Some, None, IfSome, reverse, take, take_all, refl, sym, ap}
 use Rattle.std.proofs.Common.{subst, arith}
+use Rattle.ist_core.specs.Snapshots.{Shows}
 use Rattle.ist_core.specs.StartLayout.{start}
 use Rattle.ist_core.specs.Lawful.{Lawful, state_of}
 use Rattle.ist_check_events.specs.Mirroring.{Mirrors}
 use Rattle.ist_check_events.specs.Remembering.{KnowsSlots, KnowsWays}
-use Rattle.ist_check_fairness.proofs.AnswerLemmas.{if_ok}
+use Rattle.ist_check_reasons.specs.declared.conditions.Condition.{Condition}
 use Rattle.ist_check.specs.Knowing.{Knows}
-use Rattle.ist_check.proofs.CheckingLemmas.{reverse_more, found_fails, found_first, lawful_more}
+use Rattle.ist_check.proofs.CheckingLemmas.{reverse_more, first_unlawful, fails_at, lawful_more}
 use Rattle.ist_check.proofs.CheckingLemmas.{known_more}
 use Rattle.ist_check.proofs.RoomLemmas.{has_room}
-use Rattle.ist_check.proofs.explaining.explain.Goals as goal
+use Rattle.ist_check.proofs.judging.judge.Goals as goal
 
-clash : false ≡ true → ⊥
-clash e = cc
+-- what is no value is none
+is_none : (o : Option Condition) → ((x : Condition) → o ≢ Some x) → o ≡ None
+is_none None other = refl
+is_none (Some x) other = absurd (other x refl)
+
+-- what holds of a value holds of the one that was found
+told : (P : Condition → Type 0) {o : Option Condition} {x : Condition} → o ≡ Some x → IfSome o P → P x
+told P is all = subst (λ o. IfSome o P) is all
 
 pub loop-at-init : goal.loop-at-init
 loop-at-init c =
@@ -33,7 +40,7 @@ loop-at-init c =
 pub advance-requires : goal.advance-requires
 advance-requires c =
     let knows = c.loop-at.invariant.0 in
-    let may = (c.in_ok-may_come.ensures.exact _ _ _ knows).0 c.if-not-branch.false in
+    let may = c.in_ok-condition.ensures.may _ _ _ knows (is_none _ c.in_default.not-Some) in
     record {
       room = has_room _ _ _ c.loop-at.replica knows.mirrors c.index-log-at.result
           (lawful_more _ _ _ _ _ _ knows may);
@@ -44,7 +51,7 @@ loop-at-preserved c =
     let before = reverse (take c.loop-at.at c.args.log.now) in
     let first = start c.args.start.now c.args.words in
     let knows = c.loop-at.invariant.0 in
-    let may = (c.in_ok-may_come.ensures.exact _ _ _ knows).0 c.if-not-branch.false in
+    let may = c.in_ok-condition.ensures.may _ _ _ knows (is_none _ c.in_default.not-Some) in
     let lawful = lawful_more _ _ _ _ _ _ knows may in
     let mirrors = c.in_ok-advance.ensures.exact (state_of c.args.start.now c.args.words before)
     knows.mirrors in
@@ -65,28 +72,26 @@ loop-at-preserved c =
       omega arith,
     )
 
-pub returns-then-not-branch : goal.returns-then-not-branch
-returns-then-not-branch c =
+pub returns-in-Some : goal.returns-in-Some
+returns-in-Some c =
     let knows = c.loop-at.invariant.0 in
-    let may = (c.in_ok-may_come.ensures.exact _ _ _ knows).1 in
+    let why = told _ c.in-Some.is (c.in_ok-condition.ensures.refused _ _ _ knows) in
     record {
-      refused = if_ok c.refused_at.result _ _
-          (λ found f. found_fails c.args.log.now c.loop-at.at c.index-log-at.result
-          c.loop-at-test.true c.index-log-at.is c.args.start.now c.args.words knows.lawful found
-          (f _ _ _ knows))
-          c.refused_at.ensures.exact;
-      first = if_ok c.refused_at.result _ _
-          (λ found f. found_first c.args.log.now c.loop-at.at c.index-log-at.result
-          c.loop-at-test.true c.index-log-at.is c.args.start.now c.args.words knows.lawful
-          (λ can. clash (sym c.if-not-branch.true ∙ may can)) found (f _ _ _ knows))
-          c.refused_at.ensures.exact;
-      lawful = if_ok c.refused_at.result _ _
-          (λ found f none. absurd (f _ _ _ knows
-          (λ can. clash (sym c.if-not-branch.true ∙ may can)) none))
-          c.refused_at.ensures.named;
+      exact = (
+        first_unlawful c.args.log.now c.loop-at.at c.index-log-at.result c.loop-at-test.true
+            c.index-log-at.is c.args.start.now c.args.words knows.lawful why.0,
+        fails_at c.args.log.now c.loop-at.at c.index-log-at.result c.loop-at-test.true
+            c.index-log-at.is c.args.start.now c.args.words c.in-Some.condition knows.lawful why.1,
+      );
     }
 
-pub returns-clause-lawful : goal.returns-clause-lawful
-returns-clause-lawful c none =
+pub returns : goal.returns
+returns c =
     let all = ap reverse (take_all c.loop-at.at c.args.log.now (omega arith)) in
-    subst (Lawful c.args.start.now c.args.words) all c.loop-at.invariant.0.lawful
+    record {
+      exact = (
+        subst (Lawful c.args.start.now c.args.words) all c.loop-at.invariant.0.lawful,
+        subst (λ log. Shows c.in_ok-state_of.field-0 (state_of c.args.start.now c.args.words log)) all
+            (c.in_ok-state_of.ensures.shown _ c.loop-at.invariant.0.mirrors),
+      );
+    }
