@@ -1,8 +1,8 @@
 -- Which sizes go on from what is kept, and when that is as much as all lists allow. Serves `keeping.rt`.
 use Rattle.std.proofs.Common.{◌≡◌, ◌↔◌, ◌∙◌, ◌+◌, ◌≤◌, Bool, true, false, not, nat_eq, ℕ, IsTrue}
-use Rattle.std.proofs.Common.{List, [], ◌∷◌, ◌++◌, length, map, take, Vec, Global, Some, None}
+use Rattle.std.proofs.Common.{List, [], ◌∷◌, ◌++◌, length, take, Some, None}
 use Rattle.std.proofs.Common.{refl, sym, ap, subst, append-nil, arith}
-use Rattle.std.proofs.lemmas.List.{take_all, length-map}
+use Rattle.std.proofs.lemmas.List.{take_all}
 use Rattle.std.specs.Ordering.{nat_cmp}
 use Rattle.std.specs.BTreeMap as tree
 use Rattle.std.specs.BTreeMap.{BTreeMap}
@@ -49,20 +49,6 @@ module _ (all : BTreeMap ℕ KeptReadings) (lists : List (List ℕ)) (caller : �
 -- ---- what is enough
 
 module _ (lists : List (List ℕ)) where
-  -- read anew, they are by all lists
-  pub kept_anew : (sizes : List ℕ) (first kept : KeptReadings) (known : List (Vec ℕ Global))
-      → lists ≡ map (λ v. v.items) known → first.sizes.items ≡ [] → first.lists ≡ length known
-      → kept.sizes.items ≡ first.sizes.items ++ sizes → kept.lists ≡ first.lists
-      → AreKeptIn lists sizes kept
-  kept_anew sizes first kept known same none many is count =
-      record {
-        sizes_are = is ∙ ap (λ xs. xs ++ sizes) none;
-        enough =
-            let long : length lists ≡ length known =
-            ap length same ∙ length-map known (λ v. v.items) in
-            subst (λ ls. CanBeRead ls sizes) (sym (take_all kept.lists lists (omega arith)));
-      }
-
   -- where one goes on, the sizes can be read
   pub kept_enough : (sizes : List ℕ) (kept : KeptReadings) (rs : List Reading) (empty : Bool)
       → kept.sizes.items ≡ sizes → rs ≡ left_at kept (length sizes) → empty ≡ nat_eq (length rs) 0
