@@ -41,12 +41,24 @@ impl Plan {
         ensures some { result ≡ true → 1 ≤ self.now.span }
         ensures words { result ≡ true → self.now.words ≤ place_limit }
     {
-        if self.threads < 1 || MOST_THREADS < self.threads {
-            return false;
-        }
-        if self.span < 1 || MOST_KEYS < self.span || MOST_KEYS < self.keys {
-            return false;
-        }
-        self.words <= MOST_WORDS && self.shares.all() > 0
+        self.has_threads() && self.has_keys() && self.has_words() && self.shares.all() > 0
+    }
+
+    fn has_threads(&self) -> bool
+        ensures { result ≡ true → self.now.threads ≤ MOST_THREADS }
+    {
+        1 <= self.threads && self.threads <= MOST_THREADS
+    }
+
+    fn has_keys(&self) -> bool
+        ensures { result ≡ true → 1 ≤ self.now.span }
+    {
+        1 <= self.span && self.span <= MOST_KEYS && self.keys <= MOST_KEYS
+    }
+
+    fn has_words(&self) -> bool
+        ensures { result ≡ true → self.now.words ≤ place_limit }
+    {
+        self.words <= MOST_WORDS
     }
 }
