@@ -1,0 +1,2 @@
+-- what the tests' functions promise each other
+pub mod Racing

@@ -1,8 +1,9 @@
-//! The crates below the tree, call by call: tests alone.
+//! The crates below the tree, call by call, and worked schedules of several callers: tests alone.
 //!
 //! Read `ports.rt`, `arithmetic.rt` and `layouts.rt`, then `images.rt`, `callers.rt` and `searches.rt` with
-//! `samples.rt`. Stands on `ist_core`, `ist_math`, `ist_layout`, `ist_image`, `ist_rule`, `ist_rows`, `ist_dcss`,
-//! `ist_samples` and `ist_find`.
+//! `samples.rt`; of the schedules `helping.rt` and `marking.rt`, then `races.rt` with `specs/Racing.antt`.
+//! Stands on `ist_core`, `ist_math`, `ist_layout`, `ist_image`, `ist_rule`, `ist_rows`, `ist_dcss`, `ist_samples`,
+//! `ist_mark` and `ist_find`.
 #![tactic(auto)]
 
 #[cfg(test)]
@@ -10,11 +11,17 @@ mod arithmetic;
 #[cfg(test)]
 mod callers;
 #[cfg(test)]
+mod helping;
+#[cfg(test)]
 mod images;
 #[cfg(test)]
 mod layouts;
 #[cfg(test)]
+mod marking;
+#[cfg(test)]
 mod ports;
+#[cfg(test)]
+mod races;
 #[cfg(test)]
 mod samples;
 #[cfg(test)]

@@ -1,9 +1,11 @@
-//! Runs of the whole program, and rounds on trees: tests alone.
+//! Runs of the whole program, rounds on trees, and dumps of closed trees: tests alone.
 //!
-//! Read `running.rt`, then `meetings.rt`, `stolen.rt`, `full_trees.rt` and `long_inputs.rt`. Stands on
-//! `tele_run` and `tele_trees`.
+//! Read `running.rt`, then `meetings.rt`, `stolen.rt`, `full_trees.rt`, `long_inputs.rt` and `dumps.rt`. Stands on
+//! `tele_run`, `tele_trees` and `tele_audit`.
 #![tactic(auto)]
 
+#[cfg(test)]
+mod dumps;
 #[cfg(test)]
 mod full_trees;
 #[cfg(test)]

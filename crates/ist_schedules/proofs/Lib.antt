@@ -1,5 +1,0 @@
-pub mod KeptLemmas
-pub mod LeafLemmas
-pub mod StartLemmas
-pub mod RaceLemmas
-pub mod LowPairLemmas

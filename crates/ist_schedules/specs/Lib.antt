@@ -1,2 +1,0 @@
--- what the tests' functions promise each other
-pub mod Racing
