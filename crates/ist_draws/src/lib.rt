@@ -10,6 +10,3 @@ mod spreads;
 pub use drawing::Draws;
 pub use sharing::{Kind, Shares};
 pub use spreads::Spread;
-
-#[cfg(test)]
-mod tests;

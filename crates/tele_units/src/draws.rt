@@ -1,6 +1,6 @@
 //! Numbers from outside, and how keys lie.
 
-use crate::{Draws, Kind, Shares, Spread};
+use ist_draws::{Draws, Kind, Shares, Spread};
 use std::test::Fail;
 
 #[test]
