@@ -25,6 +25,7 @@ pub use whole::write_whole;
 #[cfg(test)]
 mod tests {
     use super::*;
+    use std::alloc::{AllocError, Global};
     use std::fs::File;
     use std::io::{Cursor, Error, ErrorKind, Read, Result as IoResult, Write};
     use std::test::Fail;
@@ -36,21 +37,19 @@ mod tests {
         // how many bytes, the buffer behind the read
         let reads = [(3, b"abc"), (2, b"dec"), (0, b"dec")];
         for (count, bytes) in reads {
-            assert_eq!(rt; source.read(&mut buf), Ok(count), "at {bytes:?}");
-            assert_eq!(rt; &buf, bytes);
+            let read = source.read(&mut buf);
+            assert_eq!(rt; (read, &buf), (Ok(count), bytes), "at {bytes:?}");
         }
         Ok(())
     }
 
     #[test]
-    fn a_quiet_sink_keeps_what_is_written(rt: HostRuntime) -> Result<(), Fail> {
+    fn a_quiet_sink_keeps_what_is_written(rt: HostRuntime) {
         let mut sink = QuietSink::new(rt.alloc());
-        for piece in [b"ab", b"cd"] {
+        for piece in [b"ab".as_slice(), b"cd", b""] {
             assert_eq!(rt; write_whole(&mut sink, piece), Ok(()));
         }
-        assert_eq!(rt; write_whole(&mut sink, b""), Ok(()));
         assert_eq!(rt; sink.bytes(), b"abcd".as_slice());
-        Ok(())
     }
 
     #[test]
@@ -67,8 +66,8 @@ mod tests {
             (Ok(0), b"cb--"),
         ];
         for (answer, bytes) in reads {
-            assert_eq!(rt; source.read(&mut buf), answer, "at {bytes:?}");
-            assert_eq!(rt; &buf, bytes);
+            let read = source.read(&mut buf);
+            assert_eq!(rt; (read, &buf), (answer, bytes), "at {bytes:?}");
         }
         Ok(())
     }
@@ -83,8 +82,8 @@ mod tests {
             (b"ef", Ok(()), b"abef".as_slice()),
         ];
         for (piece, answer, bytes) in writes {
-            assert_eq!(rt; write_whole(&mut sink, piece), answer, "at {piece:?}");
-            assert_eq!(rt; sink.bytes(), bytes);
+            let written = write_whole(&mut sink, piece);
+            assert_eq!(rt; (written, sink.bytes()), (answer, bytes), "at {piece:?}");
         }
         Ok(())
     }
@@ -94,35 +93,32 @@ mod tests {
         let mut source = ReadSource::new(Cursor::new(b"abc".to_vec(rt.alloc())?));
         let mut buf = [0u8; 2];
         for (count, bytes) in [(2, b"ab"), (1, b"cb"), (0, b"cb")] {
-            assert_eq!(rt; source.read(&mut buf), Ok(count), "at {bytes:?}");
-            assert_eq!(rt; &buf, bytes);
+            let read = source.read(&mut buf);
+            assert_eq!(rt; (read, &buf), (Ok(count), bytes), "at {bytes:?}");
         }
         Ok(())
     }
 
     #[test]
-    fn a_writer_gets_what_is_written(rt: HostRuntime) -> Result<(), Fail> {
+    fn a_writer_gets_what_is_written(rt: HostRuntime) {
         let mut out = Vec::new(rt.alloc());
-        assert_eq!(rt; write_whole(&mut WriteSink::new(&mut out), b"abc"), Ok(()));
-        assert_eq!(rt; out.as_slice(), b"abc".as_slice());
-        Ok(())
+        let written = write_whole(&mut WriteSink::new(&mut out), b"abc");
+        assert_eq!(rt; (written, out.as_slice()), (Ok(()), b"abc".as_slice()));
     }
 
     #[test]
-    fn a_writer_without_room_fails_behind_what_fits(rt: HostRuntime) -> Result<(), Fail> {
+    fn a_writer_without_room_fails_behind_what_fits(rt: HostRuntime) {
         let mut room = [b'-'; 3];
         let written = write_whole(&mut WriteSink::new(room.as_mut_slice()), b"abcde");
-        assert_eq!(rt; written, Err(SinkFault::Failed));
-        assert_eq!(rt; &room, b"abc");
-        Ok(())
+        assert_eq!(rt; (written, &room), (Err(SinkFault::Failed), b"abc"));
     }
 
     #[test]
     fn a_directory_can_neither_be_read_nor_written(rt: HostRuntime) -> Result<(), Fail> {
-        let mut source = ReadSource::new(File::open(&rt, ".")?);
-        assert_eq!(rt; source.read(&mut [0u8; 8]), Err(Failed));
-        let mut sink = WriteSink::new(File::open(&rt, ".")?);
-        assert_eq!(rt; sink.write(b"abc"), Err(SinkFault::Failed));
+        let (to_read, to_write) = (File::open(&rt, ".")?, File::open(&rt, ".")?);
+        let read = ReadSource::new(to_read).read(&mut [0u8; 8]);
+        let written = WriteSink::new(to_write).write(b"abc");
+        assert_eq!(rt; (read, written), (Err(Failed), Err(SinkFault::Failed)));
         Ok(())
     }
 
@@ -133,36 +129,39 @@ mod tests {
             let inner = MemorySink::new(rt.alloc(), [fails].to_vec(rt.alloc())?);
             let mut out = BufferedSink::new(inner, rt.alloc());
             let mut taken = Vec::new(rt.alloc());
-            for number in 0..5 {
-                let piece = vec![in rt.alloc(); number as u8; 40_000]?;
-                let refused = fails + 1 == number;
-                let written = write_whole(&mut out, &piece);
+            for number in 0..5u8 {
+                let refused = fails + 1 == u64::from(number);
+                let answers = fill(rt.alloc(), &mut out, &mut taken, number, refused);
                 assert_eq!(rt;
-                    written.is_err(),
-                    refused,
+                    answers,
+                    Ok((refused, true)),
                     "piece {number}, where write {fails} fails"
                 );
-                if !refused {
-                    taken.extend_from_slice(&piece)?;
-                }
-                let mut known = out.inner().bytes().to_vec(rt.alloc())?;
-                known.extend_from_slice(out.held())?;
-                assert_eq!(rt; known.as_slice(), taken.as_slice(), "behind piece {number}");
             }
-            let refused = fails == 4;
-            assert_eq!(rt;
-                out.pass_on().is_err(),
-                refused,
-                "where write {fails} fails"
-            );
-            assert_eq!(rt; out.pass_on(), Ok(()));
-            assert_eq!(rt;
-                out.inner().bytes(),
-                taken.as_slice(),
-                "where write {fails} fails"
-            );
+            let answers = (out.pass_on().is_err(), out.pass_on());
+            assert_eq!(rt; answers, (fails == 4, Ok(())), "where write {fails} fails");
+            let passed = out.inner().bytes();
+            assert_eq!(rt; passed, taken.as_slice(), "where write {fails} fails");
         }
         Ok(())
+    }
+
+    // Writes the piece of this number, which goes to `taken` unless it is to be refused. Says whether
+    // it was refused, and whether the sink behind and what is held have `taken` together.
+    fn fill(
+        alloc: Global,
+        out: &mut BufferedSink<MemorySink>,
+        taken: &mut Vec<u8>,
+        number: u8,
+        refused: bool,
+    ) -> Result<(bool, bool), AllocError> {
+        let piece = vec![in alloc; number; 40_000]?;
+        let is_refused = write_whole(out, &piece).is_err();
+        if !refused {
+            taken.extend_from_slice(&piece)?;
+        }
+        let passed = out.inner().bytes();
+        Ok((is_refused, taken.strip_prefix(passed) == Some(out.held())))
     }
 
     #[test]
@@ -176,8 +175,8 @@ mod tests {
             (b"ghi", Err(SinkFault::Failed), b"fghi".as_slice()),
         ];
         for (piece, answer, held) in rows {
-            assert_eq!(rt; write_whole(&mut out, piece), Ok(()));
-            assert_eq!(rt; out.pass_on(), answer, "behind {piece:?}");
+            let answers = (write_whole(&mut out, piece), out.pass_on());
+            assert_eq!(rt; answers, (Ok(()), answer), "behind {piece:?}");
             assert_eq!(rt; out.held(), held, "behind {piece:?}");
         }
         drop(out);
@@ -228,14 +227,14 @@ mod tests {
     fn an_interrupted_read_is_made_again(rt: HostRuntime) {
         let mut source = ReadSource::new(Interrupted { times: 3 });
         let mut buf = [b'-'; 2];
-        assert_eq!(rt; source.read(&mut buf), Ok(1));
-        assert_eq!(rt; &buf, b"x-");
+        let read = source.read(&mut buf);
+        assert_eq!(rt; (read, &buf), (Ok(1), b"x-"));
     }
 
     #[test]
     fn an_interrupted_write_is_made_again(rt: HostRuntime) {
         let mut sink = WriteSink::new(Interrupted { times: 3 });
-        assert_eq!(rt; sink.write(b"ab"), Ok(1));
-        assert_eq!(rt; write_whole(&mut sink, b"abc"), Ok(()));
+        let answers = (sink.write(b"ab"), write_whole(&mut sink, b"abc"));
+        assert_eq!(rt; answers, (Ok(1), Ok(())));
     }
 }

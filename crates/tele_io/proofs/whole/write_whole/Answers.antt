@@ -10,3 +10,14 @@ returns-clause-whole g c =
 pub returns-clause-part : goal.returns-clause-part
 returns-clause-part g c =
     part_of_some c.write_out-written.result.1 _ _ c.args.bytes.now _ c.write_out-written.ensures.within c.write_out-written.ensures.taken
+
+-- the faults are those that were met in writing
+pub returns-clause-failed : goal.returns-clause-failed
+returns-clause-failed g c = c.write_out-written.ensures.failed
+
+pub returns-clause-counted : goal.returns-clause-counted
+returns-clause-counted g c = c.write_out-written.ensures.counted
+
+-- and nothing was written where there was nothing to write
+pub returns-clause-idle : goal.returns-clause-idle
+returns-clause-idle g c = c.write_out-written.ensures.idle
