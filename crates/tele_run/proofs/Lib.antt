@@ -2,6 +2,7 @@ pub mod RoundLemmas
 pub mod AnswerLemmas
 pub mod RepliesLemmas
 pub mod TakeLemmas
+pub mod CauseLemmas
 pub mod StepLemmas
 pub mod PassLemmas
 pub mod JobLemmas

@@ -1,14 +1,36 @@
-use Rattle.std.proofs.Common.{◌≡◌, ◌+◌, ◌<◌, ◌∙◌, ap, sym, subst, arith, length, lit<}
-use Rattle.std.specs.Prelude.{Some}
+use Rattle.std.proofs.Common.{◌≡◌, ℕ, List, ◌+◌, ◌<◌, ◌≤◌, ◌∙◌, inl, inr, ap, sym, subst, arith, length, lit<}
+use Rattle.std.specs.Prelude.{Option, Some, None, IfSome}
+use Rattle.tele_io.specs.Bytes.{Appends, HaveRisen}
+use Rattle.tele_lines.specs.Answer.{answer}
 use Rattle.tele_lines.specs.Progress.{Place}
 use Rattle.tele_lines.specs.Rounds.{round_limit}
-use Rattle.tele_run.specs.Causes.{IsAnswer, IsCutShort}
+use Rattle.tele_run.specs.declared.jobs.Job.TheVariants.{Read}
+use Rattle.tele_run.specs.Causes.{IsAnswer, IsCutShort, IsStatus}
+use Rattle.tele_run.specs.Due.{due, Ends}
 use Rattle.tele_run.specs.Open.{Open, IsOpenBefore}
 use Rattle.tele_run.proofs.OpenLemmas.{open_first}
 use Rattle.tele_run.proofs.DueRoundLemmas.{rounds_first, rounds_on_if, rounds_end_if}
-use Rattle.tele_run.proofs.ToldLemmas.{at_first, all_due, on_and_on_if, on_and_part_if, stops_if}
+use Rattle.tele_run.proofs.ToldLemmas.{first_moment, at_first, all_due, on_and_on_if, on_and_end_if, on_and_part_if, stops_if}
 use Rattle.tele_run.proofs.RanLemmas.{words_here}
 use Rattle.tele_run.proofs.runs.answer_all.Goals as goal
+
+-- what was due at first and written whole is the answer, in its text and its status
+text_if : (all before written : Option (List ℕ)) (ending : ℕ)
+    → IfSome all (λ bytes. Ends (due first_moment bytes) before written ending)
+    → IfSome all (λ bytes. Appends before written (answer bytes).text)
+text_if None before written ending ends = tt
+text_if (Some bytes) before written ending ends = ends.writes
+
+status_if : (all before written : Option (List ℕ)) (ending status : ℕ) → status ≡ ending
+    → IfSome all (λ bytes. Ends (due first_moment bytes) before written ending)
+    → IfSome all (λ bytes. status ≡ (answer bytes).status)
+status_if None before written ending status same ends = tt
+status_if (Some bytes) before written ending status same ends = same ∙ ends.status
+
+-- a count that has risen since a later moment has risen since an earlier one
+risen_since : (before middle now : ℕ) → before ≤ middle → HaveRisen middle now → HaveRisen before now
+risen_since before middle now le (inl more) = inl (omega arith)
+risen_since before middle now le (inr at_end) = inr at_end
 
 -- all is due
 pub loop-status-init : goal.loop-status-init
@@ -85,3 +107,29 @@ returns-in-Some-clause-last g c is =
     rounds_end_if words_here c.args.round.team c.args.round.words _ c.loop-status.round _ _ c.step.new.round _ _ _ _ _
     (c.ended.ensures.last answers) (c.ended.ensures.fulls answers) c.loop-status.invariant.ran
     (c.in-Some.ensures.ran_all answers)
+
+-- the answer was written
+pub returns-in-Some-clause-text : goal.returns-in-Some-clause-text
+returns-in-Some-clause-text g c is =
+    text_if _ _ _ _ (on_and_end_if _ _ _ _ _ _ _ _ c.loop-status.invariant.due
+    (c.in-Some.ensures.ends (subst IsAnswer c.ended.ensures.status is)))
+
+pub returns-in-Some-clause-status : goal.returns-in-Some-clause-status
+returns-in-Some-clause-status g c is =
+    status_if _ _ _ _ _ c.ended.ensures.status (on_and_end_if _ _ _ _ _ _ _ _ c.loop-status.invariant.due
+    (c.in-Some.ensures.ends (subst IsAnswer c.ended.ensures.status is)))
+
+-- each status has its cause
+pub returns-in-Some-clause-statuses : goal.returns-in-Some-clause-statuses
+returns-in-Some-clause-statuses g c =
+    subst (IsStatus Read) (sym c.ended.ensures.status) c.in-Some.ensures.statuses
+
+pub returns-in-Some-clause-read_failed : goal.returns-in-Some-clause-read_failed
+returns-in-Some-clause-read_failed g c is =
+    risen_since _ _ _ c.loop-status.invariant.source_counted
+    (c.in-Some.ensures.read_failed (ap Some (sym c.ended.ensures.status ∙ is)))
+
+pub returns-in-Some-clause-write_failed : goal.returns-in-Some-clause-write_failed
+returns-in-Some-clause-write_failed g c is =
+    risen_since _ _ _ c.loop-status.invariant.sink_counted
+    (c.in-Some.ensures.write_failed (ap Some (sym c.ended.ensures.status ∙ is)))
