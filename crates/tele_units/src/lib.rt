@@ -1,9 +1,11 @@
-//! The lanes of a round and what is drawn from a seed, call by call: tests alone.
+//! Bytes in and out, the lanes of a round, and what is drawn from a seed, call by call: tests alone.
 //!
-//! Read `recorders.rt`, then `lanes.rt` and `stealing.rt`; and `draws.rt`. Stands on `tele_lanes`, `tele_steal` and
-//! `ist_draws`.
+//! Read `bytes.rt`; `recorders.rt`, then `lanes.rt` and `stealing.rt`; and `draws.rt`. Stands on `tele_io`, `tele_lanes`,
+//! `tele_steal` and `ist_draws`.
 #![tactic(auto)]
 
+#[cfg(test)]
+mod bytes;
 #[cfg(test)]
 mod draws;
 #[cfg(test)]
