@@ -1,23 +1,32 @@
--- What a run that was cut short did not end with. Serves the steps of a run.
-use Rattle.std.proofs.Common.{◌≡◌, ℕ, inl, inr, arith}
+-- What a run did not end with, by its status. Serves the steps of a run.
+use Rattle.std.proofs.Common.{◌≡◌, ℕ, ◌<◌, inl, inr, arith}
 use Rattle.std.specs.Prelude.{Some}
 use Rattle.tele_run.specs.Causes.{IsAnswer, IsCutShort}
-use Rattle.tele_run.specs.declared.outcomes.TheConstants.{ANSWERED, READ_FAILED}
+use Rattle.tele_run.specs.declared.outcomes.TheConstants.{ANSWERED, READ_FAILED, WRITE_FAILED}
 
--- an answer
+-- a run that was cut short, with an answer
 pub cut_unanswered : {P : Type 0} (status : ℕ) → IsCutShort status → IsAnswer status → P
 cut_unanswered status (inl failed) (inl whole) = absurd (omega arith)
 cut_unanswered status (inl failed) (inr bad) = absurd (omega arith)
 cut_unanswered status (inr wanting) (inl whole) = absurd (omega arith)
 cut_unanswered status (inr wanting) (inr bad) = absurd (omega arith)
 
--- a failed read
+-- nor with a failed read
 pub cut_unfailed : {P : Type 0} (status : ℕ) → IsCutShort status → Some status ≡ Some READ_FAILED
     → P
 cut_unfailed status (inl failed) is = let same : status ≡ READ_FAILED = cc is in absurd (omega arith)
 cut_unfailed status (inr wanting) is = let same : status ≡ READ_FAILED = cc is in absurd (omega arith)
 
--- the end of the input
+-- nor with the end of the input
 pub cut_unended : {P : Type 0} (status : ℕ) → IsCutShort status → Some status ≡ Some ANSWERED → P
 cut_unended status (inl failed) is = let same : status ≡ ANSWERED = cc is in absurd (omega arith)
 cut_unended status (inr wanting) is = let same : status ≡ ANSWERED = cc is in absurd (omega arith)
+
+-- a run with a lower status, with what cuts one short
+pub uncut : {P : Type 0} (status : ℕ) → status < WRITE_FAILED → IsCutShort status → P
+uncut status low (inl failed) = absurd (omega arith)
+uncut status low (inr wanting) = absurd (omega arith)
+
+-- and none with a status and a higher one
+pub no_other : {P : Type 0} (status other : ℕ) → status < other → Some status ≡ Some other → P
+no_other status other low is = let same : status ≡ other = cc is in absurd (omega arith)

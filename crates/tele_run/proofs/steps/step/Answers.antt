@@ -1,4 +1,4 @@
-use Rattle.std.proofs.Common.{[], ◌∷◌, ◌++◌, sym, ap, refl, subst, append-nil}
+use Rattle.std.proofs.Common.{[], ◌∷◌, ◌++◌, sym, ap, refl, subst, append-nil, lit<}
 use Rattle.std.specs.Prelude.{Err}
 use Rattle.tele_io.specs.Bytes.{Appends, AppendsPart}
 use Rattle.tele_lines.specs.Answer.{Good, Bad}
@@ -6,7 +6,7 @@ use Rattle.tele_lines.specs.Progress.{version_of}
 use Rattle.tele_run.specs.Open.{asked, map_in, round_for}
 use Rattle.tele_run.specs.Due.{moment_of, TakesRounds}
 use Rattle.tele_run.proofs.AnswerLemmas.{status-asked}
-use Rattle.tele_run.proofs.CauseLemmas.{cut_unanswered, cut_unfailed, cut_unended}
+use Rattle.tele_run.proofs.CauseLemmas.{cut_unanswered, cut_unfailed, cut_unended, uncut, no_other}
 use Rattle.tele_run.proofs.TakeLemmas.{stay_kept, takes_same}
 use Rattle.tele_run.proofs.StepLemmas.{same_lines, status-taken, at_end}
 use Rattle.tele_run.proofs.ToldLemmas.{went_on_if, part_if, none_if, ended_if, ended_part_if}
@@ -244,3 +244,54 @@ returns-in-Err-pass_on-clause-kept g c = λ is. cut_unfailed _ c.refused-in-Err-
 
 pub returns-in-Err-pass_on-clause-whole : goal.returns-in-Err-pass_on-clause-whole
 returns-in-Err-pass_on-clause-whole g c = λ is. cut_unended _ c.refused-in-Err-pass_on.ensures.other is
+
+-- a line that was taken ends nothing
+pub returns-in-Ok-clause-passed : goal.returns-in-Ok-clause-passed
+returns-in-Ok-clause-passed g c is = absurd (cc is)
+
+pub returns-in-Ok-clause-waits : goal.returns-in-Ok-clause-waits
+returns-in-Ok-clause-waits g c is = absurd (cc is)
+
+pub returns-in-Ok-clause-kept : goal.returns-in-Ok-clause-kept
+returns-in-Ok-clause-kept g c is = absurd (cc is)
+
+pub returns-in-Ok-clause-read_failed : goal.returns-in-Ok-clause-read_failed
+returns-in-Ok-clause-read_failed g c is = absurd (cc is)
+
+pub returns-in-Ok-clause-write_failed : goal.returns-in-Ok-clause-write_failed
+returns-in-Ok-clause-write_failed g c is = absurd (cc is)
+
+pub returns-in-Ok-clause-whole : goal.returns-in-Ok-clause-whole
+returns-in-Ok-clause-whole g c is = absurd (cc is)
+
+-- at the end of the input nothing failed
+pub returns-in-Ok-end_round-clause-part : goal.returns-in-Ok-end_round-clause-part
+returns-in-Ok-end_round-clause-part g c is = uncut _ (lit< tt) is
+
+pub returns-in-Ok-end_round-clause-passed : goal.returns-in-Ok-end_round-clause-passed
+returns-in-Ok-end_round-clause-passed g c is = no_other _ _ (lit< tt) is
+
+pub returns-in-Ok-end_round-clause-waits : goal.returns-in-Ok-end_round-clause-waits
+returns-in-Ok-end_round-clause-waits g c is = no_other _ _ (lit< tt) is
+
+pub returns-in-Ok-end_round-clause-kept : goal.returns-in-Ok-end_round-clause-kept
+returns-in-Ok-end_round-clause-kept g c is = no_other _ _ (lit< tt) is
+
+pub returns-in-Ok-end_round-clause-read_failed : goal.returns-in-Ok-end_round-clause-read_failed
+returns-in-Ok-end_round-clause-read_failed g c is = no_other _ _ (lit< tt) is
+
+-- nor at a bad line
+pub returns-in-Ok-name-clause-part : goal.returns-in-Ok-name-clause-part
+returns-in-Ok-name-clause-part g c is = uncut _ (lit< tt) is
+
+pub returns-in-Ok-name-clause-passed : goal.returns-in-Ok-name-clause-passed
+returns-in-Ok-name-clause-passed g c is = no_other _ _ (lit< tt) is
+
+pub returns-in-Ok-name-clause-waits : goal.returns-in-Ok-name-clause-waits
+returns-in-Ok-name-clause-waits g c is = no_other _ _ (lit< tt) is
+
+pub returns-in-Ok-name-clause-kept : goal.returns-in-Ok-name-clause-kept
+returns-in-Ok-name-clause-kept g c is = no_other _ _ (lit< tt) is
+
+pub returns-in-Ok-name-clause-read_failed : goal.returns-in-Ok-name-clause-read_failed
+returns-in-Ok-name-clause-read_failed g c is = no_other _ _ (lit< tt) is
