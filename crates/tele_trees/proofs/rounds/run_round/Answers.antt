@@ -1,6 +1,7 @@
-use Rattle.std.proofs.Common.{ℕ, List, ◌++◌, subst, arith, refl, IfOk}
+use Rattle.std.proofs.Common.{ℕ, List, ◌++◌, length, subst, arith, refl, IfOk}
 use Rattle.std.specs.List.Sorted.{IsPermutation}
 use Rattle.tele_lanes.proofs.LineLemmas.{IfOk-both}
+use Rattle.tele_generations.specs.Sizes.{first_words}
 use Rattle.tele_generations.proofs.LeadLemmas.{tables_begin}
 use Rattle.tele_generations.proofs.WayLemmas.{way_begins}
 use Rattle.tele_generations.proofs.RoundLemmas.{ran_here, some_left, behind_rise, behind_few}
@@ -19,9 +20,10 @@ pub loop-way-init : goal.loop-way-init
 loop-way-init g c =
     let e = c.in_ok-way.ensures in
     let words = c.in_ok-way.way.words in
+    let most = first_words c.args.words c.args.workers (length c.args.pairs.now) (length c.args.tasks.now) in
     record {
       tables = rw (e.fulls, e.pairs, e.left)
-          (tables_begin words_here (lane_count c.args.workers c.args.steal) _ c.args.pairs.now c.args.tasks.now
+          (tables_begin words_here (lane_count c.args.workers c.args.steal) most c.args.pairs.now c.args.tasks.now
           (g.H.Shelf.kept c.args.shelf.now) words (g.H.Shelf.kept c.args.shelf.now) refl e.words);
       on = rw (e.fulls, e.answers, e.pairs, e.left)
           (way_begins (lane_count c.args.workers c.args.steal) c.args.pairs.now c.args.tasks.now words c.requires.keys
