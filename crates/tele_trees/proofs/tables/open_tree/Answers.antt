@@ -9,3 +9,7 @@ open_over-requires-clause-few c =
     let room = c.requires.opens.room in
     let within = c.requires.opens.within in
     omega arith
+
+-- the tree that was opened
+pub returns-in-Ok : goal.returns-in-Ok
+returns-in-Ok c = record { new = c.in-Ok.ensures.new }
