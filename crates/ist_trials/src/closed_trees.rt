@@ -4,7 +4,7 @@ use crate::openings::{FIVE, NINE, two_pairs};
 use ist_rest::Closed;
 use ist_tree::{OpenFault, Tree};
 use ist_words::WordList;
-use std::alloc::Global;
+use std::alloc::{AllocError, Global};
 use std::test::Fail;
 
 // A tree of 16 words with the pair (5, 7), which is closed at once.
@@ -31,14 +31,11 @@ fn word_at(closed: &Closed, place: u64) -> Option<u64> {
 #[test]
 fn a_closed_table_has_the_words_that_were_laid_out(rt: HostRuntime) -> Result<(), Fail> {
     let one = one_closed(rt.alloc())?;
-    assert_eq!(rt;
-        (one.used(), one.word_count(), one.settled()),
-        (6, 16, true)
-    );
     let two = two_closed(rt.alloc())?;
+    let sizes = (one.used(), one.word_count(), two.used(), two.word_count());
     assert_eq!(rt;
-        (two.used(), two.word_count(), two.settled()),
-        (15, 20, true)
+        (sizes, one.settled(), two.settled()),
+        ((6, 16, 15, 20), true, true)
     );
     // the place, the word of each table there
     let cases = [
@@ -60,14 +57,25 @@ fn a_closed_table_has_the_words_that_were_laid_out(rt: HostRuntime) -> Result<()
         (15, 0, 0),
     ];
     for (place, first, second) in cases {
-        assert_eq!(rt; word_at(&one, place), Some(first), "word {place}");
-        assert_eq!(rt; word_at(&two, place), Some(second), "word {place}");
+        let words = (word_at(&one, place), word_at(&two, place));
+        assert_eq!(rt; words, (Some(first), Some(second)), "word {place}");
     }
     assert_eq!(rt;
         (word_at(&one, 16), word_at(&two, 19), word_at(&two, 20)),
         (None, Some(0), None)
     );
     Ok(())
+}
+
+// How many pairs a closed table has from the first key to the last one.
+fn count_between(
+    alloc: Global,
+    closed: &Closed,
+    first: u64,
+    last: u64,
+) -> Result<usize, AllocError> {
+    let found = closed.list(alloc, first, last)?;
+    Ok(found.len())
 }
 
 #[test]
@@ -87,10 +95,11 @@ fn a_closed_table_lists_its_pairs(rt: HostRuntime) -> Result<(), Fail> {
         (9, 5, 0, 0),
     ];
     for (first, last, in_one, in_two) in cases {
-        let found = one.list(rt.alloc(), first, last)?;
-        assert_eq!(rt; found.len(), in_one, "{first} to {last}");
-        let found = two.list(rt.alloc(), first, last)?;
-        assert_eq!(rt; found.len(), in_two, "{first} to {last}");
+        let found = (
+            count_between(rt.alloc(), &one, first, last)?,
+            count_between(rt.alloc(), &two, first, last)?,
+        );
+        assert_eq!(rt; found, (in_one, in_two), "{first} to {last}");
     }
     Ok(())
 }

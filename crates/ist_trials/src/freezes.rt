@@ -1,32 +1,44 @@
 //! Trees that are frozen whole, while their words suffice and where they don't.
-ghost use Rattle.std.specs.Prelude.{◌≤◌};
+ghost use Rattle.std.specs.Prelude.{◌≡◌, ◌≤◌};
 
 use crate::openings::{FIVE, NINE, two_pairs};
-use ist_core::Full;
-use ist_tree::{OpenFault, Tree};
+use ist_core::{Full, Pair};
+use ist_tree::{OpenFault, Pass, Tree};
 use ist_words::WordList;
 use std::alloc::Global;
 use std::sync::Wait;
 use std::test::Fail;
 
+// How many keys the tree has when it is frozen whole, the first pair and the last one.
+fn frozen_ends<R: Wait>(
+    rt: &R,
+    tree: &Tree,
+    pass: &mut Pass,
+) -> Result<Option<(u64, Pair, Pair)>, Full>
+    requires same_tree { pass.old.tree ≡ tree.now }
+    ensures same_tree { pass.new.tree ≡ tree.now }
+{
+    let frozen = tree.freeze(rt, pass)?;
+    if frozen.keys == 0 {
+        return Ok(None);
+    }
+    let first = tree.frozen_pair(pass, &frozen, 0);
+    let last = tree.frozen_pair(pass, &frozen, frozen.keys - 1);
+    Ok(Some((frozen.keys, first, last)))
+}
+
 #[test]
 fn a_frozen_tree_has_its_pairs_and_the_tree_goes_on_settled(rt: HostRuntime) -> Result<(), Fail> {
     let (tree, mut maker) = two_pairs(rt.alloc(), 100)?;
     let mut pass = tree.pass(&mut maker);
-    match tree.freeze(&rt, &mut pass) {
-        Ok(frozen) => {
-            assert_eq!(rt; frozen.keys, 2);
-            if frozen.keys == 2 {
-                assert_eq!(rt; tree.frozen_pair(&mut pass, &frozen, 0), FIVE);
-                assert_eq!(rt; tree.frozen_pair(&mut pass, &frozen, 1), NINE);
-            }
-        }
-        Err(full) => assert_eq!(rt; Some(full), None, "no refusal"),
-    }
-    assert_eq!(rt; pass.rebuild_refused(), None);
+    let ends = frozen_ends(&rt, &tree, &mut pass);
+    let refused = pass.rebuild_refused();
     tree.take_back(&mut maker, pass);
     let closed = tree.close(maker);
-    assert!(rt; closed.used() == 45 && closed.settled());
+    assert_eq!(rt;
+        (ends, refused, closed.used(), closed.settled()),
+        (Ok(Some((2, FIVE, NINE))), None, 45, true)
+    );
     Ok(())
 }
 
@@ -71,22 +83,17 @@ fn a_tree_is_frozen_while_the_rebuild_of_another_stands_still(rt: HostRuntime) -
     let mut first = tree.pass(&mut maker);
     let mut second = tree.pass(&mut maker);
     // the start takes the last words, so that the first pass leaves the rebuild without a root
-    assert!(rt; tree.freeze(&rt, &mut first).is_ok());
-    match tree.freeze(&rt, &mut second) {
-        Ok(frozen) => {
-            assert_eq!(rt; frozen.keys, 2);
-            if frozen.keys == 2 {
-                assert_eq!(rt; tree.frozen_pair(&mut second, &frozen, 0), FIVE);
-                assert_eq!(rt; tree.frozen_pair(&mut second, &frozen, 1), NINE);
-            }
-        }
-        Err(full) => assert_eq!(rt; Some(full), None, "no refusal"),
-    }
-    assert_eq!(rt; second.rebuild_refused(), first.rebuild_refused());
-    assert_eq!(rt; tree.find(&mut second, 9), Some(1));
+    let begun = tree.freeze(&rt, &mut first).is_ok();
+    let ends = frozen_ends(&rt, &tree, &mut second);
+    let alike = second.rebuild_refused() == first.rebuild_refused();
+    let found = tree.find(&mut second, 9);
     tree.take_back(&mut maker, first);
     tree.take_back(&mut maker, second);
     let closed = tree.close(maker);
+    assert_eq!(rt;
+        (begun, ends, alike, found),
+        (true, Ok(Some((2, FIVE, NINE))), true, Some(1))
+    );
     // the word of the rebuild at 15
     assert!(rt; closed.word(3) == 124 && !closed.settled());
     Ok(())
@@ -97,16 +104,9 @@ fn a_leaf_is_frozen_as_it_is(rt: HostRuntime) -> Result<(), Fail> {
     let pairs = [FIVE];
     let (tree, mut maker) = Tree::open(rt.alloc(), 6, &pairs)?;
     let mut pass = tree.pass(&mut maker);
-    match tree.freeze(&rt, &mut pass) {
-        Ok(frozen) => {
-            assert_eq!(rt; frozen.keys, 1);
-            if frozen.keys == 1 {
-                assert_eq!(rt; tree.frozen_pair(&mut pass, &frozen, 0), FIVE);
-            }
-        }
-        Err(full) => assert_eq!(rt; Some(full), None, "no refusal"),
-    }
+    let ends = frozen_ends(&rt, &tree, &mut pass);
     tree.take_back(&mut maker, pass);
-    assert_eq!(rt; tree.close(maker).used(), 6);
+    let used = tree.close(maker).used();
+    assert_eq!(rt; (ends, used), (Ok(Some((1, FIVE, FIVE))), 6));
     Ok(())
 }

@@ -1,10 +1,22 @@
 //! New trees, which are searched by passes that tell each other what they know, and closed.
+ghost use Rattle.std.specs.Prelude.{◌≤◌, length, map};
+ghost use Rattle.std.specs.List.Sorted.{IsStrictlyIncreasing};
 
 use crate::openings::{FIVE, NINE, two_pairs};
+use ist_core::Pair;
 use ist_image::Image;
+use ist_rest::Closed;
 use ist_tree::{OpenFault, Tree};
 use ist_words::WordList;
+use std::alloc::Global;
 use std::test::Fail;
+
+// What a new tree of both pairs finds at a key.
+fn found_at(alloc: Global, key: u64) -> Result<Option<u64>, OpenFault> {
+    let (tree, mut maker) = two_pairs(alloc, 20)?;
+    let mut pass = tree.pass(&mut maker);
+    Ok(tree.find(&mut pass, key))
+}
 
 #[test]
 fn each_key_is_found_with_its_opening_value(rt: HostRuntime) -> Result<(), Fail> {
@@ -17,9 +29,7 @@ fn each_key_is_found_with_its_opening_value(rt: HostRuntime) -> Result<(), Fail>
         (u64::MAX, None),
     ];
     for (key, value) in cases {
-        let (tree, mut maker) = two_pairs(rt.alloc(), 20)?;
-        let mut pass = tree.pass(&mut maker);
-        assert_eq!(rt; tree.find(&mut pass, key), value, "key {key}");
+        assert_eq!(rt; found_at(rt.alloc(), key)?, value, "key {key}");
     }
     Ok(())
 }
@@ -56,45 +66,66 @@ fn a_tree_is_opened_exactly_where_its_pairs_have_room(rt: HostRuntime) -> Result
     Ok(())
 }
 
+// What a tree of the pairs, which is laid in the image, finds at 9 and then at 5.
+fn found_over(
+    alloc: Global,
+    image: &mut Image,
+    words: u32,
+    pairs: &[Pair],
+) -> Result<(Option<u64>, Option<u64>), OpenFault>
+    requires rising { IsStrictlyIncreasing (map (λ pair. pair.key) pairs.now) }
+    requires few { length pairs.now ≤ 2 }
+    requires within { words ≤ 1000 }
+{
+    let (tree, mut maker) = Tree::open_over(alloc, image, words, pairs)?;
+    let mut pass = tree.pass(&mut maker);
+    Ok((tree.find(&mut pass, 9), tree.find(&mut pass, 5)))
+}
+
 #[test]
 fn one_image_serves_for_two_openings(rt: HostRuntime) -> Result<(), Fail> {
     let mut image = Image::new(rt.alloc());
     let pairs = [FIVE, NINE];
-    let (tree, mut maker) = Tree::open_over(rt.alloc(), &mut image, 20, &pairs)?;
-    let mut pass = tree.pass(&mut maker);
-    assert_eq!(rt; tree.find(&mut pass, 9), Some(1));
+    let both = found_over(rt.alloc(), &mut image, 20, &pairs)?;
     let fewer = [FIVE];
-    let (tree, mut maker) = Tree::open_over(rt.alloc(), &mut image, 8, &fewer)?;
-    let mut pass = tree.pass(&mut maker);
-    assert_eq!(rt; tree.find(&mut pass, 9), None);
-    assert_eq!(rt; tree.find(&mut pass, 5), Some(7));
+    let one = found_over(rt.alloc(), &mut image, 8, &fewer)?;
+    assert_eq!(rt; (both, one), ((Some(1), Some(7)), (None, Some(7))));
     Ok(())
 }
 
-#[test]
-fn notes_go_from_pass_to_pass_until_the_tree_is_closed(rt: HostRuntime) -> Result<(), Fail> {
-    let (tree, mut maker) = two_pairs(rt.alloc(), 20)?;
+// What each of three passes of a tree finds, where each is told what the one before knows; the numbers of
+// the last two, the tree when it is closed, and its word at 1.
+fn told_in_turn(alloc: Global) -> Result<([Option<u64>; 3], (u64, u64), Closed, u64), OpenFault> {
+    let (tree, mut maker) = two_pairs(alloc, 20)?;
     let mut first = tree.pass(&mut maker);
     let mut second = tree.pass(&mut maker);
-    assert_eq!(rt; tree.find(&mut first, 5), Some(7));
+    let in_first = tree.find(&mut first, 5);
     let dropped = tree.note(&mut first);
     drop(dropped);
     let told = tree.note(&mut first);
     tree.meet(&mut second, told);
-    assert_eq!(rt; tree.find(&mut second, 9), Some(1));
+    let in_second = tree.find(&mut second, 9);
     tree.take_back(&mut maker, first);
     let mut third = tree.pass(&mut maker);
     let told = tree.note(&mut second);
     tree.meet(&mut third, told);
-    assert_eq!(rt; tree.find(&mut third, 6), None);
-    assert!(rt; second.number() == 1 && third.number() == 2);
+    let in_third = tree.find(&mut third, 6);
+    let numbers = (second.number(), third.number());
     tree.take_back(&mut maker, third);
     tree.take_back(&mut maker, second);
     let closed = tree.close(maker);
+    let word = closed.word(1);
+    Ok(([in_first, in_second, in_third], numbers, closed, word))
+}
+
+#[test]
+fn notes_go_from_pass_to_pass_until_the_tree_is_closed(rt: HostRuntime) -> Result<(), Fail> {
+    let (found, numbers, closed, word) = told_in_turn(rt.alloc())?;
+    assert_eq!(rt; (found, numbers), ([Some(7), Some(1), None], (1, 2)));
+    let pairs = closed.pairs(rt.alloc())?;
     assert_eq!(rt;
-        closed.pairs(rt.alloc())?.as_slice(),
-        [FIVE, NINE].as_slice()
+        (pairs.as_slice(), closed.used(), word),
+        ([FIVE, NINE].as_slice(), 15, 3)
     );
-    assert!(rt; closed.used() == 15 && closed.word(1) == 3);
     Ok(())
 }

@@ -23,15 +23,16 @@ fn put_again<R: Wait>(rt: &R, tree: &Tree, pass: &mut Pass, key: u64, first: u64
     agrees
 }
 
-// How many words are used, whether the tree is settled, and its pairs, where so many puts of one key are
-// made in a tree of so many keys; and whether each put was answered right, without a refused rebuild.
+// How many words are used, how many pairs there are, and the first, where so many puts of one key are made
+// in a tree of so many keys; and whether it is settled, and each put was answered right, without a refused
+// rebuild.
 fn used_by<R: Wait>(
     rt: &R,
     alloc: Global,
     keys: u64,
     key: u64,
     puts: u64,
-) -> Result<(u64, bool, Vec<Pair>, bool), OpenFault>
+) -> Result<(u64, usize, Option<Pair>, bool), OpenFault>
     requires few { (keys ≤ 100000) × (puts ≤ 100000) }
 {
     let plain = numbered(alloc, 1, keys + 1, 0)?;
@@ -41,12 +42,9 @@ fn used_by<R: Wait>(
     let ample = pass.rebuild_refused().is_none();
     tree.take_back(&mut maker, pass);
     let closed = tree.close(maker);
-    Ok((
-        closed.used(),
-        closed.settled(),
-        closed.pairs(alloc)?,
-        agrees && ample,
-    ))
+    let right = closed.settled() && agrees && ample;
+    let pairs = closed.pairs(alloc)?;
+    Ok((closed.used(), pairs.len(), pairs.first().copied(), right))
 }
 
 #[test]
@@ -61,14 +59,12 @@ fn rows_that_come_due_are_rebuilt_from_the_top_one_down(rt: HostRuntime) -> Resu
         (400, 1, 100, 8685),
     ];
     for (keys, key, puts, used) in cases {
-        let (found, settled, pairs, agrees) = used_by(&rt, rt.alloc(), keys, key, puts)?;
-        assert_eq!(rt; found, used, "{keys} keys, {puts} puts");
-        assert!(rt; settled && agrees, "{keys} keys, {puts} puts");
-        assert_eq!(rt; pairs.len() as u64, keys, "{keys} keys, {puts} puts");
+        let found = used_by(&rt, rt.alloc(), keys, key, puts)?;
+        let first = Some(Pair { key, value: puts });
         assert_eq!(rt;
-            pairs.first(),
-            Some(&Pair { key, value: puts }),
-            "{keys} keys"
+            (found.0, found.1 as u64, found.2, found.3),
+            (used, keys, first, true),
+            "{keys} keys, {puts} puts"
         );
     }
     Ok(())

@@ -2,12 +2,13 @@
 ghost use Rattle.std.specs.Prelude.{◌≡◌, ◌≤◌};
 
 use crate::asking::ask_each;
+use crate::openings::numbered;
 use Asked::{Find, Put, Remove};
 use ist_core::{Full, Pair, Reply};
 use ist_rest::Closed;
 use ist_tales::Asked;
 use ist_tree::{OpenFault, Tree};
-use std::alloc::Global;
+use std::alloc::{AllocError, Global};
 use std::sync::Wait;
 use std::test::Fail;
 
@@ -54,45 +55,59 @@ fn removed_keys_leave_their_slots(rt: HostRuntime) -> Result<(), Fail> {
         (Put(2, 5), Ok(None)),
     ];
     let (closed, wrong) = closed_behind(&rt, rt.alloc(), 53, &cases)?;
-    assert_eq!(rt; (wrong, closed.used()), (None, 53));
     let both = [Pair { key: 1, value: 1 }, Pair { key: 2, value: 5 }];
-    assert_eq!(rt; closed.pairs(rt.alloc())?.as_slice(), both.as_slice());
-    assert_eq!(rt; closed.list(rt.alloc(), 2, 9)?.as_slice(), &both[1..]);
-    assert!(rt; closed.list(rt.alloc(), 3, 1)?.is_empty());
+    let pairs = closed.pairs(rt.alloc())?;
+    assert_eq!(rt;
+        (wrong, closed.used(), pairs.as_slice()),
+        (None, 53, both.as_slice())
+    );
+    let last = closed.list(rt.alloc(), 2, 9)?;
+    let none = closed.list(rt.alloc(), 3, 1)?;
+    assert_eq!(rt; (last.as_slice(), none.len()), (&both[1..], 0));
     Ok(())
+}
+
+// Puts of 1 to 10, each key with its own number as the value, as a tree without pairs answers them.
+fn ten_puts(alloc: Global) -> Result<Vec<(Asked, Result<Reply, Full>)>, AllocError> {
+    let mut cases = Vec::new(alloc);
+    for key in 1..=10 {
+        cases.push((Put(key, key), Ok(None)))?;
+    }
+    Ok(cases)
 }
 
 #[test]
 fn the_tenth_put_rebuilds_the_first_pair_row(rt: HostRuntime) -> Result<(), Fail> {
-    let mut cases = Vec::new(rt.alloc());
-    for key in 1..=10 {
-        cases.push((Put(key, key), Ok(None)))?;
-    }
+    let cases = ten_puts(rt.alloc())?;
     let (closed, wrong) = closed_behind(&rt, rt.alloc(), 1000, &cases)?;
-    assert_eq!(rt; (wrong, closed.used()), (None, 258));
-    assert!(rt; closed.settled());
-    let pairs = closed.pairs(rt.alloc())?;
-    assert_eq!(rt; pairs.len(), 10);
-    for (i, pair) in pairs.iter().enumerate() {
-        let key = i as u64 + 1;
-        assert_eq!(rt; *pair, Pair { key, value: key }, "pair {i}");
-    }
-    assert_eq!(rt; closed.list(rt.alloc(), 3, 5)?.as_slice(), &pairs[2..5]);
+    drop(cases);
+    assert_eq!(rt; (wrong, closed.used(), closed.settled()), (None, 258, true));
+    let ten = numbered(rt.alloc(), 1, 11, 0)?;
+    assert_eq!(rt; closed.pairs(rt.alloc())?.as_slice(), ten.pairs());
+    let three = numbered(rt.alloc(), 3, 6, 0)?;
+    assert_eq!(rt; closed.list(rt.alloc(), 3, 5)?.as_slice(), three.pairs());
     Ok(())
+}
+
+// What the puts, finds and removes of two passes answer, each of which is told what the other has done.
+fn told_in_turn<R: Wait>(rt: &R, alloc: Global) -> Result<[Result<Reply, Full>; 4], OpenFault> {
+    let (tree, mut maker) = Tree::open(alloc, 24, &[])?;
+    let mut one = tree.pass(&mut maker);
+    let mut two = tree.pass(&mut maker);
+    let put = tree.put(rt, &mut one, 1, 1);
+    let told = tree.note(&mut one);
+    tree.meet(&mut two, told);
+    let found = tree.find(&mut two, 1);
+    let removed = tree.remove(rt, &mut two, 1);
+    let told = tree.note(&mut two);
+    tree.meet(&mut one, told);
+    let gone = tree.find(&mut one, 1);
+    Ok([put, Ok(found), removed, Ok(gone)])
 }
 
 #[test]
 fn passes_that_meet_see_what_each_has_done(rt: HostRuntime) -> Result<(), Fail> {
-    let (tree, mut maker) = Tree::open(rt.alloc(), 24, &[])?;
-    let mut one = tree.pass(&mut maker);
-    let mut two = tree.pass(&mut maker);
-    assert_eq!(rt; tree.put(&rt, &mut one, 1, 1), Ok(None));
-    let told = tree.note(&mut one);
-    tree.meet(&mut two, told);
-    assert_eq!(rt; tree.find(&mut two, 1), Some(1));
-    assert_eq!(rt; tree.remove(&rt, &mut two, 1), Ok(Some(1)));
-    let told = tree.note(&mut two);
-    tree.meet(&mut one, told);
-    assert_eq!(rt; tree.find(&mut one, 1), None);
+    let answers = [Ok(None), Ok(Some(1)), Ok(Some(1)), Ok(None)];
+    assert_eq!(rt; told_in_turn(&rt, rt.alloc())?, answers);
     Ok(())
 }

@@ -1,7 +1,11 @@
 //! Intervals and bins at both ends of all keys.
-use crate::shots::{list_alike, new_tree, part_of, put_all};
+ghost use Rattle.std.specs.Prelude.{◌≡◌, ◌≤◌};
+ghost use Rattle.ist_tree.specs.Freezing.{IsFrozenFor};
+
+use crate::shots::{first_wrong, shot_of};
 use ist_core::Pair;
 use ist_scan::{Shot, Total};
+use ist_tree::{Pass, Tree};
 use std::test::Fail;
 
 // The least key, one between, and the greatest, with the greatest value.
@@ -23,8 +27,7 @@ const FOUR: [Pair; 4] = [
 
 #[test]
 fn intervals_reach_the_least_and_the_greatest_key(rt: HostRuntime) -> Result<(), Fail> {
-    let (tree, mut pass) = new_tree(rt.alloc())?;
-    assert!(rt; put_all(&rt, &tree, &mut pass, &FOUR));
+    let (tree, mut pass, shot) = shot_of(&rt, rt.alloc(), &FOUR)?;
     // first, last, the part of the four pairs
     let cases = [
         (0, u64::MAX, 0, 4),
@@ -34,25 +37,28 @@ fn intervals_reach_the_least_and_the_greatest_key(rt: HostRuntime) -> Result<(),
         (u64::MAX, u64::MAX, 3, 4),
         (6, u64::MAX - 2, 2, 2),
     ];
-    match Shot::take(&tree, &rt, &mut pass) {
-        Ok(shot) => {
-            for (first, last, low, high) in cases {
-                let found = list_alike(rt.alloc(), &tree, &mut pass, &shot, first, last)?;
-                let part = part_of(rt.alloc(), &FOUR, low, high)?;
-                assert_eq!(rt; found, Some(part), "from {first} to {last}");
-            }
-            let all = shot.total(&tree, &mut pass, 0, u64::MAX);
-            assert_eq!(rt; all.sum, 2 * u128::from(u64::MAX) + 10);
-        }
-        Err(full) => assert_eq!(rt; Some(full), None, "no refusal"),
-    }
+    let sum = shot.total(&tree, &mut pass, 0, u64::MAX).sum;
+    let wrong = first_wrong(rt.alloc(), &tree, &mut pass, &shot, &FOUR, &cases)?;
+    assert_eq!(rt; (wrong, sum), (None, 2 * u128::from(u64::MAX) + 10));
     Ok(())
+}
+
+// How many pairs each of three bins has.
+fn keys_in_bins(tree: &Tree, pass: &mut Pass, shot: &Shot, first: u64, width: u64) -> [u64; 3]
+    requires same_tree { pass.old.tree ≡ tree.now }
+    requires frozen { IsFrozenFor pass.old shot.now }
+    requires some { 1 ≤ width }
+    ensures same_tree { pass.new.tree ≡ tree.now }
+    ensures frozen { IsFrozenFor pass.new shot.now }
+{
+    let mut bins = [Total::of_none(); 3];
+    shot.bins(tree, pass, first, width, &mut bins);
+    [bins[0].keys, bins[1].keys, bins[2].keys]
 }
 
 #[test]
 fn the_last_bins_may_end_beyond_all_keys(rt: HostRuntime) -> Result<(), Fail> {
-    let (tree, mut pass) = new_tree(rt.alloc())?;
-    assert!(rt; put_all(&rt, &tree, &mut pass, &FOUR));
+    let (tree, mut pass, shot) = shot_of(&rt, rt.alloc(), &FOUR)?;
     // first, width, how many pairs each bin has
     let cases = [
         (0, u64::MAX, [3, 1, 0]),
@@ -62,16 +68,9 @@ fn the_last_bins_may_end_beyond_all_keys(rt: HostRuntime) -> Result<(), Fail> {
         (u64::MAX, u64::MAX, [1, 0, 0]),
         (5, 1, [1, 0, 0]),
     ];
-    match Shot::take(&tree, &rt, &mut pass) {
-        Ok(shot) => {
-            for (first, width, keys) in cases {
-                let mut bins = [Total::of_none(); 3];
-                shot.bins(&tree, &mut pass, first, width, &mut bins);
-                let found = [bins[0].keys, bins[1].keys, bins[2].keys];
-                assert_eq!(rt; found, keys, "{width} keys from {first} on");
-            }
-        }
-        Err(full) => assert_eq!(rt; Some(full), None, "no refusal"),
+    for (first, width, keys) in cases {
+        let found = keys_in_bins(&tree, &mut pass, &shot, first, width);
+        assert_eq!(rt; found, keys, "{width} keys from {first} on");
     }
     Ok(())
 }

@@ -2,9 +2,7 @@
 ghost use Rattle.std.specs.Prelude.{◌≡◌};
 ghost use Rattle.ist_tree.specs.Freezing.{IsFrozenFor};
 
-use crate::shots::{
-    list_alike, new_tree, part_of, put_all, put_beside, rebuild_beside, remove_beside,
-};
+use crate::shots::{first_wrong, put_beside, rebuild_beside, remove_beside, shot_of};
 use ist_core::{Full, Pair};
 use ist_scan::{Shot, Total};
 use ist_tree::{Pass, Tree};
@@ -37,34 +35,33 @@ fn total(keys: u64, sum: u128, least: u64, greatest: u64) -> Total {
     }
 }
 
+// How many keys a shot has, its totals of three intervals, and three bins of 40 keys.
+fn read_of(tree: &Tree, pass: &mut Pass, shot: &Shot) -> (u64, [Total; 3], [Total; 3])
+    requires same_tree { pass.old.tree ≡ tree.now }
+    requires frozen { IsFrozenFor pass.old shot.now }
+{
+    let totals = [
+        shot.total(tree, pass, 20, 50),
+        shot.total(tree, pass, 21, 29),
+        shot.total(tree, pass, 0, u64::MAX),
+    ];
+    let mut bins = [Total::of_none(); 3];
+    shot.bins(tree, pass, 0, 40, &mut bins);
+    (shot.keys(), totals, bins)
+}
+
 #[test]
 fn ten_readings_are_added_up_between_keys_and_in_bins(rt: HostRuntime) -> Result<(), Fail> {
-    let (tree, mut pass) = new_tree(rt.alloc())?;
-    assert!(rt; put_all(&rt, &tree, &mut pass, &TEN));
-    match Shot::take(&tree, &rt, &mut pass) {
-        Ok(shot) => {
-            assert_eq!(rt; shot.keys(), 10);
-            assert_eq!(rt; shot.total(&tree, &mut pass, 20, 50), total(4, 14, 2, 5));
-            assert_eq!(rt; shot.total(&tree, &mut pass, 21, 29), Total::of_none());
-            assert_eq!(rt;
-                shot.total(&tree, &mut pass, 0, u64::MAX),
-                total(10, 45, 0, 9)
-            );
-            let mut bins = [Total::of_none(); 3];
-            shot.bins(&tree, &mut pass, 0, 40, &mut bins);
-            assert_eq!(rt; bins[0], total(4, 6, 0, 3));
-            assert_eq!(rt; bins[1], total(4, 22, 4, 7));
-            assert_eq!(rt; bins[2], total(2, 17, 8, 9));
-        }
-        Err(full) => assert_eq!(rt; Some(full), None, "no refusal"),
-    }
+    let (tree, mut pass, shot) = shot_of(&rt, rt.alloc(), &TEN)?;
+    let totals = [total(4, 14, 2, 5), Total::of_none(), total(10, 45, 0, 9)];
+    let bins = [total(4, 6, 0, 3), total(4, 22, 4, 7), total(2, 17, 8, 9)];
+    assert_eq!(rt; read_of(&tree, &mut pass, &shot), (10, totals, bins));
     Ok(())
 }
 
 #[test]
 fn a_list_a_walk_and_a_total_agree_on_each_interval(rt: HostRuntime) -> Result<(), Fail> {
-    let (tree, mut pass) = new_tree(rt.alloc())?;
-    assert!(rt; put_all(&rt, &tree, &mut pass, &TEN));
+    let (tree, mut pass, shot) = shot_of(&rt, rt.alloc(), &TEN)?;
     // first, last, the part of the ten pairs
     let cases = [
         (0, u64::MAX, 0, 10),
@@ -79,16 +76,8 @@ fn a_list_a_walk_and_a_total_agree_on_each_interval(rt: HostRuntime) -> Result<(
         (50, 20, 5, 5),
         (u64::MAX, 0, 5, 5),
     ];
-    match Shot::take(&tree, &rt, &mut pass) {
-        Ok(shot) => {
-            for (first, last, low, high) in cases {
-                let found = list_alike(rt.alloc(), &tree, &mut pass, &shot, first, last)?;
-                let part = part_of(rt.alloc(), &TEN, low, high)?;
-                assert_eq!(rt; found, Some(part), "from {first} to {last}");
-            }
-        }
-        Err(full) => assert_eq!(rt; Some(full), None, "no refusal"),
-    }
+    let wrong = first_wrong(rt.alloc(), &tree, &mut pass, &shot, &TEN, &cases)?;
+    assert_eq!(rt; wrong, None);
     Ok(())
 }
 
@@ -96,23 +85,15 @@ fn a_list_a_walk_and_a_total_agree_on_each_interval(rt: HostRuntime) -> Result<(
 fn a_shot_keeps_a_key_that_was_removed_since_and_a_new_one_has_none(
     rt: HostRuntime,
 ) -> Result<(), Fail> {
-    let (tree, mut pass) = new_tree(rt.alloc())?;
-    assert!(rt; put_all(&rt, &tree, &mut pass, &[ONE]));
-    match Shot::take(&tree, &rt, &mut pass) {
-        Ok(shot) => {
-            assert_eq!(rt; remove_beside(&rt, &tree, &mut pass, &shot, 1), Ok(Some(1)));
-            let list = shot.list(rt.alloc(), &tree, &mut pass, 0, 9)?;
-            assert_eq!(rt; list.as_slice(), [ONE].as_slice());
-        }
-        Err(full) => assert_eq!(rt; Some(full), None, "no refusal"),
-    }
-    match Shot::take(&tree, &rt, &mut pass) {
-        Ok(shot) => {
-            assert_eq!(rt; shot.keys(), 0);
-            assert!(rt; shot.list(rt.alloc(), &tree, &mut pass, 0, 9)?.is_empty());
-        }
-        Err(full) => assert_eq!(rt; Some(full), None, "no refusal"),
-    }
+    let (tree, mut pass, shot) = shot_of(&rt, rt.alloc(), &[ONE])?;
+    let removed = remove_beside(&rt, &tree, &mut pass, &shot, 1);
+    let cases = [(0, 9, 0, 1)];
+    let kept = first_wrong(rt.alloc(), &tree, &mut pass, &shot, &[ONE], &cases)?;
+    assert_eq!(rt; (removed, kept), (Ok(Some(1)), None));
+    let later = Shot::take(&tree, &rt, &mut pass)?;
+    let cases = [(0, 9, 0, 0)];
+    let left = first_wrong(rt.alloc(), &tree, &mut pass, &later, &[ONE], &cases)?;
+    assert_eq!(rt; (later.keys(), left), (0, None));
     Ok(())
 }
 
@@ -135,25 +116,15 @@ fn rebuild_ten<R: Wait>(rt: &R, tree: &Tree, pass: &mut Pass, shot: &Shot) -> Re
 
 #[test]
 fn a_shot_is_read_as_it_was_after_ten_further_rebuilds(rt: HostRuntime) -> Result<(), Fail> {
-    let (tree, mut pass) = new_tree(rt.alloc())?;
-    assert!(rt; put_all(&rt, &tree, &mut pass, &TEN));
-    match Shot::take(&tree, &rt, &mut pass) {
-        Ok(shot) => {
-            assert_eq!(rt; rebuild_ten(&rt, &tree, &mut pass, &shot), Ok(10));
-            let list = list_alike(rt.alloc(), &tree, &mut pass, &shot, 0, u64::MAX)?;
-            let all = Vec::from_slice(rt.alloc(), &TEN)?;
-            assert_eq!(rt; list, Some(all));
-        }
-        Err(full) => assert_eq!(rt; Some(full), None, "no refusal"),
-    }
-    match Shot::take(&tree, &rt, &mut pass) {
-        Ok(shot) => {
-            assert_eq!(rt;
-                shot.total(&tree, &mut pass, 20, 20),
-                total(1, 109, 109, 109)
-            );
-        }
-        Err(full) => assert_eq!(rt; Some(full), None, "no refusal"),
-    }
+    let (tree, mut pass, shot) = shot_of(&rt, rt.alloc(), &TEN)?;
+    let taken = rebuild_ten(&rt, &tree, &mut pass, &shot);
+    let cases = [(0, u64::MAX, 0, 10)];
+    let wrong = first_wrong(rt.alloc(), &tree, &mut pass, &shot, &TEN, &cases)?;
+    assert_eq!(rt; (taken, wrong), (Ok(10), None));
+    let later = Shot::take(&tree, &rt, &mut pass)?;
+    assert_eq!(rt;
+        later.total(&tree, &mut pass, 20, 20),
+        total(1, 109, 109, 109)
+    );
     Ok(())
 }

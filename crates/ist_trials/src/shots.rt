@@ -7,9 +7,10 @@ use ist_scan::{Shot, Total};
 use ist_tree::{OpenFault, Pass, Tree};
 use std::alloc::{AllocError, Global};
 use std::sync::Wait;
+use std::test::Fail;
 
 /// A tree of 20,000 words without pairs, and its first pass.
-pub(crate) fn new_tree(alloc: Global) -> Result<(Tree, Pass), OpenFault>
+fn new_tree(alloc: Global) -> Result<(Tree, Pass), OpenFault>
     ensures same_tree { IfOk result (λ t. t.1.tree ≡ t.0) }
 {
     let (tree, mut maker) = Tree::open(alloc, 20_000, &[])?;
@@ -17,16 +18,30 @@ pub(crate) fn new_tree(alloc: Global) -> Result<(Tree, Pass), OpenFault>
     Ok((tree, pass))
 }
 
-/// Puts the pairs, one behind another. Gives whether each put was answered.
-pub(crate) fn put_all<R: Wait>(rt: &R, tree: &Tree, pass: &mut Pass, pairs: &[Pair]) -> bool
+/// Puts the pairs, one behind another, up to the first that is refused.
+fn put_all<R: Wait>(rt: &R, tree: &Tree, pass: &mut Pass, pairs: &[Pair]) -> Result<(), Full>
     requires same_tree { pass.old.tree ≡ tree.now }
     ensures same_tree { pass.new.tree ≡ tree.now }
 {
-    let mut answered = true;
     for pair in pairs {
-        answered = tree.put(rt, pass, pair.key, pair.value).is_ok() && answered;
+        tree.put(rt, pass, pair.key, pair.value)?;
     }
-    answered
+    Ok(())
+}
+
+/// A new tree in which the pairs were put, its pass, and a shot of it.
+pub(crate) fn shot_of<R: Wait>(
+    rt: &R,
+    alloc: Global,
+    pairs: &[Pair],
+) -> Result<(Tree, Pass, Shot), Fail>
+    ensures same_tree { IfOk result (λ t. t.1.tree ≡ t.0) }
+    ensures frozen { IfOk result (λ t. IsFrozenFor t.1 t.2) }
+{
+    let (tree, mut pass) = new_tree(alloc)?;
+    put_all(rt, &tree, &mut pass, pairs)?;
+    let shot = Shot::take(&tree, rt, &mut pass)?;
+    Ok((tree, pass, shot))
 }
 
 /// Puts a pair. The shot stays taken.
@@ -142,6 +157,31 @@ pub(crate) fn part_of(
         }
     }
     Ok(part)
+}
+
+/// The first interval whose list, walk and total aren't those of its part of the pairs. A case has the
+/// first key, the last key, and the numbers from which on and before which the part lies.
+pub(crate) fn first_wrong(
+    alloc: Global,
+    tree: &Tree,
+    pass: &mut Pass,
+    shot: &Shot,
+    pairs: &[Pair],
+    cases: &[(u64, u64, usize, usize)],
+) -> Result<Option<(u64, u64)>, AllocError>
+    requires same_tree { pass.old.tree ≡ tree.now }
+    requires frozen { IsFrozenFor pass.old shot.now }
+    ensures same_tree { pass.new.tree ≡ tree.now }
+{
+    let mut wrong = None;
+    for (first, last, low, high) in cases {
+        let found = list_alike(alloc, tree, pass, shot, *first, *last)?;
+        let part = part_of(alloc, pairs, *low, *high)?;
+        if found != Some(part) && wrong.is_none() {
+            wrong = Some((*first, *last));
+        }
+    }
+    Ok(wrong)
 }
 
 /// The total of these pairs, by their values alone.

@@ -1,3 +1,4 @@
+use Rattle.std.proofs.Common.{◌∙◌}
 use Rattle.ist_scan.proofs.ShotLemmas.{GoesOnWell, frozen_on}
 use Rattle.ist_trials.proofs.shots.put_beside.Goals as goal
 
@@ -8,3 +9,6 @@ returns-clause-frozen g c =
     let on : GoesOnWell pass c.put-reply.new.pass
     = record { tree = seen.tree; seen = seen.seen; lawful = c.know.ensures.lawful } in
     frozen_on pass c.put-reply.new.pass on c.args.shot.now c.requires.frozen
+
+pub returns-clause-same_tree : goal.returns-clause-same_tree
+returns-clause-same_tree g c = c.put-reply.ensures.seen.tree ∙ c.requires.same_tree
