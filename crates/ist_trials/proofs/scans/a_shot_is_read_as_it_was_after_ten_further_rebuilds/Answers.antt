@@ -1,0 +1,8 @@
+use Rattle.std.proofs.Common.{◌∙◌}
+use Rattle.ist_trials.proofs.scans.a_shot_is_read_as_it_was_after_ten_further_rebuilds.Goals as goal
+
+pub take-requires : goal.take-requires
+take-requires g c = record { same_tree = c.first_wrong.ensures.same_tree }
+
+pub total-requires-clause-same_tree : goal.total-requires-clause-same_tree
+total-requires-clause-same_tree g c = c.take.ensures.seen.tree ∙ c.first_wrong.ensures.same_tree
