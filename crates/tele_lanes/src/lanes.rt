@@ -133,7 +133,6 @@ fn call_each<R: Wait, G: Gate, P: Port>(
 ///
 /// A lane makes the calls of its tasks in order, until one is refused. It waits for what its port
 /// and its gate wait for. Takes no memory, and is never refused.
-#[tactic(auto, using(crate::proofs::OrderLemmas::map_same))]
 pub fn run_lanes<R: Threads + Wait + Sync, P: Port + Send, G: Gate + Sync>(
     rt: &R,
     gate: &G,
@@ -160,8 +159,6 @@ pub fn run_lanes<R: Threads + Wait + Sync, P: Port + Send, G: Gate + Sync>(
     ensures whole { All (λ l. IfNone l.stopped
         (length (P.calls l.port) ≡ length l.tasks)) lanes.new }
 {
-    if !lanes.is_empty() {
-        let count = lanes.len();
-        thread::for_each_mut(rt, lanes, count, &|_, lane| lane.run(rt, gate));
-    }
+    let count = lanes.len().max(1);
+    thread::for_each_mut(rt, lanes, count, &|_, lane| lane.run(rt, gate));
 }
