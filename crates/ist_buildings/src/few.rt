@@ -1,9 +1,15 @@
 //! Rebuilds of a row that holds two leaves, one, or none.
+ghost use Rattle.std.specs.Prelude.{◌≡◌};
+ghost use Rattle.ist_rebuild.specs.Finishing.{IsAble};
+ghost use Rattle.ist_tree.specs.Insides.{IsPass};
+
 use crate::callers::{begin, enter_call, help_on, mark, see_row};
 use crate::tables::{Opened, open_numbered, word_at};
 use crate::updates::{enter_idle, update_all};
 use ist_layout::Ref;
 use ist_rebuild::{Helped, Started};
+use ist_rows::Caller;
+use ist_rule::{TreeSeat, TreeTable};
 use ist_tree::OpenFault;
 use std::alloc::Global;
 use std::sync::Wait;
@@ -18,7 +24,38 @@ struct Seen {
     below: Option<Ref>,
 }
 
-// Rebuilds the row over the pairs (1, 1) and (2, 2) behind these removes.
+// Rebuilds the row over both pairs behind these removes, which the first of the callers makes.
+fn see_in<R: Wait>(
+    table: &TreeTable,
+    rt: &R,
+    maker: &mut TreeSeat,
+    most: &mut Caller,
+    who: &mut Caller,
+    removes: &[(u64, Option<u64>)],
+) -> Option<Seen>
+    requires maker_table { maker.old.table ≡ table.now.table }
+    requires most_table { most.old.seat.table ≡ table.now.table }
+    requires most_pass { IsPass most.old }
+    requires same_table { who.old.seat.table ≡ table.now.table }
+    requires able { IsAble who.old }
+{
+    if !update_all(table, rt, most, removes) {
+        return None;
+    }
+    let target = see_row(table, who)?;
+    let Ok(Started::Yes { rebuild }) = begin(table, rt, who, target) else {
+        return None;
+    };
+    let marked = mark(table, rt, who, rebuild);
+    let replaced = help_on(table, rt, who, rebuild) == Ok(Helped::Replaced);
+    Some(Seen {
+        keys: marked.keys,
+        replaced,
+        below: Ref::from_word(word_at(table, maker, 3)),
+    })
+}
+
+// The same in a new table of the pairs (1, 1) and (2, 2).
 fn see<R: Wait>(
     rt: &R,
     alloc: Global,
@@ -31,22 +68,8 @@ fn see<R: Wait>(
     } = open_numbered(alloc, 2, 1_000)?;
     let mut most = enter_idle(&table, &mut maker);
     let mut who = enter_call(&table, &mut maker);
-    if !update_all(&table, rt, &mut most, removes) {
-        return Ok(None);
-    }
-    let Some(target) = see_row(&table, &mut who) else {
-        return Ok(None);
-    };
-    let Ok(Started::Yes { rebuild }) = begin(&table, rt, &mut who, target) else {
-        return Ok(None);
-    };
-    let marked = mark(&table, rt, &mut who, rebuild);
-    let replaced = help_on(&table, rt, &mut who, rebuild) == Ok(Helped::Replaced);
-    Ok(Some(Seen {
-        keys: marked.keys,
-        replaced,
-        below: Ref::from_word(word_at(&table, &mut maker, 3)),
-    }))
+    let seen = see_in(&table, rt, &mut maker, &mut most, &mut who, removes);
+    Ok(seen)
 }
 
 #[test]

@@ -1,5 +1,5 @@
 //! Leaves of a finished row by their numbers, and the ideal subtree over all of them.
-ghost use Rattle.std.specs.Prelude.{◌≡◌, ◌<◌, IsTrue};
+ghost use Rattle.std.specs.Prelude.{◌≡◌, ◌≤◌, ◌<◌, IsTrue};
 ghost use Rattle.ist_buildings.specs.Steps.{IsMarked};
 ghost use Rattle.ist_core.specs.Shapes.{share_from};
 ghost use Rattle.ist_rebuild.specs.Finishing.{IsAble};
@@ -96,8 +96,46 @@ pub(crate) fn are_few(keys: u64) -> bool
     keys < SHARE_FROM
 }
 
-// Is the leaf of each number that of its key, and the part over them the ideal tree?
-fn agree_in<R: Wait>(rt: &R, alloc: Global, last: u64) -> Result<(bool, bool), OpenFault> {
+// Is the leaf of each number that of its key, and the part over them the tree of the image?
+fn agree_in<R: Wait>(
+    table: &TreeTable,
+    rt: &R,
+    alloc: Global,
+    maker: &mut TreeSeat,
+    who: &mut Caller,
+    last: u64,
+    image: &[u64],
+) -> Result<(bool, bool), OpenFault>
+    requires maker_table { maker.old.table ≡ table.now.table }
+    requires same_table { who.old.seat.table ≡ table.now.table }
+    requires able { IsAble who.old }
+    requires few { last ≤ 100000 }
+{
+    let Some(target) = see_row(table, who) else {
+        return Ok((false, false));
+    };
+    let Ok(Started::Yes { rebuild }) = begin(table, rt, who, target) else {
+        return Ok((false, false));
+    };
+    let marked = mark(table, rt, who, rebuild);
+    if marked.keys != last || marked.target != target {
+        return Ok((false, false));
+    }
+    let pairs = numbered(alloc, last)?;
+    let right = are_pairs(table, maker, who, rebuild, marked, pairs.as_slice());
+    if !are_few(marked.keys) {
+        return Ok((right, false));
+    }
+    let Ok(Ref::Inner { base }) = part(table, rt, who, rebuild, marked) else {
+        return Ok((right, false));
+    };
+    let words = all_words(alloc, table, maker)?;
+    let roots = (*image.get(3).unwrap_or(&0), u64::from(base) * 8 + 2);
+    Ok((right, are_alike(alloc, image, words.as_slice(), roots)?))
+}
+
+// The same in a new table of so many pairs.
+fn agree<R: Wait>(rt: &R, alloc: Global, last: u64) -> Result<(bool, bool), OpenFault> {
     if last > 200 {
         return Ok((false, false));
     }
@@ -107,31 +145,15 @@ fn agree_in<R: Wait>(rt: &R, alloc: Global, last: u64) -> Result<(bool, bool), O
         image,
     } = open_numbered(alloc, last, 20_000)?;
     let mut who = enter_call(&table, &mut maker);
-    let Some(target) = see_row(&table, &mut who) else {
-        return Ok((false, false));
-    };
-    let Ok(Started::Yes { rebuild }) = begin(&table, rt, &mut who, target) else {
-        return Ok((false, false));
-    };
-    let marked = mark(&table, rt, &mut who, rebuild);
-    if marked.keys != last || marked.target != target {
-        return Ok((false, false));
-    }
-    let pairs = numbered(alloc, last)?;
-    let pairs = pairs.as_slice();
-    let right = are_pairs(&table, &mut maker, &mut who, rebuild, marked, pairs);
-    if !are_few(marked.keys) {
-        return Ok((right, false));
-    }
-    let Ok(Ref::Inner { base }) = part(&table, rt, &mut who, rebuild, marked) else {
-        return Ok((right, false));
-    };
-    let words = all_words(alloc, &table, &mut maker)?;
-    let roots = (*image.get(3).unwrap_or(&0), u64::from(base) * 8 + 2);
-    Ok((
-        right,
-        are_alike(alloc, image.as_slice(), words.as_slice(), roots)?,
-    ))
+    agree_in(
+        &table,
+        rt,
+        alloc,
+        &mut maker,
+        &mut who,
+        last,
+        image.as_slice(),
+    )
 }
 
 #[test]
@@ -139,11 +161,7 @@ fn leaves_are_numbered_by_their_keys_and_the_part_over_them_is_ideal(
     rt: HostRuntime,
 ) -> Result<(), Fail> {
     for last in [2, 3, 16, 17, 100, 200] {
-        assert_eq!(rt;
-            agree_in(&rt, rt.alloc(), last)?,
-            (true, true),
-            "{last} pairs"
-        );
+        assert_eq!(rt; agree(&rt, rt.alloc(), last)?, (true, true), "{last} pairs");
     }
     Ok(())
 }

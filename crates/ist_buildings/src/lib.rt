@@ -1,7 +1,8 @@
 //! Rebuilds of small, of shared and of changed tables, by direct calls of the crates that mark, build and rebuild: tests alone.
 //!
 //! Read `tables.rt` and `callers.rt`, then `turns.rt`, `races.rt`, `shortages.rt`, `shares.rt`, `leaves.rt` and `loads.rt`; then `updates.rt`
-//! and `late.rt`, and `marked.rt`, `frozen.rt` and `standing.rt`. Stands on `ist_updates` and on the crates below it, and on the laws of `ist_tree`.
+//! and `late.rt`, and `marked.rt`, `shapes.rt`, `frozen.rt` and `standing.rt`. Stands on `ist_updates` and on the crates below it, and on
+//! the laws of `ist_tree`.
 #![tactic(auto)]
 
 #[cfg(test)]
@@ -20,6 +21,8 @@ mod loads;
 mod marked;
 #[cfg(test)]
 mod races;
+#[cfg(test)]
+mod shapes;
 #[cfg(test)]
 mod shares;
 #[cfg(test)]

@@ -10,6 +10,9 @@ use crate::tables::{Opened, open_numbered};
 use ist_build::leaf_and_loads;
 use ist_rows::Caller;
 use ist_rule::{TreeTable, know};
+use ist_tree::OpenFault;
+use std::alloc::Global;
+use std::sync::Wait;
 use std::test::Fail;
 
 // How many words are loaded on the way to the leaf number `i` of the finished target.
@@ -49,21 +52,40 @@ fn first_other(
     None
 }
 
-#[test]
-fn a_frozen_leaf_is_reached_by_one_child_a_row(rt: HostRuntime) -> Result<(), Fail> {
+// How many keys the finished target has, and the first of these leaves on whose way another number of words is
+// loaded, in a rebuild of what stands below the anchor.
+fn see_in<R: Wait>(
+    table: &TreeTable,
+    rt: &R,
+    who: &mut Caller,
+    cases: &[(u64, u64)],
+) -> Option<(u64, Option<u64>)>
+    requires same_table { who.old.seat.table ≡ table.now.table }
+    requires able { IsAble who.old }
+{
+    let rebuild = begin_top(table, rt, who)?;
+    let marked = mark(table, rt, who, rebuild);
+    Some((marked.keys, first_other(table, who, rebuild, marked, cases)))
+}
+
+// The same in a new table of 100,000 pairs.
+fn see<R: Wait>(
+    rt: &R,
+    alloc: Global,
+    cases: &[(u64, u64)],
+) -> Result<Option<(u64, Option<u64>)>, OpenFault> {
     let Opened {
         table,
         mut maker,
         ..
-    } = open_numbered(rt.alloc(), 100_000, 2_000_000)?;
+    } = open_numbered(alloc, 100_000, 2_000_000)?;
     let mut who = enter_call(&table, &mut maker);
-    let started = begin_top(&table, &rt, &mut who);
-    assert!(rt; started.is_some());
-    let Some(rebuild) = started else {
-        return Ok(());
-    };
-    let marked = mark(&table, &rt, &mut who, rebuild);
-    assert_eq!(rt; marked.keys, 100_000);
+    let seen = see_in(&table, rt, &mut who, cases);
+    Ok(seen)
+}
+
+#[test]
+fn a_frozen_leaf_is_reached_by_one_child_a_row(rt: HostRuntime) -> Result<(), Fail> {
     // the leaf's number, and the words: of each row on its way the degree, and of each slot up to that of the leaf its
     // word, and the finished count of a row below it
     let cases = [
@@ -74,7 +96,6 @@ fn a_frozen_leaf_is_reached_by_one_child_a_row(rt: HostRuntime) -> Result<(), Fa
         (50_000, 357),
         (99_999, 685),
     ];
-    let other = first_other(&table, &mut who, rebuild, marked, &cases);
-    assert_eq!(rt; other, None);
+    assert_eq!(rt; see(&rt, rt.alloc(), &cases)?, Some((100_000, None)));
     Ok(())
 }

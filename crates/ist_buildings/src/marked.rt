@@ -1,6 +1,8 @@
 //! A put that read its node as open, and is installed once the node is marked.
 ghost use Rattle.std.specs.Prelude.{◌≡◌};
 ghost use Rattle.ist_buildings.specs.Late.{IsFilled};
+ghost use Rattle.ist_tree.specs.Insides.{IsPass};
+ghost use Rattle.ist_rebuild.specs.Finishing.{IsAble};
 
 use crate::callers::{begin, enter_call, help_on, mark, see_rebuild, see_row};
 use crate::late::{LatePut, install_late, prepare};
@@ -96,7 +98,49 @@ fn put_late(
     }
 }
 
-// The same with a late put at this key, whose slot lies at this place.
+// The same in a table of both pairs, with the late put at a key whose slot lies at a place: both are given.
+fn see_in<R: Wait>(
+    rt: &R,
+    table: &TreeTable,
+    maker: &mut TreeSeat,
+    first: &mut Caller,
+    second: &mut Caller,
+    third: &mut Caller,
+    fourth: &mut Caller,
+    at: (u64, u64),
+) -> Option<Seen>
+    requires maker_table { maker.old.table ≡ table.now.table }
+    requires first_table { first.old.seat.table ≡ table.now.table }
+    requires second_table { second.old.seat.table ≡ table.now.table }
+    requires third_table { third.old.seat.table ≡ table.now.table }
+    requires fourth_table { fourth.old.seat.table ≡ table.now.table }
+    requires first_pass { IsPass first.old }
+    requires second_able { IsAble second.old }
+    requires third_able { IsAble third.old }
+    requires fourth_pass { IsPass fourth.old }
+{
+    let target = see_row(table, second)?;
+    if !update_all(table, rt, first, &SEVEN) {
+        return None;
+    }
+    let due = update_due(table, rt, first, 10, Some(8))?;
+    let put = prepare(table, rt, fourth, at.0, 9)?;
+    let started = start_due(table, rt, first, due);
+    let other = begin(table, rt, second, target);
+    let rebuild = see_rebuild(table, third)?;
+    let marked = mark(table, rt, third, rebuild);
+    Some(Seen {
+        due,
+        started,
+        other,
+        keys: marked.keys,
+        row: top_words(table, maker),
+        late: put_late(table, maker, fourth, put, at.1),
+        helped: help_on(table, rt, third, rebuild),
+    })
+}
+
+// The same from a new table on.
 fn see<R: Wait>(rt: &R, alloc: Global, key: u64, place: u64) -> Result<Option<Seen>, OpenFault> {
     let Opened {
         table,
@@ -107,33 +151,17 @@ fn see<R: Wait>(rt: &R, alloc: Global, key: u64, place: u64) -> Result<Option<Se
     let mut fourth = enter_idle(&table, &mut maker);
     let mut second = enter_call(&table, &mut maker);
     let mut third = enter_call(&table, &mut maker);
-    let Some(target) = see_row(&table, &mut second) else {
-        return Ok(None);
-    };
-    if !update_all(&table, rt, &mut first, &SEVEN) {
-        return Ok(None);
-    }
-    let Some(due) = update_due(&table, rt, &mut first, 10, Some(8)) else {
-        return Ok(None);
-    };
-    let Some(put) = prepare(&table, rt, &mut fourth, key, 9) else {
-        return Ok(None);
-    };
-    let started = start_due(&table, rt, &mut first, due);
-    let other = begin(&table, rt, &mut second, target);
-    let Some(rebuild) = see_rebuild(&table, &mut third) else {
-        return Ok(None);
-    };
-    let marked = mark(&table, rt, &mut third, rebuild);
-    Ok(Some(Seen {
-        due,
-        started,
-        other,
-        keys: marked.keys,
-        row: top_words(&table, &mut maker),
-        late: put_late(&table, &mut maker, &mut fourth, put, place),
-        helped: help_on(&table, rt, &mut third, rebuild),
-    }))
+    let seen = see_in(
+        rt,
+        &table,
+        &mut maker,
+        &mut first,
+        &mut second,
+        &mut third,
+        &mut fourth,
+        (key, place),
+    );
+    Ok(seen)
 }
 
 #[test]

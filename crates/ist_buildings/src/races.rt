@@ -15,7 +15,9 @@ use ist_build::build_part;
 use ist_layout::{REBUILD_ROOT_OFFSET, Ref};
 use ist_rebuild::Helped;
 use ist_rows::Caller;
-use ist_rule::{TreeTable, exchange_or_lose, know, load};
+use ist_rule::{TreeSeat, TreeTable, exchange_or_lose, know, load};
+use ist_tree::OpenFault;
+use std::alloc::Global;
 use std::sync::Wait;
 use std::test::Fail;
 
@@ -123,44 +125,103 @@ fn end<R: Wait>(table: &TreeTable, rt: &R, who: &mut Caller, rebuild: u32) -> (O
     )
 }
 
-#[test]
-fn of_two_that_build_a_root_at_once_the_second_loses_its_row(rt: HostRuntime) -> Result<(), Fail> {
+// What is seen where two callers each build a root for a rebuild that a third has started: the rebuilds that all
+// found, what the two came to, the root that the starter is answered with whether it is replaced then, the used
+// words and the root below the anchor behind that, whether the ideal tree stands there, and whether some word
+// names the row that was lost.
+#[derive(Clone, Copy, Debug, PartialEq, Eq, Drop)]
+struct Seen {
+    rebuilds: (u32, u32, u32),
+    raced: Option<Raced>,
+    ended: (Option<Ref>, bool),
+    used: Option<u64>,
+    root: Option<u64>,
+    is_ideal: bool,
+    names_lost: bool,
+}
+
+// The same in a table of two pairs whose words were the image.
+fn see_in<R: Wait>(
+    table: &TreeTable,
+    rt: &R,
+    alloc: Global,
+    maker: &mut TreeSeat,
+    starter: &mut Caller,
+    first: &mut Caller,
+    second: &mut Caller,
+    image: &[u64],
+) -> Result<Option<Seen>, OpenFault>
+    requires maker_table { maker.old.table ≡ table.now.table }
+    requires starter_table { starter.old.seat.table ≡ table.now.table }
+    requires starter_able { IsAble starter.old }
+    requires first_table { first.old.seat.table ≡ table.now.table }
+    requires first_able { IsAble first.old }
+    requires second_table { second.old.seat.table ≡ table.now.table }
+    requires second_able { IsAble second.old }
+{
+    let Some(rebuild) = begin_top(table, rt, starter) else {
+        return Ok(None);
+    };
+    let (Some(one), Some(two)) = (see_rebuild(table, first), see_rebuild(table, second)) else {
+        return Ok(None);
+    };
+    let raced = race(table, rt, first, second, one, two);
+    let ended = end(table, rt, starter, rebuild);
+    let words = all_words(alloc, table, maker)?;
+    let words = words.as_slice();
+    let root = words.get(3).copied();
+    let lost = raced.map_or(0, |raced| raced.built.1);
+    Ok(Some(Seen {
+        rebuilds: (rebuild, one, two),
+        raced,
+        ended,
+        used: words.first().copied(),
+        root,
+        is_ideal: are_alike(alloc, image, words, (34, root.unwrap_or(0)))?,
+        names_lost: words.iter().any(|word| *word == lost),
+    }))
+}
+
+fn see<R: Wait>(rt: &R, alloc: Global) -> Result<Option<Seen>, OpenFault> {
     let Opened {
         table,
         mut maker,
         image,
-    } = open_numbered(rt.alloc(), 2, 59)?;
+    } = open_numbered(alloc, 2, 59)?;
     let mut starter = enter_call(&table, &mut maker);
     let mut first = enter_call(&table, &mut maker);
     let mut second = enter_call(&table, &mut maker);
-    let Some(rebuild) = begin_top(&table, &rt, &mut starter) else {
-        return Ok(());
-    };
-    let one = see_rebuild(&table, &mut first);
-    let two = see_rebuild(&table, &mut second);
-    assert!(rt; rebuild == 15 && one == Some(15) && two == Some(15));
-    let (Some(one), Some(two)) = (one, two) else {
-        return Ok(());
-    };
+    see_in(
+        &table,
+        rt,
+        alloc,
+        &mut maker,
+        &mut starter,
+        &mut first,
+        &mut second,
+        image.as_slice(),
+    )
+}
+
+#[test]
+fn of_two_that_build_a_root_at_once_the_second_loses_its_row(rt: HostRuntime) -> Result<(), Fail> {
     // Each has a row of its own: the rows of the start end at 29.
     let stands = Ref::Inner { base: 29 };
-    let lost = Ref::Inner { base: 36 }.to_word();
-    let wanted = Raced {
-        built: (stands.to_word(), lost),
-        found: (Ref::Unset.to_word(), stands.to_word()),
+    let lost = Ref::Inner { base: 36 };
+    let wanted = Seen {
+        rebuilds: (15, 15, 15),
+        raced: Some(Raced {
+            built: (stands.to_word(), lost.to_word()),
+            found: (Ref::Unset.to_word(), stands.to_word()),
+        }),
+        // Whoever asks for the root is answered by the first one's. It stands below the anchor then, and no word of
+        // the table names the second one's row.
+        ended: (Some(stands), true),
+        used: Some(52),
+        root: Some(stands.to_word()),
+        is_ideal: true,
+        names_lost: false,
     };
-    let came = race(&table, &rt, &mut first, &mut second, one, two);
-    assert_eq!(rt; came, Some(wanted));
-    // Whoever asks for the root is answered by the first one's. It stands below the anchor then, and no word of the table
-    // names the second one's row.
-    assert_eq!(rt;
-        end(&table, &rt, &mut starter, rebuild),
-        (Some(stands), true)
-    );
-    let words = all_words(rt.alloc(), &table, &mut maker)?;
-    let roots = (34, stands.to_word());
-    assert!(rt; words.first() == Some(&52) && words.get(3) == Some(&roots.1));
-    assert!(rt; are_alike(rt.alloc(), image.as_slice(), words.as_slice(), roots)?);
-    assert!(rt; words.as_slice().iter().all(|word| *word != lost));
+    assert_eq!(rt; see(&rt, rt.alloc())?, Some(wanted));
     Ok(())
 }

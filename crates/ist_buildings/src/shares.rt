@@ -5,7 +5,7 @@ ghost use Rattle.ist_rebuild.specs.Finishing.{IsAble};
 ghost use Rattle.ist_rule.specs.Learning.{now};
 
 use crate::callers::{begin, enter_call, fill_all, help_on, mark, see_rebuild, see_row, set};
-use crate::tables::{Opened, all_words, are_alike, open_numbered, word_at};
+use crate::tables::{Opened, is_image, open_numbered, word_at};
 use ist_layout::Ref;
 use ist_rebuild::{Helped, Started};
 use ist_rows::Caller;
@@ -14,7 +14,7 @@ use ist_tree::OpenFault;
 use std::alloc::Global;
 use std::sync::Wait;
 use std::test::Fail;
-use std::thread::join;
+use std::thread::{Threads, join};
 
 /// Starts a rebuild of what stands below the anchor.
 pub(crate) fn begin_top<R: Wait>(table: &TreeTable, rt: &R, who: &mut Caller) -> Option<u32>
@@ -63,6 +63,52 @@ struct Shared {
     ideal: bool,
 }
 
+// The same with a table whose words were the image, and of its callers the first two.
+fn share_in<R: Wait>(
+    table: &TreeTable,
+    rt: &R,
+    alloc: Global,
+    maker: &mut TreeSeat,
+    first: &mut Caller,
+    second: &mut Caller,
+    image: &[u64],
+) -> Result<Option<Shared>, OpenFault>
+    requires maker_table { maker.old.table ≡ table.now.table }
+    requires first_table { first.old.seat.table ≡ table.now.table }
+    requires first_able { IsAble first.old }
+    requires second_table { second.old.seat.table ≡ table.now.table }
+    requires second_able { IsAble second.old }
+{
+    let Some(rebuild) = begin_top(table, rt, first) else {
+        return Ok(None);
+    };
+    mark(table, rt, first, rebuild);
+    let Ok(Ref::Inner { base }) = set(table, rt, first, rebuild) else {
+        return Ok(None);
+    };
+    let set_by_first = unset_slots(table, maker, base);
+    let Some(seen) = see_rebuild(table, second) else {
+        return Ok(None);
+    };
+    mark(table, rt, second, seen);
+    let Ok(root) = set(table, rt, second, seen) else {
+        return Ok(None);
+    };
+    if fill_all(table, rt, second, seen).is_err() {
+        return Ok(None);
+    }
+    let filled = unset_slots(table, maker, base);
+    let helped = help_on(table, rt, first, rebuild);
+    Ok(Some(Shared {
+        set: set_by_first,
+        filled,
+        same_root: root == (Ref::Inner { base }),
+        replaced: helped == Ok(Helped::Replaced),
+        ideal: is_image(alloc, table, maker, image)?,
+    }))
+}
+
+// The same with a new table of so many pairs.
 fn share<R: Wait>(rt: &R, alloc: Global, last: u64) -> Result<Option<Shared>, OpenFault> {
     if last > 1000 {
         return Ok(None);
@@ -74,35 +120,15 @@ fn share<R: Wait>(rt: &R, alloc: Global, last: u64) -> Result<Option<Shared>, Op
     } = open_numbered(alloc, last, 20_000)?;
     let mut first = enter_call(&table, &mut maker);
     let mut second = enter_call(&table, &mut maker);
-    let Some(rebuild) = begin_top(&table, rt, &mut first) else {
-        return Ok(None);
-    };
-    mark(&table, rt, &mut first, rebuild);
-    let Ok(Ref::Inner { base }) = set(&table, rt, &mut first, rebuild) else {
-        return Ok(None);
-    };
-    let set_by_first = unset_slots(&table, &mut maker, base);
-    let Some(seen) = see_rebuild(&table, &mut second) else {
-        return Ok(None);
-    };
-    mark(&table, rt, &mut second, seen);
-    let Ok(root) = set(&table, rt, &mut second, seen) else {
-        return Ok(None);
-    };
-    if fill_all(&table, rt, &mut second, seen).is_err() {
-        return Ok(None);
-    }
-    let filled = unset_slots(&table, &mut maker, base);
-    let helped = help_on(&table, rt, &mut first, rebuild);
-    let words = all_words(alloc, &table, &mut maker)?;
-    let roots = (*image.get(3).unwrap_or(&0), *words.get(3).unwrap_or(&0));
-    Ok(Some(Shared {
-        set: set_by_first,
-        filled,
-        same_root: root == (Ref::Inner { base }),
-        replaced: helped == Ok(Helped::Replaced),
-        ideal: are_alike(alloc, image.as_slice(), words.as_slice(), roots)?,
-    }))
+    share_in(
+        &table,
+        rt,
+        alloc,
+        &mut maker,
+        &mut first,
+        &mut second,
+        image.as_slice(),
+    )
 }
 
 #[test]
@@ -129,7 +155,16 @@ fn a_shared_root_that_one_sets_is_filled_by_another(rt: HostRuntime) -> Result<(
     Ok(())
 }
 
-// Helps a rebuild by a caller that has no more to do.
+// What is seen of a rebuild of 300 pairs that two threads help at once: whether both callers found the same
+// one, whether each answered that it was replaced, and whether the ideal tree stands behind that.
+#[derive(Clone, Copy, Debug, PartialEq, Eq, Drop)]
+struct Beside {
+    same_rebuild: bool,
+    replaced: (bool, bool),
+    ideal: bool,
+}
+
+// Helps a rebuild by a caller that has no more to do. Says whether it was replaced.
 fn help_moved<R: Wait>(table: &TreeTable, rt: &R, who: Caller, rebuild: u32) -> bool
     requires same_table { who.seat.table ≡ table.now.table }
     requires able { IsAble who }
@@ -139,37 +174,66 @@ fn help_moved<R: Wait>(table: &TreeTable, rt: &R, who: Caller, rebuild: u32) -> 
     help_on(table, rt, &mut who, rebuild) == Ok(Helped::Replaced)
 }
 
-#[test]
-fn two_threads_that_help_one_rebuild_leave_its_leaves_ideal(rt: HostRuntime) -> Result<(), Fail> {
+// Both callers help a rebuild, which each has seen, on a thread of its own.
+fn help_beside<R: Threads + Wait + Sync>(
+    table: &TreeTable,
+    rt: &R,
+    first: Caller,
+    second: Caller,
+    rebuilds: (u32, u32),
+) -> (bool, bool)
+    requires first_table { first.seat.table ≡ table.now.table }
+    requires first_able { IsAble first }
+    requires first_started { IsStarted (now first.seat.view) rebuilds.0 }
+    requires second_table { second.seat.table ≡ table.now.table }
+    requires second_able { IsAble second }
+    requires second_started { IsStarted (now second.seat.view) rebuilds.1 }
+{
+    let (one, two) = rebuilds;
+    join(
+        rt,
+        ||
+            requires same_table { first.seat.table ≡ table.now.table }
+            requires able { IsAble first }
+            requires started { IsStarted (now first.seat.view) one }
+        { help_moved(table, rt, first, one) },
+        ||
+            requires same_table { second.seat.table ≡ table.now.table }
+            requires able { IsAble second }
+            requires started { IsStarted (now second.seat.view) two }
+        { help_moved(table, rt, second, two) },
+    )
+}
+
+fn see_beside<R: Threads + Wait + Sync>(rt: &R, alloc: Global) -> Result<Beside, OpenFault> {
     let Opened {
         table,
         mut maker,
         image,
-    } = open_numbered(rt.alloc(), 300, 20_000)?;
+    } = open_numbered(alloc, 300, 20_000)?;
     let mut first = enter_call(&table, &mut maker);
     let mut second = enter_call(&table, &mut maker);
-    let one = begin_top(&table, &rt, &mut first);
+    let one = begin_top(&table, rt, &mut first);
     let two = see_rebuild(&table, &mut second);
-    assert!(rt; one.is_some() && one == two);
-    let (Some(one), Some(two)) = (one, two) else {
-        return Ok(());
+    let replaced = match (one, two) {
+        (Some(one), Some(two)) => help_beside(&table, rt, first, second, (one, two)),
+        _ => (false, false),
     };
-    let (left, right) = join(
-        &rt,
-        ||
-            requires same_table { first.seat.table ≡ table.table }
-            requires able { IsAble first }
-            requires started { IsStarted (now first.seat.view) one }
-        { help_moved(&table, &rt, first, one) },
-        ||
-            requires same_table { second.seat.table ≡ table.table }
-            requires able { IsAble second }
-            requires started { IsStarted (now second.seat.view) two }
-        { help_moved(&table, &rt, second, two) },
-    );
-    assert!(rt; left && right);
-    let words = all_words(rt.alloc(), &table, &mut maker)?;
-    let roots = (*image.get(3).unwrap_or(&0), *words.get(3).unwrap_or(&0));
-    assert!(rt; are_alike(rt.alloc(), image.as_slice(), words.as_slice(), roots)?);
+    let ideal = is_image(alloc, &table, &mut maker, image.as_slice());
+    Ok(Beside {
+        same_rebuild: one == two,
+        replaced,
+        ideal: ideal == Ok(true),
+    })
+}
+
+#[test]
+fn two_threads_that_help_one_rebuild_leave_its_leaves_ideal(rt: HostRuntime) -> Result<(), Fail> {
+    let wanted = Beside {
+        same_rebuild: true,
+        replaced: (true, true),
+        ideal: true,
+    };
+    assert_eq!(rt; see_beside(&rt, rt.alloc())?, wanted);
     Ok(())
 }

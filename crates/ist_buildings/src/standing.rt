@@ -3,18 +3,19 @@ ghost use Rattle.std.specs.Prelude.{◌≡◌};
 ghost use Rattle.ist_core.specs.Rebuilding.{IsStarted};
 ghost use Rattle.ist_rebuild.specs.Finishing.{IsAble};
 ghost use Rattle.ist_rule.specs.Learning.{now};
+ghost use Rattle.ist_tree.specs.Insides.{IsPass};
 
 use crate::callers::{enter_call, help_on, mark};
 use crate::shares::begin_top;
-use crate::tables::{Opened, all_words, are_alike, numbered, open, open_numbered};
+use crate::tables::{Opened, is_image, numbered, open, open_numbered};
 use crate::updates::{enter_idle, start_due, update_all, update_due};
 use ist_core::{Full, Pair};
 use ist_find::find_from_anchor;
 use ist_rebuild::{Helped, Started};
 use ist_rows::Caller;
-use ist_rule::TreeTable;
+use ist_rule::{TreeSeat, TreeTable};
 use ist_tree::OpenFault;
-use std::alloc::{AllocError, Global};
+use std::alloc::Global;
 use std::sync::Wait;
 use std::test::Fail;
 
@@ -22,21 +23,44 @@ const TEN: Pair = Pair { key: 10, value: 1 };
 
 const TWENTY: Pair = Pair { key: 20, value: 2 };
 
-#[test]
-fn a_put_is_answered_while_the_rebuild_in_its_way_stands_still(
-    rt: HostRuntime,
-) -> Result<(), Fail> {
+// What is seen where one caller starts the rebuild of the row over both pairs and stands still, and another puts
+// 7 at the key 10 and removes 20: the rebuild, whether both were carried out, and what is found at the two keys.
+#[derive(Clone, Copy, Debug, PartialEq, Eq, Drop)]
+struct Still {
+    rebuild: Option<u32>,
+    updated: bool,
+    found: (Option<u64>, Option<u64>),
+}
+
+fn see_still<R: Wait>(rt: &R, alloc: Global) -> Result<Still, OpenFault> {
     let Opened {
         table,
         mut maker,
         ..
-    } = open(rt.alloc(), &[TEN, TWENTY], 1000)?;
+    } = open(alloc, &[TEN, TWENTY], 1000)?;
     let mut second = enter_idle(&table, &mut maker);
     let mut first = enter_call(&table, &mut maker);
-    assert_eq!(rt; begin_top(&table, &rt, &mut first), Some(15));
-    assert!(rt; update_all(&table, &rt, &mut second, &[(10, Some(7)), (20, None)]));
-    assert_eq!(rt; find_from_anchor(&table, &mut maker, 10).value, Some(7));
-    assert_eq!(rt; find_from_anchor(&table, &mut maker, 20).value, None);
+    let rebuild = begin_top(&table, rt, &mut first);
+    let updated = update_all(&table, rt, &mut second, &[(10, Some(7)), (20, None)]);
+    let ten = find_from_anchor(&table, &mut maker, 10).value;
+    let twenty = find_from_anchor(&table, &mut maker, 20).value;
+    Ok(Still {
+        rebuild,
+        updated,
+        found: (ten, twenty),
+    })
+}
+
+#[test]
+fn a_put_is_answered_while_the_rebuild_in_its_way_stands_still(
+    rt: HostRuntime,
+) -> Result<(), Fail> {
+    let wanted = Still {
+        rebuild: Some(15),
+        updated: true,
+        found: (Some(7), None),
+    };
+    assert_eq!(rt; see_still(&rt, rt.alloc())?, wanted);
     Ok(())
 }
 
@@ -97,7 +121,52 @@ struct Both {
 
 // One caller puts at the key 16 until the row over it is due, and starts its rebuild; another starts that of the row
 // above. Then the lower is helped, before the row above is marked or behind that, and then the upper.
-fn rebuild_both<R: Wait>(rt: &R, alloc: Global, early: bool) -> Result<Option<Both>, OpenFault> {
+fn rebuild_both<R: Wait>(
+    table: &TreeTable,
+    rt: &R,
+    alloc: Global,
+    maker: &mut TreeSeat,
+    most: &mut Caller,
+    low: &mut Caller,
+    high: &mut Caller,
+    early: bool,
+) -> Result<Option<Both>, OpenFault>
+    requires maker_table { maker.old.table ≡ table.now.table }
+    requires most_table { most.old.seat.table ≡ table.now.table }
+    requires most_pass { IsPass most.old }
+    requires low_table { low.old.seat.table ≡ table.now.table }
+    requires low_pass { IsPass low.old }
+    requires high_table { high.old.seat.table ≡ table.now.table }
+    requires high_able { IsAble high.old }
+{
+    if !update_all(table, rt, most, &SEVEN) {
+        return Ok(None);
+    }
+    let Some(due) = update_due(table, rt, low, 16, Some(8)) else {
+        return Ok(None);
+    };
+    let Ok(Started::Yes { rebuild: below }) = start_due(table, rt, low, due) else {
+        return Ok(None);
+    };
+    let Some(above) = begin_top(table, rt, high) else {
+        return Ok(None);
+    };
+    let first = help_where(table, rt, low, below, early);
+    let marked = mark(table, rt, high, above);
+    let second = help_where(table, rt, low, below, !early);
+    let upper = help_on(table, rt, high, above);
+    let image = image_behind(alloc)?;
+    Ok(Some(Both {
+        parent: due.parent,
+        lower: first.or(second),
+        keys: marked.keys,
+        upper,
+        ideal: is_image(alloc, table, maker, image.as_slice())?,
+    }))
+}
+
+// The same in a new table.
+fn see_both<R: Wait>(rt: &R, alloc: Global, early: bool) -> Result<Option<Both>, OpenFault> {
     let Opened {
         table,
         mut maker,
@@ -106,32 +175,9 @@ fn rebuild_both<R: Wait>(rt: &R, alloc: Global, early: bool) -> Result<Option<Bo
     let mut most = enter_idle(&table, &mut maker);
     let mut low = enter_idle(&table, &mut maker);
     let mut high = enter_call(&table, &mut maker);
-    if !update_all(&table, rt, &mut most, &SEVEN) {
-        return Ok(None);
-    }
-    let Some(due) = update_due(&table, rt, &mut low, 16, Some(8)) else {
-        return Ok(None);
-    };
-    let Ok(Started::Yes { rebuild: below }) = start_due(&table, rt, &mut low, due) else {
-        return Ok(None);
-    };
-    let Some(above) = begin_top(&table, rt, &mut high) else {
-        return Ok(None);
-    };
-    let first = help_where(&table, rt, &mut low, below, early);
-    let marked = mark(&table, rt, &mut high, above);
-    let second = help_where(&table, rt, &mut low, below, !early);
-    let upper = help_on(&table, rt, &mut high, above);
-    let image = image_behind(alloc)?;
-    let words = all_words(alloc, &table, &mut maker)?;
-    let roots = (*image.get(3).unwrap_or(&0), *words.get(3).unwrap_or(&0));
-    Ok(Some(Both {
-        parent: due.parent,
-        lower: first.or(second),
-        keys: marked.keys,
-        upper,
-        ideal: are_alike(alloc, image.as_slice(), words.as_slice(), roots)?,
-    }))
+    rebuild_both(
+        &table, rt, alloc, &mut maker, &mut most, &mut low, &mut high, early,
+    )
 }
 
 #[test]
@@ -148,7 +194,7 @@ fn a_lower_rebuild_is_done_unless_the_row_above_was_marked_before(
             upper: Ok(Helped::Replaced),
             ideal: true,
         };
-        let came = rebuild_both(&rt, rt.alloc(), early)?;
+        let came = see_both(&rt, rt.alloc(), early)?;
         assert_eq!(rt; came, Some(both), "early {early}");
     }
     Ok(())

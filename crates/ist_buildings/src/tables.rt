@@ -165,3 +165,18 @@ pub(crate) fn are_alike(
     }
     Ok(false)
 }
+
+/// Does the tree below the anchor have the same rows as that of the image, but for the bases? Its rows are open then.
+pub(crate) fn is_image(
+    alloc: Global,
+    table: &TreeTable,
+    seat: &mut TreeSeat,
+    image: &[u64],
+) -> Result<bool, AllocError>
+    requires same_table { seat.old.table ≡ table.now.table }
+    ensures same_table { seat.new.table ≡ table.now.table }
+{
+    let words = all_words(alloc, table, seat)?;
+    let roots = (*image.get(3).unwrap_or(&0), *words.get(3).unwrap_or(&0));
+    are_alike(alloc, image, words.as_slice(), roots)
+}
