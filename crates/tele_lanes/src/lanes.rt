@@ -159,6 +159,7 @@ pub fn run_lanes<R: Threads + Wait + Sync, P: Port + Send, G: Gate + Sync>(
     ensures whole { All (λ l. IfNone l.stopped
         (length (P.calls l.port) ≡ length l.tasks)) lanes.new }
 {
+    // `for_each_mut` asks for at least one thread, and starts none where there are no lanes.
     let count = lanes.len().max(1);
     thread::for_each_mut(rt, lanes, count, &|_, lane| lane.run(rt, gate));
 }
