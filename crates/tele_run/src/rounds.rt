@@ -1,5 +1,5 @@
 //! The open round: the point lines that are to be answered next, and what the rounds before it left.
-ghost use Rattle.std.specs.Prelude.{◌≡◌, ◌+◌, ◌≤◌, ◌^◌, ◌↔◌, [], ◌∷◌, ◌++◌, length, OnOk, IsTrue};
+ghost use Rattle.std.specs.Prelude.{◌≡◌, ◌+◌, ◌<◌, ◌≤◌, ◌^◌, ◌↔◌, [], ◌∷◌, ◌++◌, length, OnOk, IsTrue};
 ghost use Rattle.std.specs.List.Sorted.{IsStrictlyIncreasing};
 ghost use Rattle.ist_core.specs.Map.{pairs_of, listed};
 ghost use Rattle.tele_lanes.specs.Lines.{task_lines};
@@ -158,6 +158,27 @@ pub(crate) fn close<R: Threads + Wait + Sync, G: Gate + Sync, H: Shelf<Closed>>(
         round.answers.clear();
         return Ok(());
     }
+    close_some(rt, gate, tables, shelf, round)
+}
+
+/// Answers the lines of a round that has some.
+fn close_some<R: Threads + Wait + Sync, G: Gate + Sync, H: Shelf<Closed>>(
+    rt: &R,
+    gate: &G,
+    tables: &mut TreeTables,
+    shelf: &mut H,
+    round: &mut Round,
+) -> Result<(), AllocError>
+    requires some { 0 < length round.old.tasks }
+    requires rising { IsStrictlyIncreasing (task_lines round.old.tasks) }
+    requires few { length round.old.pairs + length round.old.tasks ≤ 2 ^ 24 }
+
+    ensures closed { OnOk result (Closes round.old round.new) }
+    ensures ran { OnOk result (RunsOn (λ table. table) round.old (H.kept shelf.old) round.new
+        (H.kept shelf.new) (round_for round.old.tasks)) }
+    ensures few { OnOk result
+        (length round.new.pairs ≤ length round.old.pairs + length round.old.tasks) }
+{
     shelve(shelf, round.last.take());
     let ran = run_round(
         rt,

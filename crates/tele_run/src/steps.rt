@@ -116,14 +116,14 @@ pub(crate) fn step<R: Threads + Wait + Sync, G: Gate + Sync, H: Shelf<Closed>, S
     ensures chosen { IfNone result (IsSome (mode_of lines.new)) }
     ensures before { IfNone result (IsOpenBefore (count_of lines.new + 1) round.new) }
 {
-    match lines.next(source) {
+    let fault = match lines.next(source) {
         Ok(Some(line)) => match take(rt, gate, tables, shelf, round, lines.version(), line, out) {
-            Ok(()) => None,
-            Err(fault) => Some(refused(fault)),
+            Ok(()) => return None,
+            Err(fault) => fault,
         },
         Ok(None) => match end_round(rt, gate, tables, shelf, round, lines.version(), out) {
-            Ok(()) => Some(ANSWERED),
-            Err(fault) => Some(refused(fault)),
+            Ok(()) => return Some(ANSWERED),
+            Err(fault) => fault,
         },
         Err(LineFault::Bad { line, cause }) => {
             match name(
@@ -137,15 +137,16 @@ pub(crate) fn step<R: Threads + Wait + Sync, G: Gate + Sync, H: Shelf<Closed>, S
                 cause,
                 out,
             ) {
-                Ok(()) => Some(BAD_LINE),
-                Err(fault) => Some(refused(fault)),
+                Ok(()) => return Some(BAD_LINE),
+                Err(fault) => fault,
             }
         }
         Err(LineFault::Read) => match out.pass_on() {
-            Ok(()) => Some(READ_FAILED),
-            Err(fault) => Some(refused(fault)),
+            Ok(()) => return Some(READ_FAILED),
+            Err(fault) => fault,
         },
-    }
+    };
+    Some(refused(fault))
 }
 
 /// Takes a line into the round. Where the round ends there, its lines are answered, and the replies

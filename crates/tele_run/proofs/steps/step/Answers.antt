@@ -1,10 +1,10 @@
-use Rattle.std.proofs.Common.{[], ◌∷◌, ◌++◌, sym, ap, refl, subst, append-nil, lit<}
-use Rattle.std.specs.Prelude.{Err}
-use Rattle.tele_io.specs.Bytes.{Appends, AppendsPart}
+use Rattle.std.proofs.Common.{ℕ, [], ◌∷◌, ◌++◌, ◌≤◌, ◌∙◌, inr, sym, ap, refl, subst, append-nil, lit<}
+use Rattle.std.specs.Prelude.{Err, IfSome}
+use Rattle.tele_io.specs.Bytes.{Appends, AppendsPart, HaveRisen}
 use Rattle.tele_lines.specs.Answer.{Good, Bad}
-use Rattle.tele_lines.specs.Progress.{version_of}
+use Rattle.tele_lines.specs.Progress.{version_of, unread}
 use Rattle.tele_run.specs.Open.{asked, map_in, round_for}
-use Rattle.tele_run.specs.Due.{moment_of, TakesRounds}
+use Rattle.tele_run.specs.Due.{due, moment_of, TakesRounds}
 use Rattle.tele_run.proofs.AnswerLemmas.{status-asked}
 use Rattle.tele_run.proofs.CauseLemmas.{cut_unanswered, cut_unfailed, cut_unended, uncut, no_other}
 use Rattle.tele_run.proofs.TakeLemmas.{stay_kept, takes_same}
@@ -14,18 +14,7 @@ use Rattle.tele_run.proofs.CutLemmas.{task_rounds-open, task_rounds-bad}
 use Rattle.tele_run.proofs.DueRoundLemmas.{rounds_went_if, rounds_ended_if}
 use Rattle.tele_run.proofs.RanLemmas.{words_here}
 use Rattle.tele_run.proofs.steps.step.Goals as goal
-
--- a part of what a line makes due was written
-pub returns-in-Err-clause-part : goal.returns-in-Err-clause-part
-returns-in-Err-clause-part g c =
-    let next = c.in-Ok-Some.ensures in
-    let goes = rw c.in-Ok-Some.field-0-is at next.line in
-    let v = c.version.result in
-    let tasks = c.args.round.now.tasks in
-    λ _. part_if (moment_of c.args.lines.now c.args.round.now) _ (asked v tasks) (Good c.in-Ok-Some.line.number v c.in-Ok-Some.line.item ∷ [])
-    _ _ _ _ _ (same_lines c.args.lines.now c.next.new.self v tasks c.version.ensures.value c.requires.chosen next.steady)
-    (status-taken v tasks c.in-Ok-Some.line.number c.in-Ok-Some.line.item)
-    (rw (← c.version.ensures.value) at goes) c.in-Err.ensures.part
+use Rattle.tele_run.proofs.steps.step.Goals.{in-Ok-Some+in-Err, in-Ok-None+in-Err-end_round, in-Err-Bad+in-Err-name, in-Err-Read+in-Err-pass_on}
 
 -- the input has ended, and the open round was answered
 pub returns-in-Ok-end_round-clause-ends : goal.returns-in-Ok-end_round-clause-ends
@@ -52,18 +41,6 @@ returns-in-Ok-name-clause-ends g c =
     (sym (status-asked v tasks last))
     (next.bad c.in-Err-Bad.line c.in-Err-Bad.cause is c.requires.going) c.in-Ok-name.ensures.printed
 
--- or a part of what names it was written
-pub returns-in-Err-name-clause-part : goal.returns-in-Err-name-clause-part
-returns-in-Err-name-clause-part g c =
-    let next = c.in-Err-Bad.ensures in
-    let is = ap Err c.in-Err-Bad.field-0-is in
-    let v = c.version-in-Err-Bad.result in
-    let tasks = c.args.round.now.tasks in
-    let last = Bad c.in-Err-Bad.line c.in-Err-Bad.cause ∷ [] in
-    λ _. ended_part_if (moment_of c.args.lines.now c.args.round.now) (asked v tasks) last _ _ _
-    (same_lines c.args.lines.now c.next.new.self v tasks c.version-in-Err-Bad.ensures.value c.requires.chosen next.steady)
-    (next.bad c.in-Err-Bad.line c.in-Err-Bad.cause is c.requires.going) c.in-Err-name.ensures.part
-
 -- the source failed, and nothing was written
 pub returns-in-Ok-pass_on-clause-passed : goal.returns-in-Ok-pass_on-clause-passed
 returns-in-Ok-pass_on-clause-passed g c is =
@@ -74,11 +51,6 @@ returns-in-Ok-pass_on-clause-passed g c is =
     (same_lines c.args.lines.now c.next.new.self v tasks refl c.requires.chosen next.steady)
     (next.passed (ap Err c.in-Err-Read.field-0-is))
     (takes_same _ _ _ _ _ _ _ _ (sym (append-nil (asked v tasks))) refl (stay_kept (map_in c.args.round.now) (asked v tasks) _ _ c.pass_on.ensures.same))
-
--- or what was written before wasn't passed on
-pub returns-in-Err-pass_on-clause-part : goal.returns-in-Err-pass_on-clause-part
-returns-in-Err-pass_on-clause-part g c =
-    λ _. none_if (moment_of c.args.lines.now c.args.round.now) _ _ _ c.pass_on.ensures.same
 
 -- a line was taken
 pub returns-in-Ok-clause-goes_on : goal.returns-in-Ok-clause-goes_on
@@ -134,117 +106,6 @@ returns-in-Ok-clause-ran g c =
     (subst (TakesRounds words_here c.args.round.now _ c.take.new.round _ (asked v tasks ++ given))
     (ap (λ w. asked w c.take.new.round.tasks) c.version.ensures.value) c.in-Ok.ensures.ran)
 
--- a part of what was due at the end of the input was written
-pub returns-in-Err-end_round-clause-part : goal.returns-in-Err-end_round-clause-part
-returns-in-Err-end_round-clause-part g c =
-    let next = c.in-Ok-None.ensures in
-    let reads = rw c.in-Ok-None.field-0-is at next.none in
-    let v = c.version-in-Ok-None.result in
-    let tasks = c.args.round.now.tasks in
-    λ _. ended_part_if (moment_of c.args.lines.now c.args.round.now) (asked v tasks) [] _ _ _
-    (same_lines c.args.lines.now c.next.new.self v tasks c.version-in-Ok-None.ensures.value c.requires.chosen next.steady)
-    reads (subst (AppendsPart _ _) (at_end v (map_in c.args.round.now) tasks) c.in-Err-end_round.ensures.part)
-
--- a line that was taken in part was cut short
-pub returns-in-Err-clause-ends : goal.returns-in-Err-clause-ends
-returns-in-Err-clause-ends g c = λ is. cut_unanswered _ c.refused.ensures.other is
-
-pub returns-in-Err-clause-ran_all : goal.returns-in-Err-clause-ran_all
-returns-in-Err-clause-ran_all g c = λ is. cut_unanswered _ c.refused.ensures.other is
-
-pub returns-in-Err-clause-all_passed_on : goal.returns-in-Err-clause-all_passed_on
-returns-in-Err-clause-all_passed_on g c = λ whole. absurd (whole c.refused.ensures.other)
-
-pub returns-in-Err-clause-read_failed : goal.returns-in-Err-clause-read_failed
-returns-in-Err-clause-read_failed g c = λ is. cut_unfailed _ c.refused.ensures.other is
-
-pub returns-in-Err-clause-passed : goal.returns-in-Err-clause-passed
-returns-in-Err-clause-passed g c = λ is. cut_unfailed _ c.refused.ensures.other is
-
-pub returns-in-Err-clause-waits : goal.returns-in-Err-clause-waits
-returns-in-Err-clause-waits g c = λ is. cut_unfailed _ c.refused.ensures.other is
-
-pub returns-in-Err-clause-kept : goal.returns-in-Err-clause-kept
-returns-in-Err-clause-kept g c = λ is. cut_unfailed _ c.refused.ensures.other is
-
-pub returns-in-Err-clause-whole : goal.returns-in-Err-clause-whole
-returns-in-Err-clause-whole g c = λ is. cut_unended _ c.refused.ensures.other is
-
--- so was the end of the input
-pub returns-in-Err-end_round-clause-ends : goal.returns-in-Err-end_round-clause-ends
-returns-in-Err-end_round-clause-ends g c = λ is. cut_unanswered _ c.refused-in-Err-end_round.ensures.other is
-
-pub returns-in-Err-end_round-clause-ran_all : goal.returns-in-Err-end_round-clause-ran_all
-returns-in-Err-end_round-clause-ran_all g c = λ is. cut_unanswered _ c.refused-in-Err-end_round.ensures.other is
-
-pub returns-in-Err-end_round-clause-all_passed_on : goal.returns-in-Err-end_round-clause-all_passed_on
-returns-in-Err-end_round-clause-all_passed_on g c = λ whole. absurd (whole c.refused-in-Err-end_round.ensures.other)
-
-pub returns-in-Err-end_round-clause-read_failed : goal.returns-in-Err-end_round-clause-read_failed
-returns-in-Err-end_round-clause-read_failed g c = λ is. cut_unfailed _ c.refused-in-Err-end_round.ensures.other is
-
-pub returns-in-Err-end_round-clause-passed : goal.returns-in-Err-end_round-clause-passed
-returns-in-Err-end_round-clause-passed g c = λ is. cut_unfailed _ c.refused-in-Err-end_round.ensures.other is
-
-pub returns-in-Err-end_round-clause-waits : goal.returns-in-Err-end_round-clause-waits
-returns-in-Err-end_round-clause-waits g c = λ is. cut_unfailed _ c.refused-in-Err-end_round.ensures.other is
-
-pub returns-in-Err-end_round-clause-kept : goal.returns-in-Err-end_round-clause-kept
-returns-in-Err-end_round-clause-kept g c = λ is. cut_unfailed _ c.refused-in-Err-end_round.ensures.other is
-
-pub returns-in-Err-end_round-clause-whole : goal.returns-in-Err-end_round-clause-whole
-returns-in-Err-end_round-clause-whole g c = λ is. cut_unended _ c.refused-in-Err-end_round.ensures.other is
-
--- and a bad line
-pub returns-in-Err-name-clause-ends : goal.returns-in-Err-name-clause-ends
-returns-in-Err-name-clause-ends g c = λ is. cut_unanswered _ c.refused-in-Err-name.ensures.other is
-
-pub returns-in-Err-name-clause-ran_all : goal.returns-in-Err-name-clause-ran_all
-returns-in-Err-name-clause-ran_all g c = λ is. cut_unanswered _ c.refused-in-Err-name.ensures.other is
-
-pub returns-in-Err-name-clause-all_passed_on : goal.returns-in-Err-name-clause-all_passed_on
-returns-in-Err-name-clause-all_passed_on g c = λ whole. absurd (whole c.refused-in-Err-name.ensures.other)
-
-pub returns-in-Err-name-clause-read_failed : goal.returns-in-Err-name-clause-read_failed
-returns-in-Err-name-clause-read_failed g c = λ is. cut_unfailed _ c.refused-in-Err-name.ensures.other is
-
-pub returns-in-Err-name-clause-passed : goal.returns-in-Err-name-clause-passed
-returns-in-Err-name-clause-passed g c = λ is. cut_unfailed _ c.refused-in-Err-name.ensures.other is
-
-pub returns-in-Err-name-clause-waits : goal.returns-in-Err-name-clause-waits
-returns-in-Err-name-clause-waits g c = λ is. cut_unfailed _ c.refused-in-Err-name.ensures.other is
-
-pub returns-in-Err-name-clause-kept : goal.returns-in-Err-name-clause-kept
-returns-in-Err-name-clause-kept g c = λ is. cut_unfailed _ c.refused-in-Err-name.ensures.other is
-
-pub returns-in-Err-name-clause-whole : goal.returns-in-Err-name-clause-whole
-returns-in-Err-name-clause-whole g c = λ is. cut_unended _ c.refused-in-Err-name.ensures.other is
-
--- and a failed read
-pub returns-in-Err-pass_on-clause-ends : goal.returns-in-Err-pass_on-clause-ends
-returns-in-Err-pass_on-clause-ends g c = λ is. cut_unanswered _ c.refused-in-Err-pass_on.ensures.other is
-
-pub returns-in-Err-pass_on-clause-ran_all : goal.returns-in-Err-pass_on-clause-ran_all
-returns-in-Err-pass_on-clause-ran_all g c = λ is. cut_unanswered _ c.refused-in-Err-pass_on.ensures.other is
-
-pub returns-in-Err-pass_on-clause-all_passed_on : goal.returns-in-Err-pass_on-clause-all_passed_on
-returns-in-Err-pass_on-clause-all_passed_on g c = λ whole. absurd (whole c.refused-in-Err-pass_on.ensures.other)
-
-pub returns-in-Err-pass_on-clause-read_failed : goal.returns-in-Err-pass_on-clause-read_failed
-returns-in-Err-pass_on-clause-read_failed g c = λ is. cut_unfailed _ c.refused-in-Err-pass_on.ensures.other is
-
-pub returns-in-Err-pass_on-clause-passed : goal.returns-in-Err-pass_on-clause-passed
-returns-in-Err-pass_on-clause-passed g c = λ is. cut_unfailed _ c.refused-in-Err-pass_on.ensures.other is
-
-pub returns-in-Err-pass_on-clause-waits : goal.returns-in-Err-pass_on-clause-waits
-returns-in-Err-pass_on-clause-waits g c = λ is. cut_unfailed _ c.refused-in-Err-pass_on.ensures.other is
-
-pub returns-in-Err-pass_on-clause-kept : goal.returns-in-Err-pass_on-clause-kept
-returns-in-Err-pass_on-clause-kept g c = λ is. cut_unfailed _ c.refused-in-Err-pass_on.ensures.other is
-
-pub returns-in-Err-pass_on-clause-whole : goal.returns-in-Err-pass_on-clause-whole
-returns-in-Err-pass_on-clause-whole g c = λ is. cut_unended _ c.refused-in-Err-pass_on.ensures.other is
-
 -- a line that was taken ends nothing
 pub returns-in-Ok-clause-passed : goal.returns-in-Ok-clause-passed
 returns-in-Ok-clause-passed g c is = absurd (cc is)
@@ -295,3 +156,91 @@ returns-in-Ok-name-clause-kept g c is = no_other _ _ (lit< tt) is
 
 pub returns-in-Ok-name-clause-read_failed : goal.returns-in-Ok-name-clause-read_failed
 returns-in-Ok-name-clause-read_failed g c is = no_other _ _ (lit< tt) is
+
+-- what was refused: a part of what was due was written
+pub returns-clause-part : goal.returns-clause-part
+returns-clause-part g c _ =
+    let was = moment_of c.args.lines.now c.args.round.now in
+    let tasks = c.args.round.now.tasks in
+    let before = g.O.Sink.written c.args.out.now in
+    let told = unread c.args.lines.now (g.S.Source.left c.args.source.now) in
+    elim c.match-next.branch [
+      | in-Ok-Some+in-Err w ↦
+          let v = w.version.result in
+          subst (λ out. IfSome told (λ bytes. AppendsPart before (g.O.Sink.written out) (due was bytes).text)) (sym w.out-is)
+          (part_if was _ (asked v tasks) (Good w.in-Ok-Some.line.number v w.in-Ok-Some.line.item ∷ []) _ _ _ _ _
+          (same_lines c.args.lines.now c.next.new.self v tasks w.version.ensures.value c.requires.chosen c.next.ensures.steady)
+          (status-taken v tasks w.in-Ok-Some.line.number w.in-Ok-Some.line.item)
+          (rw (← w.version.ensures.value) at (rw w.in-Ok-Some.field-0-is at w.in-Ok-Some.ensures.line)) w.in-Err.ensures.part)
+      | in-Ok-None+in-Err-end_round w ↦
+          let v = w.version-in-Ok-None.result in
+          subst (λ out. IfSome told (λ bytes. AppendsPart before (g.O.Sink.written out) (due was bytes).text)) (sym w.out-is)
+          (ended_part_if was (asked v tasks) [] _ _ _
+          (same_lines c.args.lines.now c.next.new.self v tasks w.version-in-Ok-None.ensures.value c.requires.chosen c.next.ensures.steady)
+          (rw w.in-Ok-None.field-0-is at w.in-Ok-None.ensures.none)
+          (subst (AppendsPart _ _) (at_end v (map_in c.args.round.now) tasks) w.in-Err-end_round.ensures.part))
+      | in-Err-Bad+in-Err-name w ↦
+          let v = w.version-in-Err-Bad.result in
+          subst (λ out. IfSome told (λ bytes. AppendsPart before (g.O.Sink.written out) (due was bytes).text)) (sym w.out-is)
+          (ended_part_if was (asked v tasks) (Bad w.in-Err-Bad.line w.in-Err-Bad.cause ∷ []) _ _ _
+          (same_lines c.args.lines.now c.next.new.self v tasks w.version-in-Err-Bad.ensures.value c.requires.chosen c.next.ensures.steady)
+          (w.in-Err-Bad.ensures.bad w.in-Err-Bad.line w.in-Err-Bad.cause (ap Err w.in-Err-Bad.field-0-is) c.requires.going)
+          w.in-Err-name.ensures.part)
+      | in-Err-Read+in-Err-pass_on w ↦
+          subst (λ out. IfSome told (λ bytes. AppendsPart before (g.O.Sink.written out) (due was bytes).text)) (sym w.out-is)
+          (none_if was _ _ _ w.pass_on.ensures.same)
+    ]
+
+-- by the sink, if it failed
+pub returns-clause-write_failed : goal.returns-clause-write_failed
+returns-clause-write_failed g c is =
+    let failed = c.refused.ensures.failed (cc is) in
+    let Rises = λ (now : ℕ). HaveRisen (g.O.Sink.faults c.args.out.now) now in
+    elim c.match-next.branch [
+      | in-Ok-Some+in-Err w ↦
+          subst Rises (ap g.O.Sink.faults (sym w.out-is)) (w.in-Err.ensures.failed (ap Err (sym w.fault-is ∙ failed)))
+      | in-Ok-None+in-Err-end_round w ↦
+          subst Rises (ap g.O.Sink.faults (sym w.out-is)) (w.in-Err-end_round.ensures.failed (ap Err (sym w.fault-is ∙ failed)))
+      | in-Err-Bad+in-Err-name w ↦
+          subst Rises (ap g.O.Sink.faults (sym w.out-is)) (w.in-Err-name.ensures.failed (ap Err (sym w.fault-is ∙ failed)))
+      | in-Err-Read+in-Err-pass_on w ↦
+          subst Rises (ap g.O.Sink.faults (sym w.out-is)) (w.in-Err-pass_on.ensures.failed (ap Err (sym w.fault-is ∙ failed)))
+    ]
+
+pub returns-clause-sink_counted : goal.returns-clause-sink_counted
+returns-clause-sink_counted g c =
+    let Counts = λ (now : ℕ). g.O.Sink.faults c.args.out.now ≤ now in
+    elim c.match-next.branch [
+      | in-Ok-Some+in-Err w ↦ subst Counts (ap g.O.Sink.faults (sym w.out-is)) w.take.ensures.counted
+      | in-Ok-None+in-Err-end_round w ↦ subst Counts (ap g.O.Sink.faults (sym w.out-is)) w.end_round.ensures.counted
+      | in-Err-Bad+in-Err-name w ↦ subst Counts (ap g.O.Sink.faults (sym w.out-is)) w.name.ensures.counted
+      | in-Err-Read+in-Err-pass_on w ↦ subst Counts (ap g.O.Sink.faults (sym w.out-is)) w.pass_on.ensures.counted
+    ]
+
+-- and the run was cut short
+pub returns-clause-ends : goal.returns-clause-ends
+returns-clause-ends g c is = cut_unanswered _ c.refused.ensures.other is
+
+pub returns-clause-ran_all : goal.returns-clause-ran_all
+returns-clause-ran_all g c is = cut_unanswered _ c.refused.ensures.other is
+
+pub returns-clause-all_passed_on : goal.returns-clause-all_passed_on
+returns-clause-all_passed_on g c whole = absurd (whole c.refused.ensures.other)
+
+pub returns-clause-read_failed : goal.returns-clause-read_failed
+returns-clause-read_failed g c is = cut_unfailed _ c.refused.ensures.other is
+
+pub returns-clause-passed : goal.returns-clause-passed
+returns-clause-passed g c is = cut_unfailed _ c.refused.ensures.other is
+
+pub returns-clause-waits : goal.returns-clause-waits
+returns-clause-waits g c is = cut_unfailed _ c.refused.ensures.other is
+
+pub returns-clause-kept : goal.returns-clause-kept
+returns-clause-kept g c is = cut_unfailed _ c.refused.ensures.other is
+
+pub returns-clause-whole : goal.returns-clause-whole
+returns-clause-whole g c is = cut_unended _ c.refused.ensures.other is
+
+pub returns-clause-statuses : goal.returns-clause-statuses
+returns-clause-statuses g c = inr (inr c.refused.ensures.other)

@@ -1,8 +1,9 @@
-use Rattle.std.proofs.Common.{◌∙◌, ap, refl, length, ◌<◌, rules}
+use Rattle.std.proofs.Common.{◌∙◌, ap, sym, subst, refl, length, ◌<◌}
 use Rattle.ist_core.specs.Map.{map_of}
+use Rattle.tele_run.specs.Open.{Open}
 use Rattle.tele_run.proofs.BehindLemmas.{behind_map, behind_rises, behind_few}
 use Rattle.tele_run.proofs.RanLemmas.{words_here, closes_from, closes_round, runs_from, runs_round, few_from}
-use Rattle.tele_run.proofs.rounds.close.Goals as goal
+use Rattle.tele_run.proofs.rounds.close_some.Goals as goal
 
 -- the pairs behind the last table rise
 pub of-requires : goal.of-requires
@@ -16,14 +17,14 @@ returns-clause-closed g c =
     ∙ behind_map c.in_ok-ran.ensures.closed _ c.in_ok-pairs.ensures.pairs in
     closes_from _ c.args.round.now _ c.round.view_is
     (closes_round _ _ _ _ _ c.pairs.ensures.all c.deref.ensures.value
-    c.in_ok-ran.ensures.answers c.into_vec.ensures.value map_is c.clear-2.ensures.items)
+    c.in_ok-ran.ensures.answers c.into_vec.ensures.value map_is c.clear.ensures.items)
 
 -- on tables of the round
 pub returns-clause-ran : goal.returns-clause-ran
 returns-clause-ran g c =
     let map_is = ap map_of c.of.ensures.value
     ∙ behind_map c.in_ok-ran.ensures.closed _ c.in_ok-pairs.ensures.pairs in
-    let some : 0 < length c.round.inside.tasks.items = search rules in
+    let some = subst (λ (o : Open _). 0 < length o.tasks) (sym c.round.view_is) c.requires.some in
     runs_from words_here _ c.args.round.now _ _ _ c.round.view_is
     (runs_round words_here _ _ _ _ _ _ _ _ _ _ c.pairs.ensures.all c.deref.ensures.value c.pairs.ensures.of_map
     c.take.ensures.value c.shelve.ensures.kept c.in_ok-ran.ensures.generations c.in_ok-ran.ensures.closed
