@@ -1,6 +1,6 @@
 -- Two callers that build a root for one rebuild: the target of the rebuild lies at 4, the rebuild
 -- at 15, and two leaves at 11 and 13.
-use Rattle.std.specs.Prelude.{◌≡◌, ℕ, ◌+◌, ◌*◌, ◌/◌, ◌<◌, List, [], ◌∷◌, Some}
+use Rattle.std.specs.Prelude.{◌≡◌, ℕ, ◌+◌, ◌*◌, ◌/◌, ◌<◌, List, [], ◌∷◌, None, Some}
 use Rattle.ist_core.specs.declared.events.Event.{Event}
 use Rattle.ist_core.specs.declared.events.Event.TheVariants.{Root, Lose}
 use Rattle.ist_core.specs.declared.lists.Row.{Row}
@@ -15,7 +15,14 @@ use Rattle.ist_core.specs.declared.events.Who.TheVariants.{Caller}
 use Rattle.ist_rule.specs.Learning.{now}
 use Rattle.ist_rule.specs.Conditions.{StoredAll}
 use Rattle.ist_rule.specs.Watching.{number_of}
+use Rattle.ist_rows.specs.declared.callers.Caller.{Caller as OneCaller}
 use Rattle.ist_coming.specs.Builds.{IsRootBuilt, WasUnset}
+
+-- the caller is the first and in no call, and has the rows at 15 and 20 for a start of a rebuild
+pub record HoldsStart (who : OneCaller) : Type 0 where
+  pub number : who.number ≡ 0
+  pub rows : (who.rebuild ≡ Some 15) × (who.change ≡ Some 20)
+  pub in_none : who.seat.view.pending ≡ None
 
 -- the rows of a root over the two leaves: one row at the base
 abbrev pub root_rows : ℕ → List Row

@@ -1,17 +1,21 @@
 //! One caller installs a put, and others help it, in turn and on threads of their own.
-ghost use Rattle.std.specs.Prelude.{◌≡◌};
-ghost use Rattle.ist_rows.specs.Rows.{IsCaller};
+ghost use Rattle.std.specs.Prelude.{◌≡◌, None};
+ghost use Rattle.ist_rows.specs.Rows.{IsCaller, spares_of, no_spares};
 
-use ist_dcss::{Decision, Installed, help};
+use crate::beginnings::begin_put;
+use crate::samples::word_at;
+use ist_dcss::{Decision, help};
 use ist_layout::{ANCHOR_SLOT_PLACE, Ref};
-use ist_rows::{Caller, Kind, enter, reserve};
-use ist_rule::{TreeTable, know, load};
-use ist_samples::{empty_table, install_put};
+use ist_rows::{Caller, enter};
+use ist_rule::{TreeSeat, TreeTable, know, load};
+use ist_samples::empty_table;
+use std::alloc::{AllocError, Global};
+use std::sync::Wait;
 use std::test::Fail;
-use std::thread::join;
+use std::thread::{Threads, join};
 
-// Helps the change at 6 where the anchor's slot holds it.
-fn help_met(table: &TreeTable, who: &mut Caller) -> Option<Decision>
+/// Helps the change at 6 where the anchor's slot holds it.
+pub(crate) fn help_met(table: &TreeTable, who: &mut Caller) -> Option<Decision>
     requires same_table { who.old.seat.table ≡ table.now.table }
     requires caller { IsCaller who.old }
     ensures same_table { who.new.seat.table ≡ table.now.table }
@@ -24,35 +28,57 @@ fn help_met(table: &TreeTable, who: &mut Caller) -> Option<Decision>
     None
 }
 
-#[test]
-fn a_put_is_decided_once_and_leaves_its_slot(rt: HostRuntime) -> Result<(), Fail> {
-    let (table, mut maker) = empty_table(rt.alloc(), 26)?;
+// What is seen where the first caller installs a put, the second helps it, and then the first: the word in the anchor's slot
+// behind each, and how each sees it decided.
+fn help_in_turn<R: Wait>(
+    rt: &R,
+    table: &TreeTable,
+    maker: &mut TreeSeat,
+    first: &mut Caller,
+    second: &mut Caller,
+) -> Option<([u64; 3], Option<Decision>, Decision)>
+    requires maker_table { maker.old.table ≡ table.now.table }
+    requires first_table { first.old.seat.table ≡ table.now.table }
+    requires second_table { second.old.seat.table ≡ table.now.table }
+    requires first { IsCaller first.old }
+    requires no_rows { spares_of first.old ≡ no_spares }
+    requires in_none { first.old.seat.view.pending ≡ None }
+    requires second { IsCaller second.old }
+{
+    if !begin_put(table, rt, first) {
+        return None;
+    }
+    let installed = word_at(table, maker, ANCHOR_SLOT_PLACE);
+    let by_second = help_met(table, second);
+    let left = word_at(table, maker, ANCHOR_SLOT_PLACE);
+    let by_first = help(table, &mut first.seat, 6);
+    let again = word_at(table, maker, ANCHOR_SLOT_PLACE);
+    Some(([installed, left, again], by_second, by_first))
+}
+
+// The same in an empty table.
+fn help_two<R: Wait>(
+    rt: &R,
+    alloc: Global,
+) -> Result<Option<([u64; 3], Option<Decision>, Decision)>, AllocError> {
+    let (table, mut maker) = empty_table(alloc, 26)?;
     let mut first = enter(&table, &mut maker);
     let mut second = enter(&table, &mut maker);
-    assert_eq!(rt; reserve(&table, &rt, &mut first, Kind::Leaf), Ok(4));
-    assert_eq!(rt; reserve(&table, &rt, &mut first, Kind::Change), Ok(6));
-    assert!(rt; first.number == 0);
-    assert!(rt; first.leaf == Some(4));
-    assert!(rt; first.change == Some(6));
-    assert_eq!(rt; install_put(&table, &mut first), Installed::Yes);
-    assert_eq!(rt;
-        load(&table, &mut maker, ANCHOR_SLOT_PLACE),
-        (Ref::Change { base: 6 }).to_word()
-    );
-    assert_eq!(rt; help_met(&table, &mut second), Some(Decision::Yes));
-    assert_eq!(rt;
-        load(&table, &mut maker, ANCHOR_SLOT_PLACE),
-        (Ref::Leaf { base: 4 }).to_word()
-    );
-    assert_eq!(rt; help(&table, &mut first.seat, 6), Decision::Yes);
-    assert_eq!(rt;
-        load(&table, &mut maker, ANCHOR_SLOT_PLACE),
-        (Ref::Leaf { base: 4 }).to_word()
-    );
+    let seen = help_in_turn(rt, &table, &mut maker, &mut first, &mut second);
+    Ok(seen)
+}
+
+#[test]
+fn a_put_is_decided_once_and_leaves_its_slot(rt: HostRuntime) -> Result<(), Fail> {
+    let change = Ref::Change { base: 6 }.to_word();
+    let leaf = Ref::Leaf { base: 4 }.to_word();
+    let yes = Decision::Yes;
+    let seen = help_two(&rt, rt.alloc())?;
+    assert_eq!(rt; seen, Some(([change, leaf, leaf], Some(yes), yes)));
     Ok(())
 }
 
-// The same by a caller that has no more to do.
+// Helps the change at 6, if the anchor's slot holds it, by a caller that has no more to do.
 fn help_moved(table: &TreeTable, who: Caller) -> Option<Decision>
     requires same_table { who.seat.table ≡ table.now.table }
     requires caller { IsCaller who }
@@ -61,20 +87,24 @@ fn help_moved(table: &TreeTable, who: Caller) -> Option<Decision>
     help_met(table, &mut who)
 }
 
-#[test]
-fn two_threads_that_meet_one_change_see_it_decided_yes(rt: HostRuntime) -> Result<(), Fail> {
-    let (table, mut maker) = empty_table(rt.alloc(), 26)?;
+// What comes of it where a caller installs a put, and two threads help it.
+#[derive(Drop)]
+struct Helped {
+    installed: bool,
+    left: Option<Decision>,
+    right: Option<Decision>,
+    slot: u64,
+}
+
+// The same in an empty table.
+fn help_on_threads<R: Threads + Wait + Sync>(rt: &R, alloc: Global) -> Result<Helped, AllocError> {
+    let (table, mut maker) = empty_table(alloc, 26)?;
     let mut first = enter(&table, &mut maker);
     let second = enter(&table, &mut maker);
     let third = enter(&table, &mut maker);
-    assert_eq!(rt; reserve(&table, &rt, &mut first, Kind::Leaf), Ok(4));
-    assert_eq!(rt; reserve(&table, &rt, &mut first, Kind::Change), Ok(6));
-    assert!(rt; first.number == 0);
-    assert!(rt; first.leaf == Some(4));
-    assert!(rt; first.change == Some(6));
-    assert_eq!(rt; install_put(&table, &mut first), Installed::Yes);
+    let installed = begin_put(&table, rt, &mut first);
     let (left, right) = join(
-        &rt,
+        rt,
         ||
             requires same_table { second.seat.table ≡ table.table }
             requires caller { IsCaller second }
@@ -84,11 +114,21 @@ fn two_threads_that_meet_one_change_see_it_decided_yes(rt: HostRuntime) -> Resul
             requires caller { IsCaller third }
         { help_moved(&table, third) },
     );
-    assert!(rt; left.is_some() || right.is_some());
-    assert!(rt; left != Some(Decision::No) && right != Some(Decision::No));
-    assert_eq!(rt;
-        load(&table, &mut maker, ANCHOR_SLOT_PLACE),
-        (Ref::Leaf { base: 4 }).to_word()
-    );
+    Ok(Helped {
+        installed,
+        left,
+        right,
+        slot: word_at(&table, &mut maker, ANCHOR_SLOT_PLACE),
+    })
+}
+
+#[test]
+fn two_threads_that_meet_one_change_see_it_decided_yes(rt: HostRuntime) -> Result<(), Fail> {
+    let leaf = Ref::Leaf { base: 4 }.to_word();
+    let no = Some(Decision::No);
+    let seen = help_on_threads(&rt, rt.alloc())?;
+    assert!(rt; seen.left.is_some() || seen.right.is_some());
+    assert!(rt; seen.left != no && seen.right != no);
+    assert_eq!(rt; (seen.installed, seen.slot), (true, leaf));
     Ok(())
 }

@@ -31,12 +31,15 @@ fn a_word_of_a_slot_is_read(rt: HostRuntime) {
 
 #[test]
 fn a_reference_is_written(rt: HostRuntime) {
-    assert_eq!(rt; Ref::Empty.to_word(), 0);
-    assert_eq!(rt; Ref::Unset.to_word(), 7);
-    assert_eq!(rt; Ref::Leaf { base: 4 }.to_word(), 33);
-    assert_eq!(rt; Ref::Inner { base: 4 }.to_word(), 34);
-    assert_eq!(rt; Ref::Change { base: 15 }.to_word(), 123);
-    assert_eq!(rt; Ref::Rebuild { base: 15 }.to_word(), 124);
+    let words = [
+        Ref::Empty.to_word(),
+        Ref::Unset.to_word(),
+        Ref::Leaf { base: 4 }.to_word(),
+        Ref::Inner { base: 4 }.to_word(),
+        Ref::Change { base: 15 }.to_word(),
+        Ref::Rebuild { base: 15 }.to_word(),
+    ];
+    assert_eq!(rt; words, [0, 7, 33, 34, 123, 124]);
 }
 
 #[test]
@@ -53,17 +56,18 @@ fn a_word_of_a_status_is_read_and_written(rt: HostRuntime) {
         ((1 << 34) + 3, None),
     ];
     for (word, found) in cases {
-        assert_eq!(rt; Status::from_word(word), found, "word {word}");
-        if let Some(status) = found {
-            assert_eq!(rt; status.to_word(), word, "word {word}");
-        }
+        let read = Status::from_word(word);
+        let written = match found {
+            Some(status) => status.to_word(),
+            None => word,
+        };
+        assert_eq!(rt; (read, written), (found, word), "word {word}");
     }
 }
 
 #[test]
 fn keys_and_slots_lie_behind_the_four_fields(rt: HostRuntime) {
     // an inner row of degree 2 at 4: status, count, degree, size, key 1, slot 0, slot 1
-    assert_eq!(rt; key_place(4, 1), 8);
-    assert_eq!(rt; slot_place(4, 2, 0), 9);
-    assert_eq!(rt; slot_place(4, 2, 1), 10);
+    let places = [key_place(4, 1), slot_place(4, 2, 0), slot_place(4, 2, 1)];
+    assert_eq!(rt; places, [8, 9, 10]);
 }

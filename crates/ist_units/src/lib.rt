@@ -1,13 +1,16 @@
 //! The crates below the tree, call by call, and worked schedules of several callers: tests alone.
 //!
 //! Read `ports.rt`, `arithmetic.rt` and `layouts.rt`, then `images.rt`, `callers.rt` and `searches.rt` with
-//! `samples.rt`; of the schedules `helping.rt` and `marking.rt`, then `races.rt` with `specs/Racing.antt`.
-//! Stands on `ist_core`, `ist_math`, `ist_layout`, `ist_image`, `ist_rule`, `ist_rows`, `ist_dcss`, `ist_samples`,
-//! `ist_mark` and `ist_find`.
+//! `samples.rt`; of the schedules `beginnings.rt`, `helping.rt` and `marking.rt`, then `races.rt` with
+//! `specs/Racing.antt`. Stands on `ist_core`, `ist_math`, `ist_layout`, `ist_image`, `ist_rule`, `ist_rows`,
+//! `ist_dcss`, `ist_samples`, `ist_mark` and `ist_find`, and on the laws of `ist_links`, `ist_rebuilds` and
+//! `ist_coming`.
 #![tactic(auto)]
 
 #[cfg(test)]
 mod arithmetic;
+#[cfg(test)]
+mod beginnings;
 #[cfg(test)]
 mod callers;
 #[cfg(test)]

@@ -5,19 +5,23 @@ ghost use Rattle.ist_core.specs.declared.events.Event.TheVariants.{Lose, Root};
 ghost use Rattle.ist_core.specs.Rebuilding.{IsFinishedWith};
 ghost use Rattle.ist_core.specs.Snapshots.{HoldsRow};
 ghost use Rattle.ist_rule.specs.Learning.{now, ExchangedOrLost};
-ghost use Rattle.ist_rows.specs.Rows.{IsCaller};
+ghost use Rattle.ist_rows.specs.Rows.{IsCaller, spares_of, no_spares};
 ghost use Rattle.ist_dcss.specs.Helping.{MayHelp};
 ghost use Rattle.ist_coming.specs.Builds.{WasUnset};
 ghost use Rattle.ist_rule.specs.Going.{WentOn};
 ghost use Rattle.ist_rows.specs.CallerLaws.{KeepsRows};
 ghost use Rattle.ist_units.specs.Racing.{root_rows, root_word, HasBoth, HasBuilt, HasPrepared, IsUnderway};
 
-use ist_dcss::{Decision, Installed, help};
+use crate::beginnings::{begin_start, reserve_start};
+use crate::samples::word_at;
+use ist_core::Full;
+use ist_dcss::{Decision, help};
 use ist_layout::{ANCHOR_SLOT_PLACE, Ref};
 use ist_mark::mark_and_count;
 use ist_rows::{Caller, Kind, drop_pair, enter, reserve};
 use ist_rule::{TreeSeat, TreeTable, exchange_or_lose, know, load, word_count};
-use ist_samples::{fill_row, install_start, table_of_two};
+use ist_samples::{fill_row, table_of_two};
+use std::alloc::{AllocError, Global};
 use std::sync::Wait;
 use std::test::Fail;
 
@@ -176,39 +180,75 @@ fn root_or_lose(table: &TreeTable, seat: &mut TreeSeat, number: u32, base: u32) 
     exchange_or_lose(table, seat, 18, 7, u64::from(base) * 8 + 2)
 }
 
-#[test]
-fn who_comes_second_with_a_root_loses_its_row(rt: HostRuntime) -> Result<(), Fail> {
-    let (table, mut maker) = table_of_two(rt.alloc())?;
+// What is seen where the first caller starts a rebuild of the row at 4, and two others build a root for it: the root word
+// before, as each of the two finds it, and behind them; the status of the row, and the word in the anchor's slot.
+fn race<R: Wait>(
+    rt: &R,
+    table: &TreeTable,
+    maker: &mut TreeSeat,
+    starter: &mut Caller,
+    first: &mut Caller,
+    second: &mut Caller,
+) -> Option<[u64; 6]>
+    requires maker_table { maker.old.table ≡ table.now.table }
+    requires starter_table { starter.old.seat.table ≡ table.now.table }
+    requires first_table { first.old.seat.table ≡ table.now.table }
+    requires second_table { second.old.seat.table ≡ table.now.table }
+    requires starter { IsCaller starter.old }
+    requires no_rows { spares_of starter.old ≡ no_spares }
+    requires in_none { starter.old.seat.view.pending ≡ None }
+    requires first { IsCaller first.old }
+    requires second { IsCaller second.old }
+{
+    if !reserve_start(table, rt, starter) {
+        return None;
+    }
+    if !prepare(table, rt, first, 29) || !prepare(table, rt, second, 36) {
+        return None;
+    }
+    if !begin_start(table, starter) {
+        return None;
+    }
+    if !meet(table, &mut first.seat, first.number, 29)
+        || !meet(table, &mut second.seat, second.number, 36)
+        || !build(table, rt, &mut first.seat, first.number, 29)
+        || !build(table, rt, &mut second.seat, second.number, 36)
+    {
+        return None;
+    }
+    Some([
+        word_at(table, maker, 18),
+        root_or_lose(table, &mut first.seat, first.number, 29),
+        root_or_lose(table, &mut second.seat, second.number, 36),
+        word_at(table, maker, 18),
+        word_at(table, maker, 4),
+        word_at(table, maker, ANCHOR_SLOT_PLACE),
+    ])
+}
+
+// The same in a table of two pairs.
+fn race_of_three<R: Wait>(rt: &R, alloc: Global) -> Result<Option<[u64; 6]>, AllocError> {
+    let (table, mut maker) = table_of_two(alloc)?;
     let mut starter = enter(&table, &mut maker);
     let mut first = enter(&table, &mut maker);
     let mut second = enter(&table, &mut maker);
-    assert_eq!(rt; reserve(&table, &rt, &mut starter, Kind::Rebuild), Ok(15));
-    assert_eq!(rt; reserve(&table, &rt, &mut starter, Kind::Change), Ok(20));
-    assert!(rt; starter.number == 0);
-    assert!(rt; starter.rebuild == Some(15));
-    assert!(rt; starter.change == Some(20));
-    assert!(rt; prepare(&table, &rt, &mut first, 29));
-    assert!(rt; prepare(&table, &rt, &mut second, 36));
-    assert_eq!(rt; install_start(&table, &mut starter), Installed::Yes);
-    assert!(rt; meet(&table, &mut first.seat, first.number, 29));
-    assert!(rt; meet(&table, &mut second.seat, second.number, 36));
-    assert!(rt; build(&table, &rt, &mut first.seat, first.number, 29));
-    assert!(rt; build(&table, &rt, &mut second.seat, second.number, 36));
-    assert_eq!(rt; load(&table, &mut maker, 18), 7);
-    assert_eq!(rt; root_or_lose(&table, &mut first.seat, first.number, 29), 7);
-    assert_eq!(rt;
-        root_or_lose(&table, &mut second.seat, second.number, 36),
-        Ref::Inner { base: 29 }.to_word()
+    let seen = race(
+        rt,
+        &table,
+        &mut maker,
+        &mut starter,
+        &mut first,
+        &mut second,
     );
-    assert_eq!(rt;
-        load(&table, &mut maker, 18),
-        Ref::Inner { base: 29 }.to_word()
-    );
-    assert_eq!(rt; load(&table, &mut maker, 4), 11);
-    assert_eq!(rt;
-        load(&table, &mut maker, ANCHOR_SLOT_PLACE),
-        Ref::Rebuild { base: 15 }.to_word()
-    );
+    Ok(seen)
+}
+
+#[test]
+fn who_comes_second_with_a_root_loses_its_row(rt: HostRuntime) -> Result<(), Fail> {
+    let root = Ref::Inner { base: 29 }.to_word();
+    let rebuild = Ref::Rebuild { base: 15 }.to_word();
+    let seen = race_of_three(&rt, rt.alloc())?;
+    assert_eq!(rt; seen, Some([7, 7, root, root, 11, rebuild]));
     Ok(())
 }
 
@@ -237,25 +277,61 @@ fn give_up_low(table: &TreeTable, who: &mut Caller) -> bool
     true
 }
 
-#[test]
-fn who_gives_up_a_low_pair_row_reserves_a_fresh_one(rt: HostRuntime) -> Result<(), Fail> {
-    let (table, mut maker) = table_of_two(rt.alloc())?;
+// What is seen where the first caller starts a rebuild of the row at 4, the second holds a pair row, and the third makes a
+// higher one the root: what the third finds there, and which pair row the second reserves once it has given up its own.
+fn give_up<R: Wait>(
+    rt: &R,
+    table: &TreeTable,
+    starter: &mut Caller,
+    low: &mut Caller,
+    high: &mut Caller,
+) -> Option<(u64, Result<u32, Full>)>
+    requires starter_table { starter.old.seat.table ≡ table.now.table }
+    requires low_table { low.old.seat.table ≡ table.now.table }
+    requires high_table { high.old.seat.table ≡ table.now.table }
+    requires starter { IsCaller starter.old }
+    requires no_rows { spares_of starter.old ≡ no_spares }
+    requires in_none { starter.old.seat.view.pending ≡ None }
+    requires low { IsCaller low.old }
+    requires high { IsCaller high.old }
+{
+    if !reserve_start(table, rt, starter) {
+        return None;
+    }
+    if reserve(table, rt, low, Kind::Pair) != Ok(29) || low.pair != Some(29) {
+        return None;
+    }
+    if !prepare(table, rt, high, 36) || !begin_start(table, starter) {
+        return None;
+    }
+    if !meet(table, &mut high.seat, high.number, 36)
+        || !build(table, rt, &mut high.seat, high.number, 36)
+    {
+        return None;
+    }
+    let found = root_or_lose(table, &mut high.seat, high.number, 36);
+    if !give_up_low(table, low) {
+        return None;
+    }
+    Some((found, reserve(table, rt, low, Kind::Pair)))
+}
+
+// The same in a table of two pairs.
+fn give_up_of_three<R: Wait>(
+    rt: &R,
+    alloc: Global,
+) -> Result<Option<(u64, Result<u32, Full>)>, AllocError> {
+    let (table, mut maker) = table_of_two(alloc)?;
     let mut starter = enter(&table, &mut maker);
     let mut low = enter(&table, &mut maker);
     let mut high = enter(&table, &mut maker);
-    assert_eq!(rt; reserve(&table, &rt, &mut starter, Kind::Rebuild), Ok(15));
-    assert_eq!(rt; reserve(&table, &rt, &mut starter, Kind::Change), Ok(20));
-    assert!(rt; starter.number == 0);
-    assert!(rt; starter.rebuild == Some(15));
-    assert!(rt; starter.change == Some(20));
-    assert_eq!(rt; reserve(&table, &rt, &mut low, Kind::Pair), Ok(29));
-    assert!(rt; low.pair == Some(29));
-    assert!(rt; prepare(&table, &rt, &mut high, 36));
-    assert_eq!(rt; install_start(&table, &mut starter), Installed::Yes);
-    assert!(rt; meet(&table, &mut high.seat, high.number, 36));
-    assert!(rt; build(&table, &rt, &mut high.seat, high.number, 36));
-    assert_eq!(rt; root_or_lose(&table, &mut high.seat, high.number, 36), 7);
-    assert!(rt; give_up_low(&table, &mut low));
-    assert_eq!(rt; reserve(&table, &rt, &mut low, Kind::Pair), Ok(43));
+    let seen = give_up(rt, &table, &mut starter, &mut low, &mut high);
+    Ok(seen)
+}
+
+#[test]
+fn who_gives_up_a_low_pair_row_reserves_a_fresh_one(rt: HostRuntime) -> Result<(), Fail> {
+    let seen = give_up_of_three(&rt, rt.alloc())?;
+    assert_eq!(rt; seen, Some((7, Ok(43))));
     Ok(())
 }

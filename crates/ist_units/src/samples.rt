@@ -1,9 +1,10 @@
-//! Pairs for the tests of images and of searches.
+//! Pairs for the tests of images and of searches, and words that the schedules look at.
 ghost use Rattle.std.specs.Prelude.{◌≡◌, ℕ, ◌+◌, ◌*◌, ◌≤◌, ◌<◌, ◌^◌, length, IfOk};
 ghost use Rattle.ist_core.specs.Lawful.{CanOpen};
 ghost use Rattle.ist_core.specs.RowLayout.{place_limit};
 
 use ist_core::Pair;
+use ist_rule::{TreeSeat, TreeTable, load, word_count};
 use std::alloc::{AllocError, Global};
 
 /// The pairs with the keys from 0 on, each with a value that is one more.
@@ -21,4 +22,16 @@ pub(crate) fn pairs_of(alloc: Global, count: u64) -> Result<Vec<Pair>, AllocErro
         })?;
     }
     Ok(pairs)
+}
+
+/// The word at the place, or the greatest one where the table has none there.
+pub(crate) fn word_at(table: &TreeTable, seat: &mut TreeSeat, place: u64) -> u64
+    requires same_table { seat.old.table ≡ table.now.table }
+    ensures same_table { seat.new.table ≡ table.now.table }
+{
+    if place < word_count(table) {
+        load(table, seat, place)
+    } else {
+        u64::MAX
+    }
 }

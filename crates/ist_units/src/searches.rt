@@ -1,18 +1,20 @@
 //! Searches of small tables, one of them with a put that waits to be decided, and the loads of searches.
-ghost use Rattle.std.specs.Prelude.{◌≡◌, ◌<◌, ◌^◌, IfOk};
-ghost use Rattle.ist_rows.specs.Rows.{IsCaller};
+ghost use Rattle.std.specs.Prelude.{◌≡◌, ◌<◌, ◌^◌, None, IfOk};
+ghost use Rattle.ist_rows.specs.Rows.{IsCaller, spares_of, no_spares};
 ghost use Rattle.ist_find.specs.Searches.{IsRow};
 
+use crate::beginnings::begin_put;
+use crate::helping::help_met;
 use crate::samples::pairs_of;
 use ist_core::Pair;
-use ist_dcss::{Decision, Installed, help};
+use ist_dcss::Decision;
 use ist_find::{Child, Found, child_at, find_and_loads, find_from_anchor};
 use ist_image::lay_image;
-use ist_layout::{ANCHOR_SLOT_PLACE, Ref};
-use ist_rows::{Caller, Kind, enter, reserve};
-use ist_rule::{TreeSeat, TreeTable, know, load, open_table};
-use ist_samples::{empty_table, install_put, table_of_two};
+use ist_rows::{Caller, enter};
+use ist_rule::{TreeSeat, TreeTable, open_table};
+use ist_samples::{empty_table, table_of_two};
 use std::alloc::{AllocError, Global};
+use std::sync::Wait;
 use std::test::Fail;
 
 // The table of two pairs: an inner row at 4, and two leaves.
@@ -21,6 +23,14 @@ fn two_pairs(alloc: Global) -> Result<(TreeTable, TreeSeat), AllocError>
     ensures row { IfOk result (λ t. IsRow t.1.view 4) }
 {
     table_of_two(alloc)
+}
+
+// The child for a key in the row of the table of two pairs, and what is found at the key.
+fn found_in_two(alloc: Global, key: u64) -> Result<(Child, Found), AllocError> {
+    let (table, mut seat) = two_pairs(alloc)?;
+    let child = child_at(&table, &mut seat, 4, key);
+    let found = find_from_anchor(&table, &mut seat, key);
+    Ok((child, found))
 }
 
 #[test]
@@ -35,12 +45,13 @@ fn each_key_is_found_with_its_value(rt: HostRuntime) -> Result<(), Fail> {
         (u64::MAX, 1, 105, None),
     ];
     for (key, index, word, value) in cases {
-        let (table, mut seat) = two_pairs(rt.alloc())?;
-        let child = child_at(&table, &mut seat, 4, key);
-        assert_eq!(rt; child, Child { index, word }, "key {key}");
-        let found = find_from_anchor(&table, &mut seat, key);
+        let found = found_in_two(rt.alloc(), key)?;
         let node = 4;
-        assert_eq!(rt; found, Found { value, node, index }, "key {key}");
+        assert_eq!(rt;
+            found,
+            (Child { index, word }, Found { value, node, index }),
+            "key {key}"
+        );
     }
     Ok(())
 }
@@ -64,6 +75,13 @@ fn ten_pairs(alloc: Global) -> Result<(TreeTable, TreeSeat), AllocError>
     ]?;
     let image = lay_image(alloc, 100, pairs.as_slice())?;
     open_table(alloc, image, &pairs)
+}
+
+// What is found at a key in the table of ten pairs, and the loads of the search.
+fn search_of_ten(alloc: Global, key: u64) -> Result<(Option<u64>, u64), AllocError> {
+    let (table, mut seat) = ten_pairs(alloc)?;
+    let found = find_and_loads(&table, &mut seat, key);
+    Ok((found.value.value, found.loads))
 }
 
 #[test]
@@ -97,13 +115,8 @@ fn a_search_loads_the_words_of_its_way_alone(rt: HostRuntime) -> Result<(), Fail
         (u64::MAX, None, 10),
     ];
     for (key, value, loads) in cases {
-        let (table, mut seat) = ten_pairs(rt.alloc())?;
-        let found = find_and_loads(&table, &mut seat, key);
-        assert_eq!(rt;
-            (found.value.value, found.loads),
-            (value, loads),
-            "key {key}"
-        );
+        let found = search_of_ten(rt.alloc(), key)?;
+        assert_eq!(rt; found, (value, loads), "key {key}");
     }
     Ok(())
 }
@@ -116,6 +129,15 @@ fn numbers(alloc: Global, count: u64) -> Result<(TreeTable, TreeSeat), AllocErro
     let pairs = pairs_of(alloc, count)?;
     let image = lay_image(alloc, 9 * count + 10, pairs.as_slice())?;
     open_table(alloc, image, &pairs)
+}
+
+// What is found at a key in a table of so many pairs, and the loads of the search.
+fn search_of(alloc: Global, count: u64, key: u64) -> Result<(Option<u64>, u64), AllocError>
+    requires few { count < 2 ^ 20 }
+{
+    let (table, mut seat) = numbers(alloc, count)?;
+    let found = find_and_loads(&table, &mut seat, key);
+    Ok((found.value.value, found.loads))
 }
 
 #[test]
@@ -141,53 +163,79 @@ fn a_search_loads_few_keys_of_a_row_with_more_than_four(rt: HostRuntime) -> Resu
         (u64::MAX, None, 2 + 4 + 6 + 1),
     ];
     for (key, value, loads) in cases {
-        let (table, mut seat) = numbers(rt.alloc(), 36)?;
-        let found = find_and_loads(&table, &mut seat, key);
-        assert_eq!(rt;
-            (found.value.value, found.loads),
-            (value, loads),
-            "key {key}"
-        );
+        let found = search_of(rt.alloc(), 36, key)?;
+        assert_eq!(rt; found, (value, loads), "key {key}");
     }
     Ok(())
 }
 
-// Helps the change at 6 where the anchor's slot holds it.
-fn help_met(table: &TreeTable, who: &mut Caller) -> Option<Decision>
-    requires same_table { who.old.seat.table ≡ table.now.table }
-    requires caller { IsCaller who.old }
-    ensures same_table { who.new.seat.table ≡ table.now.table }
+// What is found beside a put of 1 at 1.
+#[derive(Clone, Copy, Debug, PartialEq, Eq, Drop)]
+struct Beside {
+    // at 1 before the put is installed
+    before: Option<u64>,
+    // at 1 while it waits, and the loads of that search
+    waiting: (Option<u64>, u64),
+    decision: Option<Decision>,
+    // at 1 and at 2 behind the decision
+    there: Found,
+    other: Option<u64>,
+}
+
+// The first caller installs the put, and the second helps it.
+fn find_beside<R: Wait>(
+    rt: &R,
+    table: &TreeTable,
+    maker: &mut TreeSeat,
+    first: &mut Caller,
+    second: &mut Caller,
+) -> Option<Beside>
+    requires maker_table { maker.old.table ≡ table.now.table }
+    requires first_table { first.old.seat.table ≡ table.now.table }
+    requires second_table { second.old.seat.table ≡ table.now.table }
+    requires first { IsCaller first.old }
+    requires no_rows { spares_of first.old ≡ no_spares }
+    requires in_none { first.old.seat.view.pending ≡ None }
+    requires second { IsCaller second.old }
 {
-    know(&who.seat);
-    let met = load(table, &mut who.seat, ANCHOR_SLOT_PLACE);
-    if met == (Ref::Change { base: 6 }).to_word() {
-        return Some(help(table, &mut who.seat, 6));
+    let before = find_from_anchor(table, maker, 1).value;
+    if !begin_put(table, rt, first) {
+        return None;
     }
-    None
+    let waiting = find_and_loads(table, maker, 1);
+    Some(Beside {
+        before,
+        waiting: (waiting.value.value, waiting.loads),
+        decision: help_met(table, second),
+        there: find_from_anchor(table, maker, 1),
+        other: find_from_anchor(table, maker, 2).value,
+    })
+}
+
+// The same in an empty table.
+fn find_in_empty<R: Wait>(rt: &R, alloc: Global) -> Result<Option<Beside>, AllocError> {
+    let (table, mut maker) = empty_table(alloc, 26)?;
+    let mut first = enter(&table, &mut maker);
+    let mut second = enter(&table, &mut maker);
+    let seen = find_beside(rt, &table, &mut maker, &mut first, &mut second);
+    Ok(seen)
 }
 
 #[test]
 fn a_put_is_found_once_it_is_decided(rt: HostRuntime) -> Result<(), Fail> {
-    let (table, mut maker) = empty_table(rt.alloc(), 26)?;
-    let mut first = enter(&table, &mut maker);
-    let mut second = enter(&table, &mut maker);
-    assert_eq!(rt; find_from_anchor(&table, &mut maker, 1).value, None);
-    assert_eq!(rt; reserve(&table, &rt, &mut first, Kind::Leaf), Ok(4));
-    assert_eq!(rt; reserve(&table, &rt, &mut first, Kind::Change), Ok(6));
-    assert!(rt; first.number == 0);
-    assert!(rt; first.leaf == Some(4));
-    assert!(rt; first.change == Some(6));
-    assert_eq!(rt; install_put(&table, &mut first), Installed::Yes);
-    // Word 0, the anchor's slot, the change's decision, its `from`.
-    let before = find_and_loads(&table, &mut maker, 1);
-    assert_eq!(rt; (before.value.value, before.loads), (None, 4));
-    assert_eq!(rt; help_met(&table, &mut second), Some(Decision::Yes));
-    let there = Found {
-        value: Some(1),
-        node: 2,
-        index: 0,
+    let seen = find_in_empty(&rt, rt.alloc())?;
+    let wanted = Beside {
+        before: None,
+        // word 0, the anchor's slot, the change's decision, its `from`
+        waiting: (None, 4),
+        decision: Some(Decision::Yes),
+        there: Found {
+            value: Some(1),
+            node: 2,
+            index: 0,
+        },
+        other: None,
     };
-    assert_eq!(rt; find_from_anchor(&table, &mut maker, 1), there);
-    assert_eq!(rt; find_from_anchor(&table, &mut maker, 2).value, None);
+    assert_eq!(rt; seen, Some(wanted));
     Ok(())
 }

@@ -1,8 +1,0 @@
-use Rattle.std.proofs.Common.{◌≡◌}
-use Rattle.ist_tree.specs.Freezing.{IsFrozenFor}
-use Rattle.ist_trials.proofs.scan_ends.the_last_bins_may_end_beyond_all_keys.Given as goal
-
--- the pass stays on the tree
-abbrev pub invariant-loop-first : goal.invariant-loop-first
-invariant-loop-first g l =
-    (l.pass.tree ≡ l.initial.pass.tree) × IsFrozenFor l.pass l.shot
