@@ -34,9 +34,16 @@ fn each_key_is_found_with_its_opening_value(rt: HostRuntime) -> Result<(), Fail>
     Ok(())
 }
 
+// Why a tree of so many words with the pair (5, 7) isn't opened, if it isn't.
+fn fault_in(alloc: Global, words: u32) -> Option<OpenFault>
+    requires few { words ≤ 1000 }
+{
+    let pairs = [FIVE];
+    Tree::open(alloc, words, &pairs).err()
+}
+
 #[test]
 fn a_tree_is_opened_exactly_where_its_pairs_have_room(rt: HostRuntime) -> Result<(), Fail> {
-    let pairs = [FIVE];
     // the words, the fault
     let cases = [
         (
@@ -57,11 +64,7 @@ fn a_tree_is_opened_exactly_where_its_pairs_have_room(rt: HostRuntime) -> Result
         (7, None),
     ];
     for (words, fault) in cases {
-        assert_eq!(rt;
-            Tree::open(rt.alloc(), words, &pairs).err(),
-            fault,
-            "{words} words"
-        );
+        assert_eq!(rt; fault_in(rt.alloc(), words), fault, "{words} words");
     }
     Ok(())
 }
@@ -82,20 +85,25 @@ fn found_over(
     Ok((tree.find(&mut pass, 9), tree.find(&mut pass, 5)))
 }
 
-#[test]
-fn one_image_serves_for_two_openings(rt: HostRuntime) -> Result<(), Fail> {
-    let mut image = Image::new(rt.alloc());
+// The same of a tree of both pairs, and of one of the least over the same image.
+fn found_over_one_image(alloc: Global) -> [Result<(Option<u64>, Option<u64>), OpenFault>; 2] {
+    let mut image = Image::new(alloc);
     let pairs = [FIVE, NINE];
-    let both = found_over(rt.alloc(), &mut image, 20, &pairs)?;
+    let both = found_over(alloc, &mut image, 20, &pairs);
     let fewer = [FIVE];
-    let one = found_over(rt.alloc(), &mut image, 8, &fewer)?;
-    assert_eq!(rt; (both, one), ((Some(1), Some(7)), (None, Some(7))));
-    Ok(())
+    let one = found_over(alloc, &mut image, 8, &fewer);
+    [both, one]
+}
+
+#[test]
+fn one_image_serves_for_two_openings(rt: HostRuntime) {
+    let found = found_over_one_image(rt.alloc());
+    assert_eq!(rt; found, [Ok((Some(1), Some(7))), Ok((None, Some(7)))]);
 }
 
 // What each of three passes of a tree finds, where each is told what the one before knows; the numbers of
 // the last two, the tree when it is closed, and its word at 1.
-fn told_in_turn(alloc: Global) -> Result<([Option<u64>; 3], (u64, u64), Closed, u64), OpenFault> {
+fn found_in_turn(alloc: Global) -> Result<([Option<u64>; 3], (u64, u64), Closed, u64), OpenFault> {
     let (tree, mut maker) = two_pairs(alloc, 20)?;
     let mut first = tree.pass(&mut maker);
     let mut second = tree.pass(&mut maker);
@@ -120,12 +128,17 @@ fn told_in_turn(alloc: Global) -> Result<([Option<u64>; 3], (u64, u64), Closed, 
 
 #[test]
 fn notes_go_from_pass_to_pass_until_the_tree_is_closed(rt: HostRuntime) -> Result<(), Fail> {
-    let (found, numbers, closed, word) = told_in_turn(rt.alloc())?;
-    assert_eq!(rt; (found, numbers), ([Some(7), Some(1), None], (1, 2)));
+    let (found, numbers, closed, word) = found_in_turn(rt.alloc())?;
     let pairs = closed.pairs(rt.alloc())?;
     assert_eq!(rt;
-        (pairs.as_slice(), closed.used(), word),
-        ([FIVE, NINE].as_slice(), 15, 3)
+        (found, numbers, pairs.as_slice(), closed.used(), word),
+        (
+            [Some(7), Some(1), None],
+            (1, 2),
+            [FIVE, NINE].as_slice(),
+            15,
+            3
+        )
     );
     Ok(())
 }

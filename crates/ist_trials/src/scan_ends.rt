@@ -1,11 +1,11 @@
 //! Intervals and bins at both ends of all keys.
-ghost use Rattle.std.specs.Prelude.{◌≡◌, ◌≤◌};
-ghost use Rattle.ist_tree.specs.Freezing.{IsFrozenFor};
+ghost use Rattle.std.specs.Prelude.{◌≤◌};
 
-use crate::shots::{first_wrong, shot_of};
+use crate::shots::{shot_of, sum_and_first_wrong};
 use ist_core::Pair;
-use ist_scan::{Shot, Total};
-use ist_tree::{Pass, Tree};
+use ist_scan::Total;
+use std::alloc::Global;
+use std::sync::Wait;
 use std::test::Fail;
 
 // The least key, one between, and the greatest, with the greatest value.
@@ -27,7 +27,6 @@ const FOUR: [Pair; 4] = [
 
 #[test]
 fn intervals_reach_the_least_and_the_greatest_key(rt: HostRuntime) -> Result<(), Fail> {
-    let (tree, mut pass, shot) = shot_of(&rt, rt.alloc(), &FOUR)?;
     // first, last, the part of the four pairs
     let cases = [
         (0, u64::MAX, 0, 4),
@@ -37,28 +36,23 @@ fn intervals_reach_the_least_and_the_greatest_key(rt: HostRuntime) -> Result<(),
         (u64::MAX, u64::MAX, 3, 4),
         (6, u64::MAX - 2, 2, 2),
     ];
-    let sum = shot.total(&tree, &mut pass, 0, u64::MAX).sum;
-    let wrong = first_wrong(rt.alloc(), &tree, &mut pass, &shot, &FOUR, &cases)?;
-    assert_eq!(rt; (wrong, sum), (None, 2 * u128::from(u64::MAX) + 10));
+    let found = sum_and_first_wrong(&rt, rt.alloc(), &FOUR, &cases)?;
+    assert_eq!(rt; found, (2 * u128::from(u64::MAX) + 10, Ok(None)));
     Ok(())
 }
 
-// How many pairs each of three bins has.
-fn keys_in_bins(tree: &Tree, pass: &mut Pass, shot: &Shot, first: u64, width: u64) -> [u64; 3]
-    requires same_tree { pass.old.tree ≡ tree.now }
-    requires frozen { IsFrozenFor pass.old shot.now }
+// How many pairs each of three bins of a shot of the four pairs has.
+fn keys_in_bins<R: Wait>(rt: &R, alloc: Global, first: u64, width: u64) -> Result<[u64; 3], Fail>
     requires some { 1 ≤ width }
-    ensures same_tree { pass.new.tree ≡ tree.now }
-    ensures frozen { IsFrozenFor pass.new shot.now }
 {
+    let (tree, mut pass, shot) = shot_of(rt, alloc, &FOUR)?;
     let mut bins = [Total::of_none(); 3];
-    shot.bins(tree, pass, first, width, &mut bins);
-    [bins[0].keys, bins[1].keys, bins[2].keys]
+    shot.bins(&tree, &mut pass, first, width, &mut bins);
+    Ok([bins[0].keys, bins[1].keys, bins[2].keys])
 }
 
 #[test]
 fn the_last_bins_may_end_beyond_all_keys(rt: HostRuntime) -> Result<(), Fail> {
-    let (tree, mut pass, shot) = shot_of(&rt, rt.alloc(), &FOUR)?;
     // first, width, how many pairs each bin has
     let cases = [
         (0, u64::MAX, [3, 1, 0]),
@@ -69,7 +63,7 @@ fn the_last_bins_may_end_beyond_all_keys(rt: HostRuntime) -> Result<(), Fail> {
         (5, 1, [1, 0, 0]),
     ];
     for (first, width, keys) in cases {
-        let found = keys_in_bins(&tree, &mut pass, &shot, first, width);
+        let found = keys_in_bins(&rt, rt.alloc(), first, width)?;
         assert_eq!(rt; found, keys, "{width} keys from {first} on");
     }
     Ok(())

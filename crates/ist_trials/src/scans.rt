@@ -2,10 +2,13 @@
 ghost use Rattle.std.specs.Prelude.{◌≡◌};
 ghost use Rattle.ist_tree.specs.Freezing.{IsFrozenFor};
 
-use crate::shots::{first_wrong, put_beside, rebuild_beside, remove_beside, shot_of};
-use ist_core::{Full, Pair};
+use crate::shots::{
+    first_wrong, put_beside, rebuild_beside, remove_beside, shot_of, sum_and_first_wrong,
+};
+use ist_core::{Full, Pair, Reply};
 use ist_scan::{Shot, Total};
 use ist_tree::{Pass, Tree};
+use std::alloc::Global;
 use std::sync::Wait;
 use std::test::Fail;
 
@@ -50,18 +53,23 @@ fn read_of(tree: &Tree, pass: &mut Pass, shot: &Shot) -> (u64, [Total; 3], [Tota
     (shot.keys(), totals, bins)
 }
 
+// The same of a shot of the ten pairs.
+fn read_of_ten<R: Wait>(rt: &R, alloc: Global) -> Result<(u64, [Total; 3], [Total; 3]), Fail> {
+    let (tree, mut pass, shot) = shot_of(rt, alloc, &TEN)?;
+    let read = read_of(&tree, &mut pass, &shot);
+    Ok(read)
+}
+
 #[test]
 fn ten_readings_are_added_up_between_keys_and_in_bins(rt: HostRuntime) -> Result<(), Fail> {
-    let (tree, mut pass, shot) = shot_of(&rt, rt.alloc(), &TEN)?;
     let totals = [total(4, 14, 2, 5), Total::of_none(), total(10, 45, 0, 9)];
     let bins = [total(4, 6, 0, 3), total(4, 22, 4, 7), total(2, 17, 8, 9)];
-    assert_eq!(rt; read_of(&tree, &mut pass, &shot), (10, totals, bins));
+    assert_eq!(rt; read_of_ten(&rt, rt.alloc())?, (10, totals, bins));
     Ok(())
 }
 
 #[test]
 fn a_list_a_walk_and_a_total_agree_on_each_interval(rt: HostRuntime) -> Result<(), Fail> {
-    let (tree, mut pass, shot) = shot_of(&rt, rt.alloc(), &TEN)?;
     // first, last, the part of the ten pairs
     let cases = [
         (0, u64::MAX, 0, 10),
@@ -76,24 +84,50 @@ fn a_list_a_walk_and_a_total_agree_on_each_interval(rt: HostRuntime) -> Result<(
         (50, 20, 5, 5),
         (u64::MAX, 0, 5, 5),
     ];
-    let wrong = first_wrong(rt.alloc(), &tree, &mut pass, &shot, &TEN, &cases)?;
-    assert_eq!(rt; wrong, None);
+    let found = sum_and_first_wrong(&rt, rt.alloc(), &TEN, &cases)?;
+    assert_eq!(rt; found, (45, Ok(None)));
     Ok(())
+}
+
+// An interval whose list, walk and total aren't those of its part of the pairs, if there is one.
+type Wrong = Option<(u64, u64)>;
+
+// What the removal of key 1 is told beside a shot, and what that shot then lists wrong; how many keys a later shot
+// has, and what that lists wrong.
+fn remove_and_list<R: Wait>(
+    rt: &R,
+    alloc: Global,
+    tree: &Tree,
+    pass: &mut Pass,
+    shot: &Shot,
+) -> Result<(Result<Reply, Full>, Wrong, u64, Wrong), Fail>
+    requires same_tree { pass.old.tree ≡ tree.now }
+    requires frozen { IsFrozenFor pass.old shot.now }
+{
+    let removed = remove_beside(rt, tree, pass, shot, 1);
+    let cases = [(0, 9, 0, 1)];
+    let kept = first_wrong(alloc, tree, pass, shot, &[ONE], &cases)?;
+    let later = Shot::take(tree, rt, pass)?;
+    let cases = [(0, 9, 0, 0)];
+    let left = first_wrong(alloc, tree, pass, &later, &[ONE], &cases)?;
+    Ok((removed, kept, later.keys(), left))
+}
+
+// The same in a tree of the one pair.
+fn remove_from_one<R: Wait>(
+    rt: &R,
+    alloc: Global,
+) -> Result<(Result<Reply, Full>, Wrong, u64, Wrong), Fail> {
+    let (tree, mut pass, shot) = shot_of(rt, alloc, &[ONE])?;
+    remove_and_list(rt, alloc, &tree, &mut pass, &shot)
 }
 
 #[test]
 fn a_shot_keeps_a_key_that_was_removed_since_and_a_new_one_has_none(
     rt: HostRuntime,
 ) -> Result<(), Fail> {
-    let (tree, mut pass, shot) = shot_of(&rt, rt.alloc(), &[ONE])?;
-    let removed = remove_beside(&rt, &tree, &mut pass, &shot, 1);
-    let cases = [(0, 9, 0, 1)];
-    let kept = first_wrong(rt.alloc(), &tree, &mut pass, &shot, &[ONE], &cases)?;
-    assert_eq!(rt; (removed, kept), (Ok(Some(1)), None));
-    let later = Shot::take(&tree, &rt, &mut pass)?;
-    let cases = [(0, 9, 0, 0)];
-    let left = first_wrong(rt.alloc(), &tree, &mut pass, &later, &[ONE], &cases)?;
-    assert_eq!(rt; (later.keys(), left), (0, None));
+    let found = remove_from_one(&rt, rt.alloc())?;
+    assert_eq!(rt; found, (Ok(Some(1)), None, 0, None));
     Ok(())
 }
 
@@ -114,17 +148,37 @@ fn rebuild_ten<R: Wait>(rt: &R, tree: &Tree, pass: &mut Pass, shot: &Shot) -> Re
     Ok(taken)
 }
 
+// How many further shots were taken, what the first one then lists wrong, and what the last one has at the key that
+// was put.
+fn rebuild_and_read<R: Wait>(
+    rt: &R,
+    alloc: Global,
+    tree: &Tree,
+    pass: &mut Pass,
+    shot: &Shot,
+) -> Result<(Result<u64, Full>, Wrong, Total), Fail>
+    requires same_tree { pass.old.tree ≡ tree.now }
+    requires frozen { IsFrozenFor pass.old shot.now }
+{
+    let taken = rebuild_ten(rt, tree, pass, shot);
+    let cases = [(0, u64::MAX, 0, 10)];
+    let wrong = first_wrong(alloc, tree, pass, shot, &TEN, &cases)?;
+    let later = Shot::take(tree, rt, pass)?;
+    Ok((taken, wrong, later.total(tree, pass, 20, 20)))
+}
+
+// The same in a tree of the ten pairs.
+fn rebuild_of_ten<R: Wait>(
+    rt: &R,
+    alloc: Global,
+) -> Result<(Result<u64, Full>, Wrong, Total), Fail> {
+    let (tree, mut pass, shot) = shot_of(rt, alloc, &TEN)?;
+    rebuild_and_read(rt, alloc, &tree, &mut pass, &shot)
+}
+
 #[test]
 fn a_shot_is_read_as_it_was_after_ten_further_rebuilds(rt: HostRuntime) -> Result<(), Fail> {
-    let (tree, mut pass, shot) = shot_of(&rt, rt.alloc(), &TEN)?;
-    let taken = rebuild_ten(&rt, &tree, &mut pass, &shot);
-    let cases = [(0, u64::MAX, 0, 10)];
-    let wrong = first_wrong(rt.alloc(), &tree, &mut pass, &shot, &TEN, &cases)?;
-    assert_eq!(rt; (taken, wrong), (Ok(10), None));
-    let later = Shot::take(&tree, &rt, &mut pass)?;
-    assert_eq!(rt;
-        later.total(&tree, &mut pass, 20, 20),
-        total(1, 109, 109, 109)
-    );
+    let found = rebuild_of_ten(&rt, rt.alloc())?;
+    assert_eq!(rt; found, (Ok(10), None, total(1, 109, 109, 109)));
     Ok(())
 }

@@ -184,6 +184,19 @@ pub(crate) fn first_wrong(
     Ok(wrong)
 }
 
+/// The sum of the values in a shot of these pairs, and the first wrong of its intervals.
+pub(crate) fn sum_and_first_wrong<R: Wait>(
+    rt: &R,
+    alloc: Global,
+    pairs: &[Pair],
+    cases: &[(u64, u64, usize, usize)],
+) -> Result<(u128, Result<Option<(u64, u64)>, AllocError>), Fail> {
+    let (tree, mut pass, shot) = shot_of(rt, alloc, pairs)?;
+    let sum = shot.total(&tree, &mut pass, 0, u64::MAX).sum;
+    let wrong = first_wrong(alloc, &tree, &mut pass, &shot, pairs, cases);
+    Ok((sum, wrong))
+}
+
 /// The total of these pairs, by their values alone.
 pub(crate) fn total_of(pairs: &[Pair]) -> Total {
     let mut sum: u128 = 0;

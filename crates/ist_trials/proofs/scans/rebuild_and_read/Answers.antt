@@ -1,5 +1,5 @@
 use Rattle.std.proofs.Common.{◌∙◌}
-use Rattle.ist_trials.proofs.scans.a_shot_is_read_as_it_was_after_ten_further_rebuilds.Goals as goal
+use Rattle.ist_trials.proofs.scans.rebuild_and_read.Goals as goal
 
 pub take-requires : goal.take-requires
 take-requires g c = record { same_tree = c.first_wrong.ensures.same_tree }
