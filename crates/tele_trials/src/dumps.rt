@@ -2,12 +2,13 @@
 //! of the dump tells what the closed tree does.
 ghost use Rattle.std.specs.Prelude.{◌≡◌, ◌≤◌};
 
+use ist_core::Pair;
 use ist_rest::Closed;
 use ist_tree::{Pass, Tree};
 use std::alloc::{AllocError, Global};
 use std::sync::Wait;
 use std::test::Fail;
-use tele_audit::{audit, dump};
+use tele_audit::{Audited, audit, dump};
 use tele_io::{MemorySink, MemorySource, QuietSink, SinkFault};
 
 // Puts 1 to 10. Gives how many were answered.
@@ -26,12 +27,12 @@ fn put_ten<R: Wait>(rt: &R, tree: &Tree, pass: &mut Pass) -> u64
 }
 
 // A tree of so many words that was closed behind ten puts, and how many were answered.
-fn ten<R: Wait>(rt: &R, alloc: Global, words: u32) -> Result<(Closed, u64), Fail>
+fn ten<R: Wait>(rt: &R, alloc: Global, words: u32) -> Result<(Closed, u64), AllocError>
     requires least { 4 ≤ words }
     requires most { words ≤ 1000 }
 {
     let Ok((tree, mut maker)) = Tree::open(alloc, words, &[]) else {
-        return Err(Fail::from(AllocError));
+        return Err(AllocError);
     };
     let mut pass = tree.pass(&mut maker);
     let count = put_ten(rt, &tree, &mut pass);
@@ -39,30 +40,65 @@ fn ten<R: Wait>(rt: &R, alloc: Global, words: u32) -> Result<(Closed, u64), Fail
     Ok((tree.close(maker), count))
 }
 
-// Does the audit of its dump tell what the closed tree does?
-fn is_told(alloc: Global, closed: &Closed) -> Result<bool, Fail> {
+// The bytes of the dump of the closed tree.
+fn dumped(alloc: Global, closed: &Closed) -> Result<Vec<u8>, AllocError> {
     let mut out = QuietSink::new(alloc);
     if dump(closed, &mut out).is_err() {
-        return Err(Fail::from(AllocError));
+        return Err(AllocError);
     }
-    let bytes = out.bytes().to_vec(alloc)?;
+    out.bytes().to_vec(alloc)
+}
+
+// Does the audit tell these pairs, the pairs from 3 to 7, and the numbers of words of the closed tree?
+fn tells(told: &Audited, closed: &Closed, pairs: &[Pair], some: &[Pair]) -> bool {
+    told.list(0, u64::MAX) == pairs
+        && told.list(3, 7) == some
+        && told.used() == closed.used()
+        && told.words() == closed.word_count()
+}
+
+// Does the audit tell what the closed tree does?
+fn tells_all(alloc: Global, told: &Audited, closed: &Closed) -> Result<bool, AllocError> {
+    let pairs = closed.pairs(alloc)?;
+    let some = closed.list(alloc, 3, 7)?;
+    Ok(tells(told, closed, pairs.as_slice(), some.as_slice()))
+}
+
+// Does the audit of these bytes tell what the closed tree does?
+fn audit_tells(
+    alloc: Global,
+    source: &mut MemorySource,
+    closed: &Closed,
+) -> Result<bool, AllocError> {
+    match audit(alloc, source) {
+        Ok(told) => tells_all(alloc, &told, closed),
+        Err(_) => Ok(false),
+    }
+}
+
+// Does the audit of its dump tell what the closed tree does?
+fn is_told(alloc: Global, closed: &Closed) -> Result<bool, AllocError> {
+    let bytes = dumped(alloc, closed)?;
     let mut source = MemorySource::new(bytes, 100, Vec::new(alloc));
-    let Ok(told) = audit(alloc, &mut source) else {
-        return Ok(false);
-    };
-    Ok(
-        told.list(0, u64::MAX) == closed.pairs(alloc)?.as_slice()
-            && told.list(3, 7) == closed.list(alloc, 3, 7)?.as_slice()
-            && told.used() == closed.used()
-            && told.words() == closed.word_count(),
-    )
+    audit_tells(alloc, &mut source, closed)
+}
+
+// Of a tree of so many words that was closed behind ten puts: whether an audit tells it, how many puts
+// were answered, whether it is settled, and how many words it uses.
+fn see_ten<R: Wait>(rt: &R, alloc: Global, words: u32) -> Result<(bool, u64, bool, u64), AllocError>
+    requires least { 4 ≤ words }
+    requires most { words ≤ 1000 }
+{
+    let (closed, count) = ten(rt, alloc, words)?;
+    let told = is_told(alloc, &closed)?;
+    Ok((told, count, closed.settled(), closed.used()))
 }
 
 #[test]
 fn an_audit_tells_what_a_closed_tree_of_any_size_does(rt: HostRuntime) -> Result<(), Fail> {
     for words in 4..259 {
-        let (closed, _count) = ten(&rt, rt.alloc(), words)?;
-        assert!(rt; is_told(rt.alloc(), &closed)?, "{words} words");
+        let (told, _, _, _) = see_ten(&rt, rt.alloc(), words)?;
+        assert!(rt; told, "{words} words");
     }
     Ok(())
 }
@@ -79,25 +115,36 @@ fn trees_that_are_closed_in_a_rebuild_are_told(rt: HostRuntime) -> Result<(), Fa
         (258, true, 258),
     ];
     for (words, settled, used) in cases {
-        let (closed, count) = ten(&rt, rt.alloc(), words)?;
-        assert_eq!(rt;
-            (count, closed.settled(), closed.used()),
-            (10, settled, used),
-            "{words} words"
-        );
-        assert!(rt; is_told(rt.alloc(), &closed)?, "{words} words");
+        let seen = see_ten(&rt, rt.alloc(), words)?;
+        assert_eq!(rt; seen, (true, 10, settled, used), "{words} words");
     }
     Ok(())
 }
 
+/// How a dump ended, and how many bytes were written then.
+type Written = (Result<(), SinkFault>, u64);
+
+// Dumps the closed tree twice into a sink, and says how many bytes the tree asks for.
+fn dump_twice(closed: &Closed, out: &mut MemorySink) -> (Written, Written, u64) {
+    let first = dump(closed, out);
+    let before = out.bytes().len() as u64;
+    let second = dump(closed, out);
+    let after = out.bytes().len() as u64;
+    ((first, before), (second, after), 16 + 8 * closed.used())
+}
+
+// Dumps a tree of 300 words twice into a sink that refuses the first piece.
+fn see_refused<R: Wait>(rt: &R, alloc: Global) -> Result<(Written, Written, u64), AllocError> {
+    let mut out = MemorySink::new(alloc, vec![in alloc; 0]?);
+    let (closed, _count) = ten(rt, alloc, 300)?;
+    Ok(dump_twice(&closed, &mut out))
+}
+
 #[test]
 fn a_sink_that_refuses_the_first_piece_has_none_of_it(rt: HostRuntime) -> Result<(), Fail> {
-    let (closed, _count) = ten(&rt, rt.alloc(), 300)?;
-    let mut out = MemorySink::new(rt.alloc(), vec![in rt.alloc(); 0]?);
-    assert_eq!(rt; dump(&closed, &mut out), Err(SinkFault::Failed));
-    assert_eq!(rt; out.bytes().len(), 0);
+    let (first, second, len) = see_refused(&rt, rt.alloc())?;
     // the next write is taken
-    assert_eq!(rt; dump(&closed, &mut out), Ok(()));
-    assert_eq!(rt; out.bytes().len() as u64, 16 + 8 * closed.used());
+    let wanted = ((Err(SinkFault::Failed), 0), (Ok(()), len));
+    assert_eq!(rt; (first, second), wanted);
     Ok(())
 }

@@ -4,7 +4,9 @@ ghost use Rattle.std.specs.Prelude.{None};
 use crate::running::run_over;
 use ist_rest::Closed;
 use std::alloc::{AllocError, Global};
+use std::sync::Wait;
 use std::test::Fail;
+use std::thread::Threads;
 use tele_generations::Shelf;
 use tele_lanes::NoGate;
 
@@ -28,44 +30,58 @@ impl Shelf<Closed> for Counted {
     }
 }
 
+// Puts the text behind the bytes.
+fn add(bytes: &mut Vec<u8>, text: String) -> Result<(), AllocError> {
+    bytes.extend_from_slice(text.as_bytes())
+}
+
 /// A reading for each second of the day, and behind them an interval line for all.
-fn day_of_readings(alloc: Global) -> Result<Vec<u8>, AllocError> {
-    let mut input = Vec::new(alloc);
+fn add_readings(alloc: Global, input: &mut Vec<u8>) -> Result<(), AllocError> {
     for second in 0..DAY {
-        let line = format!(in alloc; "P {} 20\n", START + second)?;
-        input.extend_from_slice(line.as_bytes())?;
+        add(input, format!(in alloc; "P {} 20\n", START + second)?)?;
     }
-    let last = format!(in alloc; "I {START} {}\n", START + DAY - 1)?;
-    input.extend_from_slice(last.as_bytes())?;
-    Ok(input)
+    add(input, format!(in alloc; "I {START} {}\n", START + DAY - 1)?)
 }
 
 /// The answer to the readings: none found a value, and the interval has all.
-fn answer_to_readings(alloc: Global) -> Result<Vec<u8>, AllocError> {
-    let mut output = Vec::new(alloc);
+fn add_answers(alloc: Global, output: &mut Vec<u8>) -> Result<(), AllocError> {
     for line in 1..DAY + 1 {
-        let reply = format!(in alloc; "{line} -\n")?;
-        output.extend_from_slice(reply.as_bytes())?;
+        add(output, format!(in alloc; "{line} -\n")?)?;
     }
-    let count = format!(in alloc; "{} {DAY}\n", DAY + 1)?;
-    output.extend_from_slice(count.as_bytes())?;
+    add(output, format!(in alloc; "{} {DAY}\n", DAY + 1)?)?;
     for second in 0..DAY {
-        let pair = format!(in alloc; "{} 20\n", START + second)?;
-        output.extend_from_slice(pair.as_bytes())?;
+        add(output, format!(in alloc; "{} 20\n", START + second)?)?;
     }
-    Ok(output)
+    Ok(())
+}
+
+// Whether a run over the input wrote the output, its status, how many trees of its last round ran full,
+// and whether it has a last tree.
+fn run_day<R: Threads + Wait + Sync>(
+    rt: &R,
+    alloc: Global,
+    shelf: &mut Counted,
+    input: &[u8],
+    output: &[u8],
+) -> Result<(bool, u8, u64, bool), AllocError> {
+    let ran = run_over(rt, alloc, &[], input, &NoGate, shelf)?;
+    Ok((
+        ran.out.bytes() == output,
+        ran.outcome.status,
+        ran.outcome.fulls,
+        ran.outcome.last.is_some(),
+    ))
 }
 
 #[test]
 fn a_day_of_readings_takes_six_trees(rt: HostRuntime) -> Result<(), Fail> {
-    let input = day_of_readings(rt.alloc())?;
-    let output = answer_to_readings(rt.alloc())?;
+    let mut input = Vec::new(rt.alloc());
+    add_readings(rt.alloc(), &mut input)?;
+    let mut output = Vec::new(rt.alloc());
+    add_answers(rt.alloc(), &mut output)?;
     let mut shelf = Counted { given: 0 };
-    let ran = run_over(&rt, rt.alloc(), &[], input.as_slice(), &NoGate, &mut shelf)?;
-    assert!(rt; ran.out.bytes() == output.as_slice());
-    assert_eq!(rt; (ran.outcome.status, ran.outcome.fulls), (0, 0));
+    let seen = run_day(&rt, rt.alloc(), &mut shelf, &input, &output)?;
     // 86,400 lines are five rounds of 16,384 and one of 4,480; the last tree isn't given away
-    assert_eq!(rt; shelf.given, 5);
-    assert!(rt; ran.outcome.last.is_some());
+    assert_eq!(rt; (seen, shelf.given), ((true, 0, 0, true), 5));
     Ok(())
 }

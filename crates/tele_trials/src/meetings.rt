@@ -1,6 +1,7 @@
 //! Lanes of a run that wait for one another, and the trees of such a run.
 
-use crate::running::{Ran, ones, pairs_in, run_over};
+use crate::running::{Ran, has_pairs, one, run_over};
+use ist_core::Pair;
 use ist_rest::Closed;
 use ist_words::WordList;
 use std::alloc::{AllocError, Global};
@@ -8,7 +9,7 @@ use std::sync::Wait;
 use std::sync::atomic::{AtomicU64, Ordering};
 use std::test::Fail;
 use std::thread::Threads;
-use tele_generations::{Kept, NoShelf, Shelf};
+use tele_generations::{Kept, NoShelf};
 use tele_lanes::{Gate, NoGate};
 
 /// Two rounds: the first has lines for both of two lanes, the second for one.
@@ -18,7 +19,7 @@ const OUTPUT: &[u8] = b"1 -\n2 -\n3 1\n2 1\n4 -\n";
 
 /// Has the first calls of lane 0 and lane 1 wait for each other, for so many turns at most.
 #[derive(Drop)]
-pub(crate) struct Meeting {
+struct Meeting {
     first: AtomicU64,
     second: AtomicU64,
     turns: u32,
@@ -27,7 +28,7 @@ pub(crate) struct Meeting {
 }
 
 impl Meeting {
-    pub(crate) fn of_turns(turns: u32) -> Meeting {
+    fn of_turns(turns: u32) -> Meeting {
         Meeting {
             first: AtomicU64::new(0),
             second: AtomicU64::new(0),
@@ -48,7 +49,7 @@ impl Meeting {
     }
 
     // Both flags, and how often the last turn was reached.
-    pub(crate) fn told(&self) -> (u64, u64, u64) {
+    fn told(&self) -> (u64, u64, u64) {
         (
             self.first.load(Ordering::SeqCst),
             self.second.load(Ordering::SeqCst),
@@ -69,59 +70,94 @@ impl Gate for Meeting {
     fn after(&self, lane: u32, index: u64) {}
 }
 
-/// Runs over the two rounds by so many workers.
-fn run_rounds<R: Threads + Wait + Sync, G: Gate + Sync, H: Shelf<Closed>>(
+/// Runs over these bytes with these words, where a lane waits for so many turns at most. Whether it
+/// wrote the output, its status, both flags, and how often the last turn was reached.
+pub(crate) fn see_meeting<R: Threads + Wait + Sync>(
     rt: &R,
     alloc: Global,
-    workers: &str,
-    gate: &G,
-    shelf: &mut H,
-) -> Result<Ran, AllocError> {
-    run_over(rt, alloc, &["--workers", workers], INPUT, gate, shelf)
+    more: &[&str],
+    turns: u32,
+    input: &[u8],
+    output: &[u8],
+) -> Result<(bool, u8, (u64, u64, u64)), AllocError> {
+    let gate = Meeting::of_turns(turns);
+    let ran = run_over(rt, alloc, more, input, &gate, &mut NoShelf)?;
+    Ok((ran.out.bytes() == output, ran.outcome.status, gate.told()))
 }
 
 #[test]
 fn the_lanes_of_a_round_run_beside_each_other(rt: HostRuntime) -> Result<(), Fail> {
-    let gate = Meeting::of_turns(100_000_000);
-    let ran = run_rounds(&rt, rt.alloc(), "2", &gate, &mut NoShelf)?;
-    assert_eq!(rt; ran.out.bytes(), OUTPUT);
-    assert_eq!(rt; ran.outcome.status, 0);
-    assert_eq!(rt; gate.told(), (1, 1, 0));
+    let more = ["--workers", "2"];
+    let seen = see_meeting(&rt, rt.alloc(), &more, 100_000_000, INPUT, OUTPUT)?;
+    assert_eq!(rt; seen, (true, 0, (1, 1, 0)));
     Ok(())
 }
 
 #[test]
 fn one_lane_alone_waits_in_vain_in_each_round(rt: HostRuntime) -> Result<(), Fail> {
-    let gate = Meeting::of_turns(1_000);
-    let ran = run_rounds(&rt, rt.alloc(), "1", &gate, &mut NoShelf)?;
-    assert_eq!(rt; ran.out.bytes(), OUTPUT);
-    assert_eq!(rt; ran.outcome.status, 0);
-    assert_eq!(rt; gate.told(), (1, 0, 2));
+    let more = ["--workers", "1"];
+    let seen = see_meeting(&rt, rt.alloc(), &more, 1_000, INPUT, OUTPUT)?;
+    assert_eq!(rt; seen, (true, 0, (1, 0, 2)));
     Ok(())
+}
+
+// How many words a tree has, and whether these are its pairs.
+fn words_and_pairs(
+    alloc: Global,
+    tree: Option<&Closed>,
+    pairs: &[Pair],
+) -> Result<(Option<u64>, bool), AllocError> {
+    let has = has_pairs(alloc, tree, pairs)?;
+    Ok((tree.map(|tree| tree.word_count()), has))
+}
+
+/// Of a run, whether it wrote the output, and its status; of its first tree, how many words and callers
+/// it has, and whether it has the pairs of its round; whether no further tree is kept; of the last tree,
+/// how many words it has, and whether it has all pairs.
+type Seen = (
+    (bool, u8),
+    (Option<u64>, bool),
+    Option<u64>,
+    bool,
+    (Option<u64>, bool),
+);
+
+// What is seen of the trees behind the run over the two rounds.
+fn see_trees(alloc: Global, shelf: &Kept<Closed>, ran: &Ran) -> Result<Seen, AllocError> {
+    let pairs = [one(2), one(3), one(4)];
+    let first = words_and_pairs(alloc, shelf.get(0), &pairs[..2])?;
+    let last = words_and_pairs(alloc, ran.outcome.last.as_ref(), &pairs)?;
+    Ok((
+        (ran.out.bytes() == OUTPUT, ran.outcome.status),
+        first,
+        shelf.get(0).map(callers),
+        shelf.get(1).is_none(),
+        last,
+    ))
+}
+
+// Runs over the two rounds by two workers.
+fn keep_trees<R: Threads + Wait + Sync>(
+    rt: &R,
+    alloc: Global,
+    shelf: &mut Kept<Closed>,
+) -> Result<Seen, AllocError> {
+    let more = ["--workers", "2"];
+    let ran = run_over(rt, alloc, &more, INPUT, &NoGate, shelf)?;
+    see_trees(alloc, shelf, &ran)
 }
 
 #[test]
 fn the_tree_of_each_round_is_kept(rt: HostRuntime) -> Result<(), Fail> {
     let mut shelf = Kept::new();
-    let ran = run_rounds(&rt, rt.alloc(), "2", &NoGate, &mut shelf)?;
-    assert_eq!(rt; ran.out.bytes(), OUTPUT);
-    assert_eq!(rt; ran.outcome.status, 0);
-
-    let first = shelf.get(0);
-    assert_eq!(rt; first.map(|tree| tree.word_count()), Some(2_052));
-    assert_eq!(rt; first.map(callers), Some(2));
-    let pairs = pairs_in(rt.alloc(), first)?;
-    assert_eq!(rt; pairs.as_slice(), ones(rt.alloc(), &[2, 3])?.as_slice());
-    assert!(rt; shelf.get(1).is_none());
-
-    let last = ran.outcome.last.as_ref();
-    assert_eq!(rt; last.map(|tree| tree.word_count()), Some(1_039));
-    let pairs = pairs_in(rt.alloc(), last)?;
-    assert_eq!(rt; pairs.as_slice(), ones(rt.alloc(), &[2, 3, 4])?.as_slice());
+    let seen = keep_trees(&rt, rt.alloc(), &mut shelf)?;
+    let first = (Some(2_052), true);
+    let last = (Some(1_039), true);
+    assert_eq!(rt; seen, ((true, 0), first, Some(2), true, last));
     Ok(())
 }
 
-// How many callers a tree says it had, in its word 1.
+/// How many callers a tree says it had, in its word 1.
 pub(crate) fn callers(tree: &Closed) -> u64 {
     if tree.word_count() > 1 {
         return tree.word(1);

@@ -1,13 +1,14 @@
 //! A run over bytes in memory, and what a test asks of the trees that it leaves.
+ghost use Rattle.std.specs.Prelude.{◌≡◌};
 
 use ist_core::Pair;
 use ist_rest::Closed;
 use std::alloc::{AllocError, Global};
 use std::sync::Wait;
 use std::thread::Threads;
-use tele_generations::{NoShelf, Shelf};
+use tele_generations::Shelf;
 use tele_io::{QuietSink, QuietSource};
-use tele_lanes::{Gate, NoGate};
+use tele_lanes::Gate;
 use tele_run::{Outcome, run};
 
 /// What a run wrote, and how it ended.
@@ -15,6 +16,16 @@ use tele_run::{Outcome, run};
 pub(crate) struct Ran {
     pub out: QuietSink,
     pub outcome: Outcome,
+}
+
+/// These words behind the program's name.
+fn command_words(alloc: Global, more: &[&str]) -> Result<Vec<String>, AllocError> {
+    let mut words = Vec::new(alloc);
+    words.push("tele".to_string(alloc)?)?;
+    for word in more {
+        words.push(word.to_string(alloc)?)?;
+    }
+    Ok(words)
 }
 
 /// Runs over these bytes, with these words behind the program's name.
@@ -26,11 +37,7 @@ pub(crate) fn run_over<R: Threads + Wait + Sync, G: Gate + Sync, H: Shelf<Closed
     gate: &G,
     shelf: &mut H,
 ) -> Result<Ran, AllocError> {
-    let mut words = Vec::new(alloc);
-    words.push("tele".to_string(alloc)?)?;
-    for word in more {
-        words.push(word.to_string(alloc)?)?;
-    }
+    let words = command_words(alloc, more)?;
     let mut source = QuietSource::new(input.to_vec(alloc)?);
     let mut out = QuietSink::new(alloc);
     let outcome = run(
@@ -45,27 +52,27 @@ pub(crate) fn run_over<R: Threads + Wait + Sync, G: Gate + Sync, H: Shelf<Closed
     Ok(Ran { out, outcome })
 }
 
-/// The size of a tree and how much of it was used.
-pub(crate) fn size(tree: &Closed) -> (u64, u64) {
-    (tree.word_count(), tree.used())
-}
-
-/// The pairs of a tree, if there is one.
-pub(crate) fn pairs_in(alloc: Global, tree: Option<&Closed>) -> Result<Vec<Pair>, AllocError> {
+// The pairs of a tree, if there is one.
+fn pairs_in(alloc: Global, tree: Option<&Closed>) -> Result<Vec<Pair>, AllocError> {
     match tree {
         Some(tree) => tree.pairs(alloc),
         None => Ok(Vec::new(alloc)),
     }
 }
 
-/// A pair with the value 1 for each of these keys.
-pub(crate) fn ones(alloc: Global, keys: &[u64]) -> Result<Vec<Pair>, AllocError> {
-    let mut pairs = Vec::new(alloc);
-    for key in keys {
-        pairs.push(Pair {
-            key: *key,
-            value: 1,
-        })?;
-    }
-    Ok(pairs)
+/// Are these the pairs of the tree? Without a tree there are none.
+pub(crate) fn has_pairs(
+    alloc: Global,
+    tree: Option<&Closed>,
+    pairs: &[Pair],
+) -> Result<bool, AllocError> {
+    let kept = pairs_in(alloc, tree)?;
+    Ok(kept.as_slice() == pairs)
+}
+
+/// A key with the value 1.
+pub(crate) fn one(key: u64) -> Pair
+    ensures value { result ≡ record { key = key; value = 1 } }
+{
+    Pair { key, value: 1 }
 }

@@ -1,12 +1,47 @@
 //! Runs whose workers steal lanes from one another.
 
-use crate::meetings::{Meeting, callers};
-use crate::running::{pairs_in, run_over};
+use crate::meetings::{callers, see_meeting};
+use crate::running::{Ran, has_pairs, run_over};
 use ist_core::Pair;
+use std::alloc::{AllocError, Global};
+use std::sync::Wait;
 use std::sync::atomic::{AtomicU64, Ordering};
 use std::test::Fail;
+use std::thread::Threads;
 use tele_generations::NoShelf;
 use tele_lanes::{Gate, NoGate};
+
+// Whether the run wrote the output, its status, how many callers its last tree had, and whether that has
+// these pairs.
+fn see_last(
+    alloc: Global,
+    ran: &Ran,
+    output: &[u8],
+    pairs: &[Pair],
+) -> Result<(bool, u8, Option<u64>, bool), AllocError> {
+    let last = ran.outcome.last.as_ref();
+    let has = has_pairs(alloc, last, pairs)?;
+    Ok((
+        ran.out.bytes() == output,
+        ran.outcome.status,
+        last.map(callers),
+        has,
+    ))
+}
+
+// The same of a run over the input by two workers, with this option.
+fn see_run<R: Threads + Wait + Sync>(
+    rt: &R,
+    alloc: Global,
+    steal: &str,
+    input: &[u8],
+    output: &[u8],
+    pairs: &[Pair],
+) -> Result<(bool, u8, Option<u64>, bool), AllocError> {
+    let more = ["--workers", "2", steal];
+    let ran = run_over(rt, alloc, &more, input, &NoGate, &mut NoShelf)?;
+    see_last(alloc, &ran, output, pairs)
+}
 
 #[test]
 fn stealing_shows_in_the_number_of_callers_alone(rt: HostRuntime) -> Result<(), Fail> {
@@ -15,30 +50,21 @@ fn stealing_shows_in_the_number_of_callers_alone(rt: HostRuntime) -> Result<(), 
     let pairs = [Pair { key: 2, value: 5 }, Pair { key: 3, value: 1 }];
     // the last option, how many callers the last tree had
     for (steal, count) in [("--steal=0", 2), ("--steal=1", 64)] {
-        let more = ["--workers", "2", steal];
-        let ran = run_over(&rt, rt.alloc(), &more, input, &NoGate, &mut NoShelf)?;
-        assert_eq!(rt; ran.out.bytes(), output.as_slice(), "with {steal}");
-        assert_eq!(rt; ran.outcome.status, 0, "with {steal}");
-        let last = ran.outcome.last.as_ref();
-        assert_eq!(rt; last.map(callers), Some(count), "with {steal}");
-        let kept = pairs_in(rt.alloc(), last)?;
-        assert_eq!(rt; kept.as_slice(), pairs.as_slice(), "with {steal}");
+        let seen = see_run(&rt, rt.alloc(), steal, input, output, &pairs)?;
+        assert_eq!(rt; seen, (true, 0, Some(count), true), "with {steal}");
     }
     Ok(())
 }
 
 #[test]
 fn two_stolen_lanes_run_beside_each_other(rt: HostRuntime) -> Result<(), Fail> {
+    let (input, output) = (b"P 64 1\nP 1 1\n", b"1 -\n2 -\n");
     // how many workers, for how many turns a lane waits, how often it does so in vain: with two
     // workers both come, and with one only the second finds that the other came
     for (workers, turns, missed) in [("2", 100_000_000, 0), ("1", 1_000, 1)] {
-        let gate = Meeting::of_turns(turns);
         let more = ["--workers", workers, "--steal", "1"];
-        let input = b"P 64 1\nP 1 1\n";
-        let ran = run_over(&rt, rt.alloc(), &more, input, &gate, &mut NoShelf)?;
-        assert_eq!(rt; ran.out.bytes(), b"1 -\n2 -\n".as_slice(), "by {workers}");
-        assert_eq!(rt; ran.outcome.status, 0, "by {workers}");
-        assert_eq!(rt; gate.told(), (1, 1, missed), "by {workers}");
+        let seen = see_meeting(&rt, rt.alloc(), &more, turns, input, output)?;
+        assert_eq!(rt; seen, (true, 0, (1, 1, missed)), "by {workers}");
     }
     Ok(())
 }
@@ -59,19 +85,26 @@ impl Gate for Named {
     fn after(&self, lane: u32, index: u64) {}
 }
 
-#[test]
-fn the_gate_is_told_of_lanes_by_timestamp_modulo_64(rt: HostRuntime) -> Result<(), Fail> {
+// Whether the run over the input by three workers wrote the output, and the sum for its lanes.
+fn sum_lanes<R: Threads + Wait + Sync>(
+    rt: &R,
+    alloc: Global,
+    input: &[u8],
+    output: &[u8],
+) -> Result<(bool, u64), AllocError> {
     let gate = Named {
         lanes: AtomicU64::new(0),
     };
     let more = ["--workers", "3", "--steal", "1"];
+    let ran = run_over(rt, alloc, &more, input, &gate, &mut NoShelf)?;
+    Ok((ran.out.bytes() == output, gate.lanes.load(Ordering::SeqCst)))
+}
+
+#[test]
+fn the_gate_is_told_of_lanes_by_timestamp_modulo_64(rt: HostRuntime) -> Result<(), Fail> {
     let input = b"P 640 1\nP 69 1\nG 127\n";
-    let ran = run_over(&rt, rt.alloc(), &more, input, &gate, &mut NoShelf)?;
-    assert_eq!(rt; ran.out.bytes(), b"1 -\n2 -\n3 -\n".as_slice());
+    let seen = sum_lanes(&rt, rt.alloc(), input, b"1 -\n2 -\n3 -\n")?;
     // lanes 0, 5 and 63
-    assert_eq!(rt;
-        gate.lanes.load(Ordering::SeqCst),
-        1 + (1u64 << 5) + (1u64 << 63)
-    );
+    assert_eq!(rt; seen, (true, 1 + (1u64 << 5) + (1u64 << 63)));
     Ok(())
 }
