@@ -16,49 +16,69 @@ pub(crate) enum Job {
     Measure(Plan),
 }
 
-// An option with one value, a number from one to another.
-fn number_option<'a>(alloc: Global, name: &'a str, help: &'a str, low: u64, high: u64) -> Arg<'a> {
-    Arg::new(alloc, name)
-        .long(name)
-        .help(help)
+// An option with one value, a number from one to another: its name, what it is for, and the two.
+type NumberOption = (&'static str, &'static str, u64, u64);
+
+// The options with numbers that stand before `spread`.
+const CALLS: [NumberOption; 6] = [
+    ("seed", "What all calls are drawn from (1)", 0, u64::MAX),
+    ("threads", "Threads (1)", 1, MOST_THREADS),
+    ("calls", "Calls of each thread (1000000)", 1, 1_000_000_000),
+    ("puts", "Share of puts (0)", 0, 1_000_000),
+    ("removes", "Share of removes (0)", 0, 1_000_000),
+    ("finds", "Share of finds (1)", 0, 1_000_000),
+];
+
+// Those behind it.
+const KEYS: [NumberOption; 3] = [
+    ("keys", "Keys at the opening (1000)", 0, MOST_KEYS),
+    (
+        "span",
+        "Keys that calls draw (those at the opening)",
+        1,
+        MOST_KEYS,
+    ),
+    (
+        "words",
+        "Words of the tree (134217728)",
+        4,
+        MOST_WORDS as u64,
+    ),
+];
+
+// The command with these options too.
+fn with_numbers<'a>(
+    alloc: Global,
+    command: Command<'a>,
+    options: &[NumberOption],
+) -> Result<Command<'a>, AllocError> {
+    let mut command = command;
+    for &(name, help, low, high) in options {
+        let option = Arg::new(alloc, name)
+            .long(name)
+            .help(help)
+            .action(ArgAction::Set)
+            .value_parser(ValueParser::unsigned(low, high));
+        command = command.arg(option)?;
+    }
+    Ok(command)
+}
+
+// The option that says how keys lie.
+fn spread_option<'a>(alloc: Global) -> Arg<'a> {
+    Arg::new(alloc, "spread")
+        .long("spread")
+        .help("How keys lie: uniform, rising or clustered (uniform)")
         .action(ArgAction::Set)
-        .value_parser(ValueParser::unsigned(low, high))
 }
 
 // The command with its options.
 fn command<'a>(alloc: Global) -> Result<Command<'a>, AllocError> {
-    let most = u64::MAX;
-    let words = u64::from(MOST_WORDS);
-    let share = 1_000_000;
-    let spread = Arg::new(alloc, "spread")
-        .long("spread")
-        .help("How keys lie: uniform, rising or clustered (uniform)")
-        .action(ArgAction::Set);
-    Command::new(alloc, "ist_bench")
+    let command = Command::new(alloc, "ist_bench")
         .version("1.0")
-        .about("Measures puts, removes and finds on one search tree")
-        .arg(number_option(alloc, "seed", "What all calls are drawn from (1)", 0, most))?
-        .arg(number_option(alloc, "threads", "Threads (1)", 1, MOST_THREADS))?
-        .arg(number_option(
-            alloc,
-            "calls",
-            "Calls of each thread (1000000)",
-            1,
-            1_000_000_000,
-        ))?
-        .arg(number_option(alloc, "puts", "Share of puts (0)", 0, share))?
-        .arg(number_option(alloc, "removes", "Share of removes (0)", 0, share))?
-        .arg(number_option(alloc, "finds", "Share of finds (1)", 0, share))?
-        .arg(spread)?
-        .arg(number_option(alloc, "keys", "Keys at the opening (1000)", 0, MOST_KEYS))?
-        .arg(number_option(
-            alloc,
-            "span",
-            "Keys that calls draw (those at the opening)",
-            1,
-            MOST_KEYS,
-        ))?
-        .arg(number_option(alloc, "words", "Words of the tree (134217728)", 4, words))
+        .about("Measures puts, removes and finds on one search tree");
+    let command = with_numbers(alloc, command, &CALLS)?.arg(spread_option(alloc))?;
+    with_numbers(alloc, command, &KEYS)
 }
 
 // The number of an option, or the one that holds where none is given.

@@ -28,6 +28,14 @@ pub(crate) struct Figures {
     pub used: u64,
 }
 
+// What the workers of a run spent, found and were refused.
+#[derive(Clone, Copy, Drop)]
+struct Done {
+    spent: Spent,
+    found: u64,
+    refused: u64,
+}
+
 // The pairs at the opening, each key with its number.
 fn opening_pairs(alloc: Global, plan: &Plan) -> Result<Plain, AllocError> {
     let mut pairs = Vec::new(alloc);
@@ -111,6 +119,82 @@ fn take_all_back(tree: &Tree, maker: &mut Maker, workers: Vec<Worker>)
     take_all_back(tree, maker, workers);
 }
 
+// What the workers found and were refused, who spent so much.
+fn done_by(spent: Spent, workers: &[Worker]) -> Done {
+    let mut done = Done {
+        spent,
+        found: 0,
+        refused: 0,
+    };
+    for worker in workers {
+        done.found = done.found.wrapping_add(worker.found);
+        done.refused = done.refused.wrapping_add(worker.refused);
+    }
+    done
+}
+
+// Lets each worker make its calls, and tells what was spent meanwhile.
+fn call_timed<R: Threads + Wait + Sync + Files + Clock + AllocGlobal>(
+    rt: &R,
+    tree: &Tree,
+    workers: &mut [Worker],
+) -> io::Result<Done>
+    requires trees { All (λ w. w.pass.tree ≡ tree.now) workers.old }
+    requires spans { All (λ w. 1 ≤ w.plan.span) workers.old }
+    ensures trees { All (λ w. w.pass.tree ≡ tree.now) workers.new }
+    ensures same { length workers.new ≡ length workers.old }
+{
+    let moment = Moment::now(rt)?;
+    call_all(rt, tree, workers);
+    let spent = moment.spent(rt)?;
+    Ok(done_by(spent, workers))
+}
+
+// Measures the workers of this tree, and takes their passes back.
+fn measure_workers<R: Threads + Wait + Sync + Files + Clock + AllocGlobal>(
+    rt: &R,
+    plan: Plan,
+    tree: &Tree,
+    maker: &mut Maker,
+) -> io::Result<Done>
+    requires same_tree { maker.old.tree ≡ tree.now }
+    requires new { (maker.old.made ≡ 0) × (maker.old.taken ≡ []) }
+    requires few { plan.threads ≤ 64 }
+    requires some { 1 ≤ plan.span }
+    ensures same_tree { maker.new.tree ≡ tree.now }
+    ensures all_back { IfOk result (λ _. length maker.new.taken ≡ maker.new.made) }
+{
+    let mut workers = make_workers(rt.alloc(), tree, maker, plan)?;
+    let done = call_timed(rt, tree, workers.as_mut_slice());
+    take_all_back(tree, maker, workers);
+    done
+}
+
+// Measures the plan on this tree, and closes it.
+fn measure_in<R: Threads + Wait + Sync + Files + Clock + AllocGlobal>(
+    rt: &R,
+    plan: Plan,
+    tree: Tree,
+    maker: Maker,
+) -> io::Result<Figures>
+    requires same_tree { maker.tree ≡ tree }
+    requires new { (maker.made ≡ 0) × (maker.taken ≡ []) }
+    requires few { plan.threads ≤ 64 }
+    requires some { 1 ≤ plan.span }
+{
+    let mut maker = maker;
+    let done = measure_workers(rt, plan, &tree, &mut maker)?;
+    let closed = tree.close(maker);
+    Ok(Figures {
+        spent: done.spent,
+        calls: plan.calls.wrapping_mul(plan.threads),
+        found: done.found,
+        refused: done.refused,
+        keys: closed.pairs(rt.alloc())?.len() as u64,
+        used: closed.used(),
+    })
+}
+
 /// Runs the plan on a tree of its own, where it is fit.
 pub(crate) fn measure<R: Threads + Wait + Sync + Files + Clock + AllocGlobal>(
     rt: &R,
@@ -121,27 +205,8 @@ pub(crate) fn measure<R: Threads + Wait + Sync + Files + Clock + AllocGlobal>(
     }
     let alloc = rt.alloc();
     let plain = opening_pairs(alloc, &plan)?;
-    let Ok((tree, mut maker)) = open(alloc, plan.words, &plain) else {
-        return Ok(None);
-    };
-    let mut workers = make_workers(alloc, &tree, &mut maker, plan)?;
-    let moment = Moment::now(rt)?;
-    call_all(rt, &tree, workers.as_mut_slice());
-    let spent = moment.spent(rt)?;
-    let mut found: u64 = 0;
-    let mut refused: u64 = 0;
-    for worker in workers.iter() {
-        found = found.wrapping_add(worker.found);
-        refused = refused.wrapping_add(worker.refused);
+    match open(alloc, plan.words, &plain) {
+        Ok((tree, maker)) => Ok(Some(measure_in(rt, plan, tree, maker)?)),
+        Err(_) => Ok(None),
     }
-    take_all_back(&tree, &mut maker, workers);
-    let closed = tree.close(maker);
-    Ok(Some(Figures {
-        spent,
-        calls: plan.calls.wrapping_mul(plan.threads),
-        found,
-        refused,
-        keys: closed.pairs(alloc)?.len() as u64,
-        used: closed.used(),
-    }))
 }
