@@ -20,57 +20,53 @@ pub(crate) enum Job {
     Run(Plan),
 }
 
-// An option with one value, a number from one to another.
-fn number_option<'a>(alloc: Global, name: &'a str, help: &'a str, low: u64, high: u64) -> Arg<'a> {
-    Arg::new(alloc, name)
-        .long(name)
-        .help(help)
-        .action(ArgAction::Set)
-        .value_parser(ValueParser::unsigned(low, high))
-}
+// An option with one value, a number from one to another: its name, what it is for, and the two.
+type NumberOption = (&'static str, &'static str, u64, u64);
+
+// All options.
+const OPTIONS: [NumberOption; 10] = [
+    ("seed", "What all calls are drawn from (1)", 0, u64::MAX),
+    ("passes", "Threads, each with a pass (4)", 1, MOST_PASSES),
+    (
+        "rounds",
+        "Rounds, with notes between them (4)",
+        0,
+        1_000_000,
+    ),
+    (
+        "calls",
+        "Calls of each thread in a round (10000)",
+        0,
+        100_000_000,
+    ),
+    ("puts", "Share of puts (500)", 0, 1_000_000),
+    ("removes", "Share of removes (250)", 0, 1_000_000),
+    ("finds", "Share of finds (249)", 0, 1_000_000),
+    ("freezes", "Share of freezes (1)", 0, 1_000_000),
+    (
+        "span",
+        "Keys, the numbers below this one (1000)",
+        1,
+        MOST_KEYS,
+    ),
+    ("words", "Words of the tree (8388608)", 4, MOST_WORDS as u64),
+];
 
 // The command with its options.
 fn command<'a>(alloc: Global) -> Result<Command<'a>, AllocError> {
-    let most = u64::MAX;
-    let words = u64::from(MOST_WORDS);
-    Command::new(alloc, "ist_stress")
+    let mut command = Command::new(alloc, "ist_stress")
         .version("1.0")
         .about("Runs threads on one search tree, and judges what each of them was told")
-        .after_help(STATUSES)
-        .arg(number_option(alloc, "seed", "What all calls are drawn from (1)", 0, most))?
-        .arg(number_option(
-            alloc,
-            "passes",
-            "Threads, each with a pass (4)",
-            1,
-            MOST_PASSES,
-        ))?
-        .arg(number_option(
-            alloc,
-            "rounds",
-            "Rounds, with notes between them (4)",
-            0,
-            1_000_000,
-        ))?
-        .arg(number_option(
-            alloc,
-            "calls",
-            "Calls of each thread in a round (10000)",
-            0,
-            100_000_000,
-        ))?
-        .arg(number_option(alloc, "puts", "Share of puts (500)", 0, 1_000_000))?
-        .arg(number_option(alloc, "removes", "Share of removes (250)", 0, 1_000_000))?
-        .arg(number_option(alloc, "finds", "Share of finds (249)", 0, 1_000_000))?
-        .arg(number_option(alloc, "freezes", "Share of freezes (1)", 0, 1_000_000))?
-        .arg(number_option(
-            alloc,
-            "span",
-            "Keys, the numbers below this one (1000)",
-            1,
-            MOST_KEYS,
-        ))?
-        .arg(number_option(alloc, "words", "Words of the tree (8388608)", 4, words))
+        .after_help(STATUSES);
+    for &(name, help, low, high) in &OPTIONS {
+        let option = Arg::new(alloc, name)
+            .long(name)
+            .help(help)
+            .action(ArgAction::Set)
+            .value_parser(ValueParser::unsigned(low, high));
+        command = command.arg(option)?;
+    }
+    Ok(command)
 }
 
 // The number of an option, or the one that holds where none is given.

@@ -8,6 +8,7 @@ use crate::plans::Plan;
 use crate::rounds::{make_workers, run_round};
 use crate::workers::{Tally, Worker};
 use ist_core::{Command, Reply};
+use ist_rest::Closed;
 use ist_tree::{Maker, OpenFault, Pass, Tree};
 use plain_map::Plain;
 use std::alloc::{AllocError, Global};
@@ -59,7 +60,8 @@ fn open(alloc: Global, words: u32, plain: &Plain) -> Result<(Tree, Maker), OpenF
     Tree::open(alloc, words, pairs)
 }
 
-// Runs all rounds, each from what the keys have behind the one before. Gives what they have at the end.
+// Runs all rounds, each from what the keys have behind the one before. The values are what they have at
+// the opening, and then at the end.
 fn run_rounds<R: Threads + Wait + Sync>(
     rt: &R,
     alloc: Global,
@@ -67,8 +69,8 @@ fn run_rounds<R: Threads + Wait + Sync>(
     keeper: &mut Pass,
     workers: &mut [Worker],
     rounds: u64,
-    opening: Vec<Reply>,
-) -> Result<Vec<Reply>, Fault>
+    values: &mut Vec<Reply>,
+) -> Result<(), Fault>
     requires keeper { keeper.old.tree ≡ tree.now }
     requires trees { All (λ w. w.pass.tree ≡ tree.now) workers.old }
     requires spans { All (λ w. 1 ≤ w.plan.span) workers.old }
@@ -76,11 +78,10 @@ fn run_rounds<R: Threads + Wait + Sync>(
     ensures trees { All (λ w. w.pass.tree ≡ tree.now) workers.new }
     ensures same { length workers.new ≡ length workers.old }
 {
-    let mut ends = opening;
     for round in 0..rounds {
-        ends = run_round(rt, alloc, tree, keeper, workers, round, ends.as_slice())?;
+        *values = run_round(rt, alloc, tree, keeper, workers, round, values.as_slice())?;
     }
-    Ok(ends)
+    Ok(())
 }
 
 // What the workers did.
@@ -115,6 +116,96 @@ fn take_all_back(tree: &Tree, maker: &mut Maker, workers: Vec<Worker>)
     take_all_back(tree, maker, workers);
 }
 
+// Runs all rounds by workers of this tree, and takes their passes back.
+fn run_workers<R: Threads + Wait + Sync>(
+    rt: &R,
+    alloc: Global,
+    plan: Plan,
+    tree: &Tree,
+    maker: &mut Maker,
+    keeper: &mut Pass,
+    values: &mut Vec<Reply>,
+) -> Result<Done, Fault>
+    requires same_tree { maker.old.tree ≡ tree.now }
+    requires keeper { keeper.old.tree ≡ tree.now }
+    requires new { (maker.old.made ≡ 1) × (maker.old.taken ≡ []) }
+    requires few { plan.passes ≤ 64 }
+    requires some { 1 ≤ plan.span }
+    ensures same_tree { maker.new.tree ≡ tree.now }
+    ensures keeper { keeper.new.tree ≡ tree.now }
+    ensures one_out { IfOk result (λ _. maker.new.made ≡ 1 + length maker.new.taken) }
+{
+    let mut workers = make_workers(alloc, tree, maker, plan)?;
+    let ran = run_rounds(
+        rt,
+        alloc,
+        tree,
+        keeper,
+        workers.as_mut_slice(),
+        plan.rounds,
+        values,
+    );
+    let done = done_by(workers.as_slice());
+    take_all_back(tree, maker, workers);
+    ran?;
+    Ok(done)
+}
+
+// The same with a keeper, whose pass is taken back too.
+fn run_with<R: Threads + Wait + Sync>(
+    rt: &R,
+    alloc: Global,
+    plan: Plan,
+    tree: &Tree,
+    maker: &mut Maker,
+    values: &mut Vec<Reply>,
+) -> Result<Done, Fault>
+    requires same_tree { maker.old.tree ≡ tree.now }
+    requires new { (maker.old.made ≡ 0) × (maker.old.taken ≡ []) }
+    requires few { plan.passes ≤ 64 }
+    requires some { 1 ≤ plan.span }
+    ensures same_tree { maker.new.tree ≡ tree.now }
+    ensures all_back { IfOk result (λ _. length maker.new.taken ≡ maker.new.made) }
+{
+    let mut keeper = tree.pass(maker);
+    let done = run_workers(rt, alloc, plan, tree, maker, &mut keeper, values);
+    tree.take_back(maker, keeper);
+    done
+}
+
+// Checks the closed tree, and gives what the run did.
+fn report_on(alloc: Global, closed: &Closed, ends: &[Reply], done: Done) -> Result<Report, Fault> {
+    check_closed(alloc, closed, ends, done.rebuilds_refused == 0)?;
+    let keys = ends.iter().filter(|value| value.is_some()).count() as u64;
+    Ok(Report {
+        tally: done.tally,
+        rebuilds_refused: done.rebuilds_refused,
+        keys,
+        used: closed.used(),
+        settled: closed.settled(),
+    })
+}
+
+// Runs the plan on this tree, whose keys have these values, and closes it.
+fn run_in<R: Threads + Wait + Sync>(
+    rt: &R,
+    alloc: Global,
+    plan: Plan,
+    tree: Tree,
+    maker: Maker,
+    values: &mut Vec<Reply>,
+) -> Result<Report, Fault>
+    requires same_tree { maker.tree ≡ tree }
+    requires new { (maker.made ≡ 0) × (maker.taken ≡ []) }
+    requires few { plan.passes ≤ 64 }
+    requires some { 1 ≤ plan.span }
+{
+    let mut maker = maker;
+    let done = run_with(rt, alloc, plan, &tree, &mut maker, values)?;
+    let closed = tree.close(maker);
+    report_on(alloc, &closed, values.as_slice(), done)
+}
+
 /// Runs the plan on a tree of its own, and judges all that was told.
 pub(crate) fn run<R: Threads + Wait + Sync>(
     rt: &R,
@@ -125,30 +216,7 @@ pub(crate) fn run<R: Threads + Wait + Sync>(
         return Err(Fault::Unfit);
     }
     let plain = opening_pairs(alloc, plan.span)?;
-    let opening = values_of(alloc, plain.pairs(), plan.span)?;
-    let (tree, mut maker) = open(alloc, plan.words, &plain)?;
-    let mut keeper = tree.pass(&mut maker);
-    let mut workers = make_workers(alloc, &tree, &mut maker, plan)?;
-    let ends = run_rounds(
-        rt,
-        alloc,
-        &tree,
-        &mut keeper,
-        workers.as_mut_slice(),
-        plan.rounds,
-        opening,
-    )?;
-    let done = done_by(workers.as_slice());
-    tree.take_back(&mut maker, keeper);
-    take_all_back(&tree, &mut maker, workers);
-    let closed = tree.close(maker);
-    check_closed(alloc, &closed, ends.as_slice(), done.rebuilds_refused == 0)?;
-    let keys = ends.iter().filter(|value| value.is_some()).count() as u64;
-    Ok(Report {
-        tally: done.tally,
-        rebuilds_refused: done.rebuilds_refused,
-        keys,
-        used: closed.used(),
-        settled: closed.settled(),
-    })
+    let mut values = values_of(alloc, plain.pairs(), plan.span)?;
+    let (tree, maker) = open(alloc, plan.words, &plain)?;
+    run_in(rt, alloc, plan, tree, maker, &mut values)
 }
