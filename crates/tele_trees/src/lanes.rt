@@ -42,8 +42,9 @@ pub(crate) fn make_lanes<'a>(
     ensures made { IfOk result (λ v. maker.new.made ≡ count) }
     ensures taken { maker.new.taken ≡ maker.old.taken }
 {
+    let parts = split(alloc, tasks, count)?;
     let mut lanes = Vec::new(alloc);
-    for mine in split(alloc, tasks, count)? {
+    for mine in parts {
         let number = lanes.len() as u32;
         lanes.push(make_lane(alloc, tree, maker, number, mine)?)?;
     }

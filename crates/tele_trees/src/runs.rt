@@ -46,7 +46,7 @@ pub(crate) fn run_tree<R: Threads + Wait + Sync, G: Gate + Sync>(
 {
     let fresh = make_lanes(alloc, tree, maker, tasks, lane_count(workers, steal))?;
     let lanes = work(rt, gate, alloc, fresh, workers, steal)?;
-    let came = gather_all(alloc, &lanes)?;
+    let came = gather_all(alloc, &lanes);
     take_all_back(tree, maker, lanes);
-    Ok(came)
+    came
 }

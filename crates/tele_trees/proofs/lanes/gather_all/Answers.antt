@@ -17,3 +17,6 @@ returns-clause-left c =
     let left = map (λ (l : Ran). unanswered l.tasks l.answers.list) c.args.lanes.now in
     subst (TasksInLineOrder left) (sym c.into_vec.ensures.value)
     (c.in_ok-left.ensures.gathered c.requires.own_lines)
+
+pub returns-clause-full : goal.returns-clause-full
+returns-clause-full c = c.first_refusal.ensures

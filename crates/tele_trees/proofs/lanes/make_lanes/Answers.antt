@@ -1,5 +1,4 @@
-use Rattle.std.proofs.Common.{◌≡◌, [], ◌∷◌, ◌≤◌, ◌<◌, ◌^◌, ℕ, None, length, sym, ap, ◌∙◌}
-use Rattle.std.proofs.Common.{rules, arith}
+use Rattle.std.proofs.Common.{◌≡◌, [], ◌∷◌, ◌++◌, ◌≤◌, ◌<◌, ◌^◌, ℕ, None, length, map, sym, ap, ◌∙◌, arith}
 use Rattle.std.proofs.lemmas.List.{map_push, append_assoc, length-append}
 use Rattle.std.proofs.lemmas.List.Elements.{All-push}
 use Rattle.std.specs.List.{range_with_len}
@@ -46,9 +45,11 @@ loop-mine-preserved c =
     record {
       lane_numbers = rw items
           (numbers_push (λ (l : Idle). l.number) _ _ c.loop-mine.invariant.lane_numbers
-          (search rules));
+          (lane.lane_number ∙ c.len-number.ensures ∙ c.loop-mine.lanes.ok.0));
       tasks = let next = c.in-Some.ensures.steps.0 in
-          rw (items, map_push, lane.tasks, append_assoc) (search rules);
+          rw (items, map_push, lane.tasks, append_assoc)
+          (ap (λ ts. map (λ (l : Idle). l.tasks) c.loop-mine.lanes.items ++ ts) (sym next)
+          ∙ c.loop-mine.invariant.tasks);
       empty = rw items
           (All-push (λ (l : Idle). l.answers.list ≡ []) _ _ c.loop-mine.invariant.empty lane.empty);
       room = rw items

@@ -13,3 +13,16 @@ open_over-requires-clause-few c =
 -- the tree that was opened
 pub returns-in-Ok : goal.returns-in-Ok
 returns-in-Ok c = record { new = c.in-Ok.ensures.new }
+
+pub open_over-requires-clause-rising : goal.open_over-requires-clause-rising
+open_over-requires-clause-rising c = c.requires.opens.rising
+
+pub open_over-requires-clause-within : goal.open_over-requires-clause-within
+open_over-requires-clause-within c = c.requires.opens.within
+
+-- there is room
+pub unreachable-requires : goal.unreachable-requires
+unreachable-requires c =
+    let fault = rw c.in-Err-Small.field-0-is at c.in-Err-Small.ensures.fault in
+    let room = c.requires.opens.room in
+    omega (arith, fault.0, fault.1, fault.2, room)
