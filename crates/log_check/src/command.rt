@@ -22,21 +22,29 @@ pub enum Job<'a> {
     },
 }
 
-/// The command with its argument and its option.
-fn command<'a>(alloc: Global) -> Result<Command<'a>, AllocError> {
-    let log = Arg::new(alloc, "LOG")
+/// The argument that names the log.
+fn log_argument<'a>(alloc: Global) -> Arg<'a> {
+    Arg::new(alloc, "LOG")
         .help("The file with the log; standard input where none is named")
-        .action(ArgAction::Set);
-    let progress = Arg::new(alloc, "progress")
+        .action(ArgAction::Set)
+}
+
+/// The option that asks how far it is.
+fn progress_option<'a>(alloc: Global) -> Arg<'a> {
+    Arg::new(alloc, "progress")
         .long("progress")
         .help("Say on standard error how far it is, as of a long log on a terminal")
-        .action(ArgAction::SetTrue);
+        .action(ArgAction::SetTrue)
+}
+
+/// The command with its argument and its option.
+fn command<'a>(alloc: Global) -> Result<Command<'a>, AllocError> {
     Command::new(alloc, "log_check")
         .version("1.0")
         .about("Says whether a log of events of the search tree is lawful")
         .after_help(STATUSES)
-        .arg(log)?
-        .arg(progress)
+        .arg(log_argument(alloc))?
+        .arg(progress_option(alloc))
 }
 
 /// What the words ask for, of which the first is the program's name.

@@ -61,32 +61,72 @@ fn first_said(text: &[u8]) -> Option<(usize, &[u8])> {
 pub fn read_log(alloc: Global, text: &[u8]) -> Result<Reading, AllocError>
     ensures opens { IfOk result Opens }
 {
-    let (start, first) = match first_said(text) {
-        None => return Ok(bad_line(0, Fault::NoStart)),
-        Some(found) => found,
-    };
-    let mut log = match read_start(alloc, first)? {
-        Err(fault) => return Ok(bad_line(start, fault)),
-        Ok(log) => log,
-    };
+    match first_said(text) {
+        None => Ok(bad_line(0, Fault::NoStart)),
+        Some((start, first)) => match read_start(alloc, first)? {
+            Err(fault) => Ok(bad_line(start, fault)),
+            Ok(log) => read_behind(alloc, text, start, log),
+        },
+    }
+}
+
+/// The log of the text with the events that come behind its start, which is the line with this number.
+fn read_behind(alloc: Global, text: &[u8], start: usize, log: Log) -> Result<Reading, AllocError>
+    requires opens { LogOpens log }
+    ensures opens { IfOk result Opens }
+{
+    let mut log = log;
+    match add_events(alloc, &mut log, text, start)? {
+        Some((at, fault)) => Ok(bad_line(at, fault)),
+        None => Ok(Reading::Whole(log)),
+    }
+}
+
+/// Adds the events of the lines behind the start. `Some` is the first line, counted from 0, that is out
+/// of form, and what is wrong with it.
+fn add_events(
+    alloc: Global,
+    log: &mut Log,
+    text: &[u8],
+    start: usize,
+) -> Result<Option<(usize, Fault)>, AllocError>
+    requires opens { LogOpens log.old }
+    ensures opens { LogOpens log.new }
+{
     for (at, bytes) in text.split(|byte| *byte == b'\n').enumerate() {
-        if at <= start {
-            continue;
-        }
-        if let Some(line) = said(bytes) {
-            if log.events.is_empty() && line == NUMBERS {
-                continue;
-            }
-            match read_event(alloc, line)? {
-                None => return Ok(bad_line(at, fault_of(line))),
-                Some(event) => {
-                    log.events.push(event)?;
-                    log.lines.push((at as u64).saturating_add(1))?;
+        if at > start {
+            if let Some(line) = said(bytes) {
+                if let Some(fault) = add_line(alloc, log, at, line)? {
+                    return Ok(Some((at, fault)));
                 }
             }
         }
     }
-    Ok(Reading::Whole(log))
+    Ok(None)
+}
+
+/// Adds the event of this line that says something, unless it has the numbers of the definitions before
+/// all events. `Some` where it is out of form.
+fn add_line(
+    alloc: Global,
+    log: &mut Log,
+    at: usize,
+    line: &[u8],
+) -> Result<Option<Fault>, AllocError>
+    requires opens { LogOpens log.old }
+    ensures opens { LogOpens log.new }
+{
+    if log.events.is_empty() && line == NUMBERS {
+        return Ok(None);
+    }
+    match read_event(alloc, line)? {
+        None => Ok(Some(fault_of(line))),
+        Some(event) => {
+            log.events.push(event)?;
+            log.lines.push((at as u64).saturating_add(1))?;
+            Ok(None)
+        }
+    }
 }
 
 /// The line, counted from 0, is out of form.
