@@ -22,30 +22,30 @@ pub fn kind_of(event: &Event) -> &'static str {
     }
 }
 
+/// The names of the kinds, each with how many fields follow it on a line.
+const KINDS: [(&[u8], u64); 14] = [
+    (b"Enter", 1),
+    (b"Okay", 2),
+    (b"Resolve", 2),
+    (b"Count", 2),
+    (b"Mark", 2),
+    (b"Lose", 2),
+    (b"Reserve", 3),
+    (b"Install", 3),
+    (b"Decide", 3),
+    (b"Finish", 3),
+    (b"Draw", 3),
+    (b"Pass", 4),
+    (b"Root", 4),
+    (b"Place", 5),
+];
+
 /// How many fields follow this name on a line, if it is that of a kind.
 pub fn fields_of(name: &[u8]) -> Option<u64> {
-    match name {
-        b"Enter" => Some(1),
-        b"Okay" => Some(2),
-        b"Resolve" => Some(2),
-        b"Count" => Some(2),
-        b"Mark" => Some(2),
-        b"Lose" => Some(2),
-        b"Place" => Some(5),
-        b"Pass" => Some(4),
-        b"Root" => Some(4),
-        _ => fields_of_three(name),
+    for &(kind, fields) in &KINDS {
+        if name == kind {
+            return Some(fields);
+        }
     }
-}
-
-/// The same of those that three fields follow.
-fn fields_of_three(name: &[u8]) -> Option<u64> {
-    match name {
-        b"Reserve" => Some(3),
-        b"Install" => Some(3),
-        b"Decide" => Some(3),
-        b"Finish" => Some(3),
-        b"Draw" => Some(3),
-        _ => None,
-    }
+    None
 }
