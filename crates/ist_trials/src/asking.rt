@@ -7,7 +7,12 @@ use ist_tree::{Pass, Tree};
 use std::sync::Wait;
 
 /// Asks the tree by the pass.
-fn ask<R: Wait>(rt: &R, tree: &Tree, pass: &mut Pass, asked: Asked) -> Result<Reply, Full>
+pub(crate) fn ask<R: Wait>(
+    rt: &R,
+    tree: &Tree,
+    pass: &mut Pass,
+    asked: Asked,
+) -> Result<Reply, Full>
     requires same_tree { pass.old.tree ≡ tree.now }
     ensures same_tree { pass.new.tree ≡ tree.now }
 {

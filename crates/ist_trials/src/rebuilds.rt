@@ -1,8 +1,10 @@
 //! Rebuilds behind puts, with roots that are built whole and roots that are shared.
 ghost use Rattle.std.specs.Prelude.{◌≡◌, ◌≤◌};
 
+use crate::asking::ask;
 use crate::openings::{numbered, open_with};
 use ist_core::Pair;
+use ist_tales::Asked;
 use ist_tree::{OpenFault, Pass, Tree};
 use std::alloc::Global;
 use std::sync::Wait;
@@ -17,7 +19,7 @@ fn put_again<R: Wait>(rt: &R, tree: &Tree, pass: &mut Pass, key: u64, first: u64
     let mut before = first;
     let mut agrees = true;
     for value in 1..last + 1 {
-        agrees = agrees && tree.put(rt, pass, key, value) == Ok(Some(before));
+        agrees = agrees && ask(rt, tree, pass, Asked::Put(key, value)) == Ok(Some(before));
         before = value;
     }
     agrees

@@ -1,9 +1,11 @@
 //! Shots beside threads that put and remove.
 ghost use Rattle.std.specs.Prelude.{◌≡◌, ◌≤◌};
 
+use crate::asking::ask;
 use crate::shots::list_alike;
 use ist_core::Pair;
 use ist_scan::Shot;
+use ist_tales::Asked;
 use ist_tree::{OpenFault, Pass, Tree};
 use std::alloc::{AllocError, Global};
 use std::sync::Wait;
@@ -14,7 +16,7 @@ use std::thread::{Threads, join};
 const KEYS: u64 = 300;
 
 // What a thread saw: how many shots it took, and how many of them weren't one moment of the writers.
-#[derive(Clone, Copy, Debug, PartialEq, Eq, Drop)]
+#[derive(Drop)]
 struct Seen {
     taken: u64,
     others: u64,
@@ -29,11 +31,11 @@ fn write<R: Wait>(rt: &R, tree: &Tree, pass: Pass, start: u64) -> bool
     let mut answered = true;
     for i in 0..KEYS {
         let key = start + 2 * i;
-        answered = tree.put(rt, &mut pass, key, key).is_ok() && answered;
+        answered = ask(rt, tree, &mut pass, Asked::Put(key, key)).is_ok() && answered;
     }
     for j in 0..KEYS {
         let key = start + 2 * j;
-        answered = tree.remove(rt, &mut pass, key) == Ok(Some(key)) && answered;
+        answered = ask(rt, tree, &mut pass, Asked::Remove(key)) == Ok(Some(key)) && answered;
     }
     answered
 }

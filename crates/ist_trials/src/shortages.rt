@@ -1,14 +1,17 @@
 //! Ten puts in trees of each number of words, ample or not: what was answered is what is found.
 ghost use Rattle.std.specs.Prelude.{◌≡◌, ◌≤◌};
 
+use crate::asking::ask;
+use Asked::{Find, Put};
 use ist_core::{Full, Reply};
+use ist_tales::Asked;
 use ist_tree::{OpenFault, Pass, Tree};
 use std::alloc::Global;
 use std::sync::Wait;
 use std::test::Fail;
 
 // What came of ten puts of 1 to 10, each key with its own number as the value.
-#[derive(Clone, Copy, Debug, PartialEq, Eq, Drop)]
+#[derive(Drop)]
 struct Outcome {
     tenth: Result<Reply, Full>,
     rebuild: Option<Full>,
@@ -29,12 +32,12 @@ fn put_ten<R: Wait>(rt: &R, tree: &Tree, pass: &mut Pass) -> (Result<Reply, Full
     let mut count = 0;
     let mut agrees = true;
     for key in 1..11 {
-        last = tree.put(rt, pass, key, key);
+        last = ask(rt, tree, pass, Put(key, key));
         if last.is_ok() {
             count += 1;
         }
         let wanted = if last.is_ok() { Some(key) } else { None };
-        agrees = agrees && tree.find(pass, key) == wanted;
+        agrees = agrees && ask(rt, tree, pass, Find(key)) == Ok(wanted);
     }
     (last, count, agrees)
 }
@@ -55,9 +58,9 @@ fn outcome_in<R: Wait>(
     let rebuild = pass.rebuild_refused();
     let mut eleventh = Ok(None);
     if with_more {
-        eleventh = tree.put(rt, &mut pass, 11, 11);
+        eleventh = ask(rt, &tree, &mut pass, Put(11, 11));
     }
-    let tenth_found = tree.find(&mut pass, 10).is_some() == tenth.is_ok();
+    let tenth_found = (ask(rt, &tree, &mut pass, Find(10)) != Ok(None)) == tenth.is_ok();
     tree.take_back(&mut maker, pass);
     let closed = tree.close(maker);
     let more = if with_more && eleventh.is_ok() { 1 } else { 0 };
@@ -98,21 +101,21 @@ fn a_refused_rebuild_leaves_the_put_answered(rt: HostRuntime) -> Result<(), Fail
     ];
     for (words, rebuild, eleventh, used, settled) in cases {
         let first = outcome_in(&rt, rt.alloc(), words, false)?;
-        assert_eq!(rt;
-            (
-                first.tenth,
-                first.rebuild,
-                first.used,
-                first.settled,
-                first.agrees
-            ),
-            (Ok(None), rebuild, used, settled, true),
-            "{words} words"
+        let ten = (
+            first.tenth,
+            first.rebuild,
+            first.used,
+            first.settled,
+            first.agrees,
         );
         let more = outcome_in(&rt, rt.alloc(), words, true)?;
+        let eleven = (more.tenth, more.eleventh, more.agrees);
         assert_eq!(rt;
-            (more.tenth, more.eleventh, more.agrees),
-            (Ok(None), Err(eleventh), true),
+            (ten, eleven),
+            (
+                (Ok(None), rebuild, used, settled, true),
+                (Ok(None), Err(eleventh), true)
+            ),
             "{words} words, and one put more"
         );
     }

@@ -2,8 +2,10 @@
 ghost use Rattle.std.specs.Prelude.{◌≡◌, IfOk};
 ghost use Rattle.ist_tree.specs.Freezing.{IsFrozenFor};
 
+use crate::asking::ask;
 use ist_core::{Full, Pair, Reply};
 use ist_scan::{Shot, Total};
+use ist_tales::Asked;
 use ist_tree::{OpenFault, Pass, Tree};
 use std::alloc::{AllocError, Global};
 use std::sync::Wait;
@@ -24,7 +26,7 @@ fn put_all<R: Wait>(rt: &R, tree: &Tree, pass: &mut Pass, pairs: &[Pair]) -> Res
     ensures same_tree { pass.new.tree ≡ tree.now }
 {
     for pair in pairs {
-        tree.put(rt, pass, pair.key, pair.value)?;
+        ask(rt, tree, pass, Asked::Put(pair.key, pair.value))?;
     }
     Ok(())
 }

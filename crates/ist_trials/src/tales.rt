@@ -6,23 +6,27 @@ use ist_tales::{Asked, Misfit, Order, Told, judge_moments};
 use std::alloc::{AllocError, Global};
 use std::test::Fail;
 
-// What two threads were told, each in its order.
+// What a thread was told, in its order.
+fn tale(alloc: Global, replies: &[(Asked, Reply)]) -> Result<Vec<Told>, AllocError> {
+    let mut told = Vec::new(alloc);
+    for (asked, reply) in replies {
+        told.push(Told {
+            asked: *asked,
+            reply: *reply,
+        })?;
+    }
+    Ok(told)
+}
+
+// What two threads were told.
 fn told_by(
     alloc: Global,
     one: &[(Asked, Reply)],
     two: &[(Asked, Reply)],
 ) -> Result<Vec<Vec<Told>>, AllocError> {
     let mut threads = Vec::new(alloc);
-    for tale in [one, two] {
-        let mut told = Vec::new(alloc);
-        for (asked, reply) in tale {
-            told.push(Told {
-                asked: *asked,
-                reply: *reply,
-            })?;
-        }
-        threads.push(told)?;
-    }
+    threads.push(tale(alloc, one)?)?;
+    threads.push(tale(alloc, two)?)?;
     Ok(threads)
 }
 
@@ -136,7 +140,9 @@ fn tales_that_have_no_order_are_refused(rt: HostRuntime) -> Result<(), Fail> {
         assert_eq!(rt;
             judged(rt.alloc(), one, two, closing),
             Err(misfit),
-            "{one:?} {two:?}"
+            "{} and {} told",
+            one.len(),
+            two.len()
         );
     }
     // each thread saw the other's life of key 2 before its own
