@@ -1,5 +1,5 @@
 //! Values from outside: worked by hand, or by a short program that counts each part by itself.
-ghost use Rattle.std.specs.Prelude.{IsTrue};
+ghost use Rattle.std.specs.Prelude.{◌≤◌, IsTrue};
 ghost use Rattle.std.specs.List.Sorted.{IsStrictlyIncreasing};
 
 use ist_math::{child_and_looks, child_of, degree, guess, ideal_words, limit, part};
@@ -29,13 +29,20 @@ fn a_guess_among_uneven_keys_is_corrected(rt: HostRuntime) {
     }
 }
 
+// The guess for a key among so many over the whole range.
+fn guess_among(count: u64, key: u64) -> u64
+    requires some { 2 ≤ count }
+{
+    guess(0, u64::MAX, count, key)
+}
+
 #[test]
 fn extreme_keys_have_children(rt: HostRuntime) {
     let whole = [0, u64::MAX];
     // the key, the guess, the child
     let cases = [(0, 1, 1), (1, 1, 1), (u64::MAX - 1, 1, 1), (u64::MAX, 2, 2)];
     for (key, near, child) in cases {
-        let found = (guess(0, u64::MAX, 2, key), child_of(&whole, key));
+        let found = (guess_among(2, key), child_of(&whole, key));
         assert_eq!(rt; found, (near, child), "key {key}");
     }
     // many keys over the whole range: the product has more than 64 bits
@@ -47,8 +54,7 @@ fn extreme_keys_have_children(rt: HostRuntime) {
         (u64::MAX, 1 << 62, 4611686018427387904),
     ];
     for (count, key, near) in cases {
-        let found = guess(0, u64::MAX, count, key);
-        assert_eq!(rt; found, near, "key {key} of {count}");
+        assert_eq!(rt; guess_among(count, key), near, "key {key} of {count}");
     }
     // a short range of wide keys: the quotient by the first 64 bits is far too low
     assert_eq!(rt; guess(0, 1 << 40, 1 << 63, 1 << 39), 4611686018427387904);

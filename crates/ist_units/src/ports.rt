@@ -4,7 +4,7 @@ ghost use Rattle.std.specs.Option.{option_to_list};
 ghost use Rattle.ist_core.specs.Replies.{told, refusal};
 
 use ist_core::{Command, Full, LeafRow, Leaves, Port, Reply, Words};
-use std::alloc::AllocError;
+use std::alloc::{AllocError, Global};
 use std::sync::Wait;
 
 // answers one call, with no value, and refuses each other
@@ -52,17 +52,32 @@ fn a_port_answers_and_refuses(rt: HostRuntime) {
     assert_eq!(rt; port.refused, Some(Command::Get { key: 2 }));
 }
 
+// How many leaves a map of two has, and which come back of it.
+fn leaves_back(
+    alloc: Global,
+    low: LeafRow,
+    high: LeafRow,
+) -> Result<(usize, [(u64, LeafRow); 2]), AllocError> {
+    let leaves = Leaves::from_vec(vec![in alloc; (11, low), (13, high)]?);
+    let count = leaves.as_slice().len();
+    let entries = leaves.into_vec();
+    Ok((count, [entries[0], entries[1]]))
+}
+
+// The second of two words, and the first, once they come back.
+fn words_back(alloc: Global) -> Result<(u64, u64), AllocError> {
+    let words = Words::from_vec(vec![in alloc; 9, 1]?);
+    let second = words.as_slice()[1];
+    let words = words.into_vec();
+    Ok((second, words[0]))
+}
+
 #[test]
 fn rows_come_back_as_they_went_in(rt: HostRuntime) -> Result<(), AllocError> {
     let low = LeafRow { key: 5, value: 7 };
     let high = LeafRow { key: 9, value: 1 };
-    let leaves = Leaves::from_vec(vec![in rt.alloc(); (11, low), (13, high)]?);
-    assert_eq!(rt; leaves.as_slice().len(), 2);
-    let entries = leaves.into_vec();
-    assert_eq!(rt; entries[0], (11, low));
-    assert_eq!(rt; entries[1], (13, high));
-    let words = Words::from_vec(vec![in rt.alloc(); 9, 1]?);
-    assert_eq!(rt; words.as_slice()[1], 1);
-    assert_eq!(rt; words.into_vec()[0], 9);
+    let leaves = leaves_back(rt.alloc(), low, high)?;
+    let words = words_back(rt.alloc())?;
+    assert_eq!(rt; (leaves, words), ((2, [(11, low), (13, high)]), (1, 9)));
     Ok(())
 }
