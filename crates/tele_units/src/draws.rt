@@ -1,6 +1,7 @@
 //! Numbers from outside, and how keys lie.
 
 use ist_draws::{Draws, Kind, Shares, Spread};
+use std::alloc::{AllocError, Global};
 use std::test::Fail;
 
 #[test]
@@ -54,6 +55,42 @@ fn each_kind_of_call_has_its_share(rt: HostRuntime) {
     }
 }
 
+// 5,000 keys, rising.
+fn sorted_keys(alloc: Global, spread: Spread) -> Result<Vec<u64>, AllocError> {
+    let mut keys = Vec::new(alloc);
+    add_sorted(spread, &mut keys)?;
+    Ok(keys)
+}
+
+// Puts 5,000 keys there, and sorts them.
+fn add_sorted(spread: Spread, keys: &mut Vec<u64>) -> Result<(), AllocError> {
+    for number in 0..5_000 {
+        keys.push(spread.key(number))?;
+    }
+    keys.sort()
+}
+
+// How many keys are the one before, and how many are one above it.
+fn count_neighbours(keys: &[u64]) -> (u64, u64) {
+    let mut same: u64 = 0;
+    let mut next: u64 = 0;
+    for pair in keys.windows(2) {
+        if pair[0] == pair[1] {
+            same = same.wrapping_add(1);
+        }
+        if pair[0].wrapping_add(1) == pair[1] {
+            next = next.wrapping_add(1);
+        }
+    }
+    (same, next)
+}
+
+// The same of 5,000 keys that lie so.
+fn neighbours(alloc: Global, spread: Spread) -> Result<(u64, u64), AllocError> {
+    let keys = sorted_keys(alloc, spread)?;
+    Ok(count_neighbours(&keys))
+}
+
 #[test]
 fn keys_are_different_and_lie_as_they_are_to(rt: HostRuntime) -> Result<(), Fail> {
     // how keys lie, the number of 5,000 keys that are one above another
@@ -63,22 +100,8 @@ fn keys_are_different_and_lie_as_they_are_to(rt: HostRuntime) -> Result<(), Fail
         (Spread::Clustered, 4_995),
     ];
     for (spread, beside) in cases {
-        let mut keys = Vec::new(rt.alloc());
-        for number in 0..5_000 {
-            keys.push(spread.key(number))?;
-        }
-        keys.sort()?;
-        let mut same: u64 = 0;
-        let mut next: u64 = 0;
-        for pair in keys.windows(2) {
-            if pair[0] == pair[1] {
-                same = same.wrapping_add(1);
-            }
-            if pair[0].wrapping_add(1) == pair[1] {
-                next = next.wrapping_add(1);
-            }
-        }
-        assert_eq!(rt; (same, next), (0, beside), "{spread:?}");
+        let counts = neighbours(rt.alloc(), spread)?;
+        assert_eq!(rt; counts, (0, beside), "{spread:?}");
     }
     Ok(())
 }
