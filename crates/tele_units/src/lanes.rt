@@ -4,7 +4,7 @@ ghost use Rattle.std.specs.Option.{option_to_list, option_map};
 ghost use Rattle.ist_core.specs.Replies.{Answered, Refused};
 ghost use Rattle.tele_lanes.specs.Lanes.{all_lane_tasks};
 
-use crate::recorders::{Counter, FULL, Recorder, misses};
+use crate::recorders::{Counter, FULL, Recorder, idle_lane, misses};
 use ist_core::{Command, Full, Port, Reply};
 use std::alloc::{AllocError, Global};
 use std::sync::Wait;
@@ -83,31 +83,26 @@ fn idle_lanes(
     let mut lanes = Vec::new(alloc);
     let mut number = 0u32;
     for mine in split(alloc, tasks, workers)? {
-        let answers = Answers::with_room(alloc, mine.as_slice().len())?;
-        let port = Recorder {
-            told: Vec::with_capacity(alloc, calls)?,
-            refused: None,
-        };
-        lanes.push(Lane::new(number, mine, answers, port))?;
+        lanes.push(idle_lane(alloc, number, mine, calls)?)?;
         number = number.wrapping_add(1);
     }
     Ok(lanes)
 }
 
-// the answers of a round, in line order
-fn round<R: Threads + Wait + Sync>(
+// does a round of these tasks give these answers, in line order?
+fn round_gives<R: Threads + Wait + Sync>(
     rt: &R,
     alloc: Global,
     tasks: &[Task],
     workers: u32,
-) -> Result<Vec<Answer>, AllocError>
+    answers: &[Answer],
+) -> Result<bool, AllocError>
     requires some { 1 ≤ workers }
     requires at_most { workers ≤ 64 }
 {
     let mut lanes = idle_lanes(alloc, tasks, workers, tasks.len())?;
-    let lanes = lanes.as_mut_slice();
-    run_lanes(rt, &NoGate, lanes);
-    gather(alloc, lanes)
+    run_lanes(rt, &NoGate, &mut lanes);
+    has_answered(alloc, &lanes, answers)
 }
 
 // the task of this line
@@ -120,6 +115,20 @@ fn answer(line: u64, reply: Reply) -> Answer {
     Answer { line, reply }
 }
 
+// Do two workers have two lanes, one of these first tasks and one of these second ones?
+fn are_split(
+    alloc: Global,
+    tasks: &[Task],
+    first: &[Task],
+    second: &[Task],
+) -> Result<bool, AllocError> {
+    let lanes = split(alloc, tasks, 2)?;
+    Ok(match lanes.as_slice() {
+        [one, two] => one.as_slice() == first && two.as_slice() == second,
+        _ => false,
+    })
+}
+
 #[test]
 fn equal_timestamps_go_to_one_lane(rt: HostRuntime) -> Result<(), AllocError> {
     let tasks = [
@@ -128,13 +137,8 @@ fn equal_timestamps_go_to_one_lane(rt: HostRuntime) -> Result<(), AllocError> {
         task(3, Command::Put { key: 2, value: 5 }),
         task(4, Command::Get { key: 2 }),
     ];
-    let lanes = split(rt.alloc(), &tasks, 2)?;
-    assert_eq!(rt; lanes.len(), 2);
-    assert_eq!(rt;
-        lanes[0].as_slice(),
-        [tasks[0], tasks[2], tasks[3]].as_slice()
-    );
-    assert_eq!(rt; lanes[1].as_slice(), [tasks[1]].as_slice());
+    let first = [tasks[0], tasks[2], tasks[3]];
+    assert!(rt; are_split(rt.alloc(), &tasks, &first, &[tasks[1]])?);
     Ok(())
 }
 
@@ -164,34 +168,104 @@ fn lanes_are_remainders(rt: HostRuntime) {
     }
 }
 
+// A lane of one task whose port raises one flag and waits for the other.
+fn lane_that_meets<'a>(
+    alloc: Global,
+    number: u32,
+    mine: &'a AtomicU64,
+    theirs: &'a AtomicU64,
+) -> Result<Lane<Meeting<'a>>, AllocError>
+    ensures empty { IfOk result (λ l. l.answers.list ≡ []) }
+    ensures room { IfOk result (λ l. length l.tasks ≤ l.answers.room) }
+    ensures no_calls { IfOk result (λ l. l.port.told ≡ None) }
+    ensures unrefused { IfOk result (λ l. l.port.refused ≡ None) }
+{
+    let port = Meeting {
+        mine,
+        theirs,
+        missed: false,
+        told: None,
+        refused: None,
+    };
+    with_one_task(alloc, number, port)
+}
+
+/// How many answers a lane has, where it stopped, and whether its port waited in vain.
+type Met = (usize, Option<Full>, bool);
+
+// How a lane met another.
+fn see_met(lane: &Lane<Meeting<'_>>) -> Met {
+    (
+        lane.answers.as_slice().len(),
+        lane.stopped,
+        lane.port.missed,
+    )
+}
+
+// Runs two lanes, each of which waits for the other.
+fn meet<R: Threads + Wait + Sync>(rt: &R, alloc: Global) -> Result<(Met, Met), AllocError> {
+    let (one, two) = (AtomicU64::new(0), AtomicU64::new(0));
+    let left = lane_that_meets(alloc, 0, &one, &two)?;
+    let right = lane_that_meets(alloc, 1, &two, &one)?;
+    let mut lanes = [left, right];
+    run_lanes(rt, &NoGate, &mut lanes);
+    Ok((see_met(&lanes[0]), see_met(&lanes[1])))
+}
+
 #[test]
 fn lanes_run_beside_each_other(rt: HostRuntime) -> Result<(), AllocError> {
-    let (one, two) = (AtomicU64::new(0), AtomicU64::new(0));
-    let left = Meeting {
-        mine: &one,
-        theirs: &two,
-        missed: false,
-        told: None,
-        refused: None,
-    };
-    let right = Meeting {
-        mine: &two,
-        theirs: &one,
-        missed: false,
-        told: None,
-        refused: None,
-    };
-    let mut lanes = [
-        with_one_task(rt.alloc(), 0, left)?,
-        with_one_task(rt.alloc(), 1, right)?,
-    ];
-    run_lanes(&rt, &NoGate, &mut lanes);
-    for lane in &lanes {
-        assert_eq!(rt; lane.answers.as_slice().len(), 1, "lane {}", lane.number);
-        assert_eq!(rt; lane.stopped, None, "lane {}", lane.number);
-        assert!(rt; !lane.port.missed, "lane {}", lane.number);
-    }
+    let met = meet(&rt, rt.alloc())?;
+    assert_eq!(rt; met, ((1, None, false), (1, None, false)));
     Ok(())
+}
+
+// Are these the tasks that the lanes left?
+fn has_left(alloc: Global, lanes: &[Lane<Recorder>], tasks: &[Task]) -> Result<bool, AllocError> {
+    let open = open_tasks(alloc, lanes)?;
+    Ok(open.as_slice() == tasks)
+}
+
+// Are these the answers of the lanes?
+fn has_answered(
+    alloc: Global,
+    lanes: &[Lane<Recorder>],
+    answers: &[Answer],
+) -> Result<bool, AllocError> {
+    let all = gather(alloc, lanes)?;
+    Ok(all.as_slice() == answers)
+}
+
+// Is each lane stopped at a get of 5, with these answers?
+fn are_stopped(lanes: &[Lane<Recorder>], answers: &[Answer]) -> bool {
+    for lane in lanes {
+        if lane.answers.as_slice() != answers
+            || lane.stopped != Some(FULL)
+            || lane.port.refused != Some(Command::Get { key: 5 })
+        {
+            return false;
+        }
+    }
+    true
+}
+
+// Runs one lane of these tasks, whose port answers two calls. Whether it is stopped at a get of 5 with
+// these answers, whether these are the tasks that it left, and its refusal.
+fn run_stopped<R: Threads + Wait + Sync>(
+    rt: &R,
+    alloc: Global,
+    gate: &Counter,
+    tasks: &[Task],
+    answers: &[Answer],
+    left: &[Task],
+) -> Result<(bool, bool, Option<Full>), AllocError> {
+    let mut lanes = idle_lanes(alloc, tasks, 1, 2)?;
+    run_lanes(rt, gate, &mut lanes);
+    let has_left = has_left(alloc, &lanes, left)?;
+    Ok((
+        are_stopped(&lanes, answers),
+        has_left,
+        first_refusal(&lanes),
+    ))
 }
 
 #[test]
@@ -202,67 +276,107 @@ fn a_lane_stops_at_the_refused_task(rt: HostRuntime) -> Result<(), AllocError> {
         task(3, Command::Get { key: 5 }),
         task(4, Command::Get { key: 5 }),
     ];
-    let mut lanes = idle_lanes(rt.alloc(), &tasks, 1, 2)?;
     let gate = Counter {
         told: AtomicU64::new(0),
     };
-    run_lanes(&rt, &gate, &mut lanes);
+    let answers = [answer(1, Some(5)), answer(2, None)];
+    let left = [tasks[2], tasks[3]];
+    let stopped = run_stopped(&rt, rt.alloc(), &gate, &tasks, &answers, &left)?;
     // two answered calls and the refused one: 1 + 2 + 3
-    assert_eq!(rt; gate.told.load(Ordering::SeqCst), 6006);
-    for lane in &lanes {
-        let answers = [answer(1, Some(5)), answer(2, None)];
-        assert_eq!(rt; lane.answers.as_slice(), answers.as_slice());
-        assert_eq!(rt; lane.stopped, Some(FULL));
-        assert_eq!(rt; lane.port.refused, Some(Command::Get { key: 5 }));
-    }
-    let open = open_tasks(rt.alloc(), &lanes)?;
-    assert_eq!(rt; open.as_slice(), [tasks[2], tasks[3]].as_slice());
-    assert_eq!(rt; first_refusal(&lanes), Some(FULL));
+    assert_eq!(rt;
+        (stopped, gate.told.load(Ordering::SeqCst)),
+        ((true, true, Some(FULL)), 6006)
+    );
     Ok(())
+}
+
+// the get of this key, in this line
+fn get(line: u64, key: u64) -> Task {
+    task(line, Command::Get { key })
+}
+
+// Runs three lanes of these tasks, each of whose ports answers two calls. Whether these are the answers,
+// and these the tasks that were left.
+fn run_rising<R: Threads + Wait + Sync>(
+    rt: &R,
+    alloc: Global,
+    tasks: &[Task],
+    answers: &[Answer],
+    left: &[Task],
+) -> Result<(bool, bool), AllocError> {
+    let mut lanes = idle_lanes(alloc, tasks, 3, 2)?;
+    run_lanes(rt, &NoGate, &mut lanes);
+    has_both(alloc, &lanes, answers, left)
+}
+
+// Are these the answers of the lanes, and these the tasks that they left?
+fn has_both(
+    alloc: Global,
+    lanes: &[Lane<Recorder>],
+    answers: &[Answer],
+    left: &[Task],
+) -> Result<(bool, bool), AllocError> {
+    Ok((
+        has_answered(alloc, lanes, answers)?,
+        has_left(alloc, lanes, left)?,
+    ))
 }
 
 #[test]
 fn lines_rise_whatever_the_order_of_the_tasks(rt: HostRuntime) -> Result<(), AllocError> {
-    // the lines of the tasks of the keys 0, 1, 2, 0, 1, 2 and so on
-    let lines = [9, 2, 7, 3, 8, 1, 6, 5, 4];
-    let mut tasks = Vec::new(rt.alloc());
-    for (i, line) in lines.iter().enumerate() {
-        let key = (i % 3) as u64;
-        tasks.push(Task {
-            line: *line,
-            command: Command::Get { key },
-        })?;
-    }
+    let tasks = [
+        get(9, 0),
+        get(2, 1),
+        get(7, 2),
+        get(3, 0),
+        get(8, 1),
+        get(1, 2),
+        get(6, 0),
+        get(5, 1),
+        get(4, 2),
+    ];
     // three lanes, each of which answers two of its three tasks
-    let mut lanes = idle_lanes(rt.alloc(), &tasks, 3, 2)?;
-    let lanes = lanes.as_mut_slice();
-    run_lanes(&rt, &NoGate, lanes);
-    let all = gather(rt.alloc(), lanes)?;
-    let mut answered = Vec::new(rt.alloc());
-    for answer in &all {
-        answered.push(answer.line)?;
-    }
-    assert_eq!(rt; answered.as_slice(), [1, 2, 3, 7, 8, 9].as_slice());
-    let mut open = Vec::new(rt.alloc());
-    for task in open_tasks(rt.alloc(), lanes)?.as_slice() {
-        open.push(task.line)?;
-    }
-    assert_eq!(rt; open.as_slice(), [4, 5, 6].as_slice());
+    let answers = [
+        answer(1, Some(2)),
+        answer(2, Some(1)),
+        answer(3, Some(0)),
+        answer(7, Some(2)),
+        answer(8, Some(1)),
+        answer(9, Some(0)),
+    ];
+    let left = [get(4, 2), get(5, 1), get(6, 0)];
+    let has = run_rising(&rt, rt.alloc(), &tasks, &answers, &left)?;
+    assert_eq!(rt; has, (true, true));
     Ok(())
+}
+
+// Did each lane answer nothing, and stop nowhere?
+fn are_idle(lanes: &[Lane<Recorder>]) -> bool {
+    for lane in lanes {
+        if !lane.answers.as_slice().is_empty() || lane.stopped.is_some() {
+            return false;
+        }
+    }
+    true
+}
+
+// Runs three lanes without tasks. How many there are, whether they answered nothing and stopped nowhere,
+// whether they left nothing, and the first refusal.
+fn run_idle<R: Threads + Wait + Sync>(
+    rt: &R,
+    alloc: Global,
+) -> Result<(usize, bool, bool, Option<Full>), AllocError> {
+    let mut lanes = idle_lanes(alloc, &[], 3, 0)?;
+    run_lanes(rt, &NoGate, &mut lanes);
+    let none = has_left(alloc, &lanes, &[])?;
+    Ok((lanes.len(), are_idle(&lanes), none, first_refusal(&lanes)))
 }
 
 #[test]
 fn no_tasks_give_no_answers(rt: HostRuntime) -> Result<(), AllocError> {
-    let mut lanes = idle_lanes(rt.alloc(), &[], 3, 0)?;
-    assert_eq!(rt; lanes.len(), 3);
-    run_lanes(&rt, &NoGate, &mut lanes);
-    for lane in &lanes {
-        assert_eq!(rt; lane.answers.as_slice().len(), 0, "lane {}", lane.number);
-        assert_eq!(rt; lane.stopped, None, "lane {}", lane.number);
-    }
-    assert_eq!(rt; open_tasks(rt.alloc(), &lanes)?.as_slice().len(), 0);
-    assert_eq!(rt; first_refusal(&lanes), None);
-    assert_eq!(rt; gather::<Recorder>(rt.alloc(), &[])?.len(), 0);
+    let idle = run_idle(&rt, rt.alloc())?;
+    let none = has_answered(rt.alloc(), &[], &[])?;
+    assert_eq!(rt; (idle, none), ((3, true, true, None), true));
     let mut none: [Lane<Recorder>; 0] = [];
     run_lanes(&rt, &NoGate, &mut none);
     Ok(())
@@ -290,19 +404,28 @@ fn answers_come_back_in_line_order(rt: HostRuntime) -> Result<(), AllocError> {
     ];
     for workers in [1u32, 2, 3, 7, 64] {
         assert!(rt; workers >= 1 && workers <= 64);
-        let all = round(&rt, rt.alloc(), &tasks, workers)?;
-        assert_eq!(rt; all.as_slice(), answers.as_slice(), "{workers} workers");
+        let given = round_gives(&rt, rt.alloc(), &tasks, workers, &answers)?;
+        assert!(rt; given, "{workers} workers");
     }
     Ok(())
 }
 
+// Does a list of this task come back as it went in?
+fn task_comes_back(alloc: Global, task: Task) -> Result<bool, AllocError> {
+    let tasks = Tasks::from_vec(vec![in alloc; task]?).into_vec();
+    Ok(tasks.as_slice() == [task].as_slice())
+}
+
+// Does a list of this answer come back as it went in?
+fn answer_comes_back(alloc: Global, answer: Answer) -> Result<bool, AllocError> {
+    let answers = Answers::from_vec(vec![in alloc; answer]?).into_vec();
+    Ok(answers.as_slice() == [answer].as_slice())
+}
+
 #[test]
 fn lists_come_back_as_they_went_in(rt: HostRuntime) -> Result<(), AllocError> {
-    let task = task(3, Command::Remove { key: 8 });
-    let tasks = Tasks::from_vec(vec![in rt.alloc(); task]?).into_vec();
-    assert_eq!(rt; tasks.as_slice(), [task].as_slice());
-    let answer = answer(3, Some(6));
-    let answers = Answers::from_vec(vec![in rt.alloc(); answer]?).into_vec();
-    assert_eq!(rt; answers.as_slice(), [answer].as_slice());
+    let tasks = task_comes_back(rt.alloc(), task(3, Command::Remove { key: 8 }))?;
+    let answers = answer_comes_back(rt.alloc(), answer(3, Some(6)))?;
+    assert_eq!(rt; (tasks, answers), (true, true));
     Ok(())
 }

@@ -1,12 +1,13 @@
-//! A port that keeps what it is asked, a gate that counts, and a flag that is waited for.
-ghost use Rattle.std.specs.Prelude.{List, Option, map};
+//! A port that keeps what it is asked, lanes with it, a gate that counts, and a flag that is waited for.
+ghost use Rattle.std.specs.Prelude.{◌≡◌, ◌≤◌, [], List, Option, None, IfOk, length, map};
 ghost use Rattle.std.specs.Option.{option_map};
 ghost use Rattle.ist_core.specs.Replies.{Answered, Refused};
 
 use ist_core::{Command, Full, Port, Reply};
+use std::alloc::{AllocError, Global};
 use std::sync::Wait;
 use std::sync::atomic::{AtomicU64, Ordering};
-use tele_lanes::Gate;
+use tele_lanes::{Answers, Gate, Lane, Tasks};
 
 /// The refusal of the port.
 pub(crate) const FULL: Full = Full {
@@ -46,6 +47,28 @@ impl Port for Recorder {
         self.told.push_reserved((command, reply));
         Ok(reply)
     }
+}
+
+/// A lane of these tasks, with a recorder for so many calls.
+pub(crate) fn idle_lane(
+    alloc: Global,
+    number: u32,
+    tasks: Tasks,
+    calls: usize,
+) -> Result<Lane<Recorder>, AllocError>
+    ensures number { IfOk result (λ l. l.number ≡ number) }
+    ensures tasks { IfOk result (λ l. l.tasks ≡ tasks) }
+    ensures empty { IfOk result (λ l. l.answers.list ≡ []) }
+    ensures room { IfOk result (λ l. length l.tasks ≤ l.answers.room) }
+    ensures no_calls { IfOk result (λ l. l.port.told.items ≡ []) }
+    ensures unrefused { IfOk result (λ l. l.port.refused ≡ None) }
+{
+    let answers = Answers::with_room(alloc, tasks.as_slice().len())?;
+    let port = Recorder {
+        told: Vec::with_capacity(alloc, calls)?,
+        refused: None,
+    };
+    Ok(Lane::new(number, tasks, answers, port))
 }
 
 /// Adds the number of each call, counted from 1, before it, and a thousand times that after it.

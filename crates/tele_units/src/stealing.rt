@@ -2,11 +2,13 @@
 ghost use Rattle.std.specs.Prelude.{◌≡◌, [], ◌≤◌, All, None, length, map, IfOk};
 ghost use Rattle.std.specs.List.Sorted.{IsStrictlyIncreasing};
 
-use crate::recorders::{Counter, FULL, Recorder, misses};
+use crate::recorders::{Counter, FULL, Recorder, idle_lane, misses};
 use ist_core::Command;
 use std::alloc::{AllocError, Global};
+use std::sync::Wait;
 use std::sync::atomic::{AtomicU64, Ordering};
-use tele_lanes::{Answers, Gate, Lane, NoGate, Task, Tasks};
+use std::thread::Threads;
+use tele_lanes::{Gate, Lane, NoGate, Task, Tasks};
 use tele_steal::{Yard, run_stolen};
 
 // waits at the first call of lane 0 until lane 1 made one, for 100,000,000 turns
@@ -69,12 +71,7 @@ fn one_lane(
             command,
         })?;
     }
-    let answers = Answers::with_room(alloc, tasks.as_slice().len())?;
-    let port = Recorder {
-        told: Vec::with_capacity(alloc, calls)?,
-        refused: None,
-    };
-    Ok(Lane::new(number, tasks, answers, port))
+    idle_lane(alloc, number, tasks, calls)
 }
 
 // the lines that a lane answered are the first of its own, each with its number
@@ -90,25 +87,89 @@ fn answers_first(lane: &Lane<Recorder>, number: u32, count: usize) -> bool {
     lane.number == number && answers.len() == count
 }
 
+// is it the lane of this number, which answered the first of its own tasks, all where the port answers
+// as many calls, and stopped where it does not
+fn is_back(lane: &Lane<Recorder>, number: u32, count: usize, calls: usize) -> bool {
+    let stopped = if calls < count { Some(FULL) } else { None };
+    answers_first(lane, number, count.min(calls)) && lane.stopped == stopped
+}
+
+// as many lanes as there are counts, in order, each back
+fn are_back(lanes: &[Lane<Recorder>], counts: &[u32], calls: usize) -> bool {
+    let mut number = 0u32;
+    for (lane, count) in lanes.iter().zip(counts) {
+        if !is_back(lane, number, *count as usize, calls) {
+            return false;
+        }
+        number = number.wrapping_add(1);
+    }
+    lanes.len() == counts.len()
+}
+
+// runs lanes with as many gets as `counts` says in the yard, and says whether they come back in order
+fn run_back<R: Threads + Wait + Sync, G: Gate + Sync>(
+    rt: &R,
+    alloc: Global,
+    gate: &G,
+    yard: &mut Yard<Recorder>,
+    counts: &[u32],
+    calls: usize,
+) -> Result<bool, AllocError>
+    requires few { length counts.now ≤ 64 }
+    requires fits { length counts.now ≤ yard.old.lanes }
+    ensures same_room { yard.new.lanes ≡ yard.old.lanes }
+{
+    let lanes = lanes_of(alloc, counts, calls)?;
+    let lanes = run_stolen(rt, gate, yard, lanes);
+    Ok(are_back(&lanes, counts, calls))
+}
+
+// the same in a new yard
+fn run_in_yard<R: Threads + Wait + Sync, G: Gate + Sync>(
+    rt: &R,
+    alloc: Global,
+    gate: &G,
+    workers: u32,
+    room: u32,
+    counts: &[u32],
+    calls: usize,
+) -> Result<bool, AllocError>
+    requires some_workers { 1 ≤ workers }
+    requires workers_at_most { workers ≤ 64 }
+    requires some_lanes { 1 ≤ room }
+    requires lanes_at_most { room ≤ 64 }
+    requires fits { length counts.now ≤ room }
+{
+    let mut yard = Yard::with_room(alloc, workers, room)?;
+    run_back(rt, alloc, gate, &mut yard, counts, calls)
+}
+
+// three lanes, three times in one yard, with ports that answer eight calls
+fn run_thrice<R: Threads + Wait + Sync>(
+    rt: &R,
+    alloc: Global,
+    yard: &mut Yard<Recorder>,
+) -> Result<[bool; 3], AllocError>
+    requires fits { 3 ≤ yard.old.lanes }
+{
+    let counts = [10, 0, 3];
+    Ok([
+        run_back(rt, alloc, &NoGate, yard, &counts, 8)?,
+        run_back(rt, alloc, &NoGate, yard, &counts, 8)?,
+        run_back(rt, alloc, &NoGate, yard, &counts, 8)?,
+    ])
+}
+
+// the same in a new yard
+fn run_three<R: Threads + Wait + Sync>(rt: &R, alloc: Global) -> Result<[bool; 3], AllocError> {
+    let mut yard = Yard::with_room(alloc, 2, 3)?;
+    run_thrice(rt, alloc, &mut yard)
+}
+
 #[test]
 fn three_lanes_come_back_in_order(rt: HostRuntime) -> Result<(), AllocError> {
-    let mut yard = Yard::with_room(rt.alloc(), 2, 3)?;
-    let counts = [10, 0, 3];
-    // how many answers each lane has: a port answers eight calls
-    let answered = [8, 0, 3];
-    for turn in 0..3 {
-        let lanes = lanes_of(rt.alloc(), &counts, 8)?;
-        let lanes = run_stolen(&rt, &NoGate, &mut yard, lanes);
-        assert_eq!(rt; lanes.len(), 3, "turn {turn}");
-        for (at, lane) in lanes.iter().enumerate() {
-            if at < 3 {
-                assert!(rt; answers_first(lane, at as u32, answered[at]), "lane {at}");
-            }
-        }
-        assert_eq!(rt; lanes[0].stopped, Some(FULL), "turn {turn}");
-        assert_eq!(rt; lanes[1].stopped, None, "turn {turn}");
-        assert_eq!(rt; lanes[2].stopped, None, "turn {turn}");
-    }
+    let back = run_three(&rt, rt.alloc())?;
+    assert_eq!(rt; back, [true; 3]);
     Ok(())
 }
 
@@ -119,26 +180,14 @@ fn lanes_of_unequal_length_come_back_in_order(rt: HostRuntime) -> Result<(), All
     counts[63] = 0;
     for workers in [1u32, 2, 4, 64] {
         assert!(rt; workers >= 1 && workers <= 64);
-        let mut yard = Yard::with_room(rt.alloc(), workers, 64)?;
         let gate = Counter {
             told: AtomicU64::new(0),
         };
-        let lanes = lanes_of(rt.alloc(), &counts, 1000)?;
-        let lanes = run_stolen(&rt, &gate, &mut yard, lanes);
-        assert_eq!(rt; lanes.len(), 64, "{workers} workers");
-        for (at, lane) in lanes.iter().enumerate() {
-            if at < 64 {
-                let count = counts[at] as usize;
-                assert!(rt;
-                    answers_first(lane, at as u32, count),
-                    "lane {at} of {workers}"
-                );
-            }
-        }
+        let back = run_in_yard(&rt, rt.alloc(), &gate, workers, 64, &counts, 1000)?;
         // 62 lanes of ten calls, whose numbers add up to 55, and one of a thousand, to 500,500
         assert_eq!(rt;
-            gate.told.load(Ordering::SeqCst),
-            504_413_910,
+            (back, gate.told.load(Ordering::SeqCst)),
+            (true, 504_413_910),
             "{workers} workers"
         );
     }
@@ -147,14 +196,11 @@ fn lanes_of_unequal_length_come_back_in_order(rt: HostRuntime) -> Result<(), All
 
 #[test]
 fn two_workers_run_two_lanes_beside_each_other(rt: HostRuntime) -> Result<(), AllocError> {
-    let mut yard = Yard::with_room(rt.alloc(), 2, 2)?;
     let gate = Meeting {
         came: [AtomicU64::new(0), AtomicU64::new(0)],
         missed: AtomicU64::new(0),
     };
-    let lanes = lanes_of(rt.alloc(), &[1, 1], 1)?;
-    let lanes = run_stolen(&rt, &gate, &mut yard, lanes);
-    assert_eq!(rt; gate.missed.load(Ordering::SeqCst), 0);
-    assert_eq!(rt; lanes.len(), 2);
+    let back = run_in_yard(&rt, rt.alloc(), &gate, 2, 2, &[1, 1], 1)?;
+    assert_eq!(rt; (gate.missed.load(Ordering::SeqCst), back), (0, true));
     Ok(())
 }

@@ -1,4 +1,4 @@
-use Rattle.std.proofs.Common.{◌≡◌, [], ◌≤◌, None, length, refl, rules}
+use Rattle.std.proofs.Common.{◌≡◌, [], ◌≤◌, None, length, rules}
 use Rattle.std.proofs.lemmas.List.{map_push, append_assoc}
 use Rattle.std.proofs.lemmas.List.Elements.{All-push}
 use Rattle.tele_lanes.specs.declared.lanes.Lane.{Lane}
@@ -9,14 +9,14 @@ abbrev Idle : Type 0
 Idle = Lane Recorder (Unit {0})
 
 pub loop-mine-preserved : goal.loop-mine-preserved
-loop-mine-preserved c = record {
-  tasks = let next = c.in-Some.ensures.steps in rw (c.in_ok-push.ensures.items, map_push, c.new.ensures.tasks, append_assoc) (search rules);
+loop-mine-preserved c = let old = c.loop-mine.invariant in let made = c.in_ok-idle_lane.ensures in record {
+  tasks = let next = c.in-Some.ensures.steps in rw (c.in_ok-push.ensures.items, map_push, made.tasks, append_assoc) (search rules);
   empty = rw c.in_ok-push.ensures.items
-      (All-push (λ (l : Idle). l.answers.list ≡ []) _ _ c.loop-mine.invariant.empty (rw c.new.ensures.answers c.in_ok-answers.ensures.empty));
+      (All-push (λ (l : Idle). l.answers.list ≡ []) _ _ old.empty made.empty);
   room = rw c.in_ok-push.ensures.items
-      (All-push (λ (l : Idle). length l.tasks ≤ l.answers.room) _ _ c.loop-mine.invariant.room (search rules));
+      (All-push (λ (l : Idle). length l.tasks ≤ l.answers.room) _ _ old.room made.room);
   no_calls = rw c.in_ok-push.ensures.items
-      (All-push (λ (l : Idle). l.port.told.items ≡ []) _ _ c.loop-mine.invariant.no_calls (search rules));
+      (All-push (λ (l : Idle). l.port.told.items ≡ []) _ _ old.no_calls made.no_calls);
   unrefused = rw c.in_ok-push.ensures.items
-      (All-push (λ (l : Idle). l.port.refused ≡ None) _ _ c.loop-mine.invariant.unrefused (rw c.new.ensures.port refl));
+      (All-push (λ (l : Idle). l.port.refused ≡ None) _ _ old.unrefused made.unrefused);
 }
