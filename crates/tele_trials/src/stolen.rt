@@ -48,24 +48,24 @@ fn stealing_shows_in_the_number_of_callers_alone(rt: HostRuntime) -> Result<(), 
     let input = b"P 2 1\nP 3 1\nP 2 5\nG 2\nI 0 9\n";
     let output = b"1 -\n2 -\n3 1\n4 5\n5 2\n2 5\n3 1\n";
     let pairs = [Pair { key: 2, value: 5 }, Pair { key: 3, value: 1 }];
-    // the last option, how many callers the last tree had
-    for (steal, count) in [("--steal=0", 2), ("--steal=1", 64)] {
-        let seen = see_run(&rt, rt.alloc(), steal, input, output, &pairs)?;
-        assert_eq!(rt; seen, (true, 0, Some(count), true), "with {steal}");
-    }
+    let own = see_run(&rt, rt.alloc(), "--steal=0", input, output, &pairs)?;
+    let stolen = see_run(&rt, rt.alloc(), "--steal=1", input, output, &pairs)?;
+    assert_eq!(rt;
+        (own, stolen),
+        ((true, 0, Some(2), true), (true, 0, Some(64), true))
+    );
     Ok(())
 }
 
 #[test]
 fn two_stolen_lanes_run_beside_each_other(rt: HostRuntime) -> Result<(), Fail> {
     let (input, output) = (b"P 64 1\nP 1 1\n", b"1 -\n2 -\n");
-    // how many workers, for how many turns a lane waits, how often it does so in vain: with two
-    // workers both come, and with one only the second finds that the other came
-    for (workers, turns, missed) in [("2", 100_000_000, 0), ("1", 1_000, 1)] {
-        let more = ["--workers", workers, "--steal", "1"];
-        let seen = see_meeting(&rt, rt.alloc(), &more, turns, input, output)?;
-        assert_eq!(rt; seen, (true, 0, (1, 1, missed)), "by {workers}");
-    }
+    let two = ["--workers", "2", "--steal", "1"];
+    let both = see_meeting(&rt, rt.alloc(), &two, 100_000_000, input, output)?;
+    let one = ["--workers", "1", "--steal", "1"];
+    let alone = see_meeting(&rt, rt.alloc(), &one, 1_000, input, output)?;
+    // with two workers both come, and with one only the second finds that the other came
+    assert_eq!(rt; (both, alone), ((true, 0, (1, 1, 0)), (true, 0, (1, 1, 1))));
     Ok(())
 }
 
