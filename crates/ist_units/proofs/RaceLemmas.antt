@@ -58,6 +58,11 @@ pair_stored old who base low high low_is high_is is =
       tt,
     )
 
+-- it has the pair row that it had
+pub pair_filled : (old who : Caller) (base : ℕ) (words : List ℕ) → who ≡ filled_with old base words
+    → who.pair ≡ old.pair
+pair_filled old who base words is = ap (λ (x : Caller). x.pair) is
+
 pub base_high : (base : ℕ) → (base ≡ 29) ⊎ (base ≡ 36) → 28 < base
 base_high base at = ⊎_elim (λ e. omega arith) (λ e. omega arith) at
 

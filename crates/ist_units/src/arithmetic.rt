@@ -78,10 +78,7 @@ fn few_keys_have_children(rt: HostRuntime) {
 
 #[test]
 fn parts_follow_one_another(rt: HostRuntime) {
-    // the keys, the degree
-    for (n, children) in [(10, 3), (2, 2), (3, 2)] {
-        assert_eq!(rt; degree(n), children, "{n} keys");
-    }
+    assert_eq!(rt; [degree(10), degree(2), degree(3)], [3, 2, 2]);
     // the keys, the child, where its keys begin, how many it has
     let cases = [
         (10, 0, 0, 4),

@@ -1,20 +1,21 @@
 use borrow.Author.Rules.{rules}
-use Rattle.std.proofs.Common.{◌≡◌, Some, ap, ◌∙◌}
-use Rattle.ist_rows.specs.declared.callers.Caller.{Caller}
+use Rattle.std.proofs.Common.{◌≡◌, ℕ, List, [], ◌∷◌, Some, ◌∙◌}
 use Rattle.ist_rows.specs.declared.kinds.Kind.TheVariants.{Pair}
-use Rattle.ist_units.proofs.RaceLemmas.{pair_stored, base_high, base_low}
+use Rattle.ist_units.proofs.RaceLemmas.{pair_stored, pair_filled, base_high, base_low}
 use Rattle.ist_units.proofs.races.prepare.Goals as goal
 
 -- the row is filled as a root
 pub returns-clause-filled : goal.returns-clause-filled
 returns-clause-filled g c is =
+    let words : List ℕ = 0 ∷ 0 ∷ 2 ∷ 2 ∷ 9 ∷ c.to_word-low.result ∷ c.to_word-high.result ∷ [] in
     let pair : c.reserve.new.who.pair ≡ Some c.args.base = search rules in
     record {
       mine = c.fill_row.ensures.caller.mine;
       above = base_high _ c.requires.base;
       low = base_low _ c.requires.base;
       held = c.fill_row.ensures.caller.rows Pair c.args.base
-          (ap (λ (x : Caller). x.pair) c.fill_row.ensures.stored ∙ pair);
+          (pair_filled c.reserve.new.who c.fill_row.new.who c.args.base words c.fill_row.ensures.stored
+          ∙ pair);
       stored = pair_stored c.reserve.new.who c.fill_row.new.who c.args.base _ _
           c.to_word-low.ensures.value c.to_word-high.ensures.value c.fill_row.ensures.stored;
     }
