@@ -1,5 +1,5 @@
 -- A root over the two leaves, filled ahead and built. Serves the tests.
-use Rattle.std.proofs.Common.{◌≡◌, ◌≢◌, ℕ, zero, suc, ◌+◌, ◌*◌, ◌/◌, ◌<◌, ◌⊎◌, List, [], ◌∷◌, slice_get, Some, refl, sym, ap, ap₂, ◌∙◌, subst, inl, ⊎_elim, arith}
+use Rattle.std.proofs.Common.{◌≡◌, ◌≢◌, ℕ, ◌+◌, ◌*◌, ◌/◌, ◌<◌, ◌⊎◌, List, [], ◌∷◌, slice_get, Some, refl, sym, ap, ap₂, ◌∙◌, subst, inl, ⊎_elim, arith}
 use Rattle.ist_core.specs.declared.events.Event.{Event}
 use Rattle.ist_core.specs.declared.events.Event.TheVariants.{Root, Lose}
 use Rattle.ist_core.specs.declared.lists.HeldRow.{HeldRow}

@@ -1,4 +1,4 @@
-use Rattle.std.proofs.Common.{ap, ◌∙◌}
+use Rattle.std.proofs.Common.{◌∙◌}
 use Rattle.ist_core.specs.Marking.{as_target}
 use Rattle.ist_rows.specs.CallerLaws.{KeepsRows}
 use Rattle.ist_rule.proofs.WentOnLemmas.{went_who}

@@ -1,5 +1,4 @@
-use Rattle.std.proofs.Common.{◌≡◌, ◌∙◌, ap, sym, subst, arith, map, List, ℕ}
-use Rattle.std.specs.List.{range_with_len}
+use Rattle.std.proofs.Common.{◌≡◌, ◌∙◌, ap, arith, map}
 use Rattle.ist_image.proofs.RisingLemmas.{length-numbered, numbered_open, numbered_more}
 use Rattle.ist_units.proofs.samples.pairs_of.Goals as goal
 
