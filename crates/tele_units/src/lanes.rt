@@ -142,6 +142,16 @@ fn equal_timestamps_go_to_one_lane(rt: HostRuntime) -> Result<(), AllocError> {
     Ok(())
 }
 
+// The first of these timestamps and workers that gives another lane than it is to give.
+fn first_other_lane(cases: &[(u64, u32, u32)]) -> Option<usize> {
+    for (i, (timestamp, workers, lane)) in cases.iter().enumerate() {
+        if *workers == 0 || lane_of(*timestamp, *workers) != *lane {
+            return Some(i);
+        }
+    }
+    None
+}
+
 #[test]
 fn lanes_are_remainders(rt: HostRuntime) {
     // the timestamp, the workers, the lane
@@ -158,14 +168,7 @@ fn lanes_are_remainders(rt: HostRuntime) {
         (u64::MAX, 7, 1),
         (u64::MAX, u32::MAX, 0),
     ];
-    for (timestamp, workers, lane) in cases {
-        assert!(rt; workers >= 1);
-        assert_eq!(rt;
-            lane_of(timestamp, workers),
-            lane,
-            "{timestamp} of {workers}"
-        );
-    }
+    assert_eq!(rt; first_other_lane(&cases), None);
 }
 
 // A lane of one task whose port raises one flag and waits for the other.
