@@ -1,5 +1,5 @@
-use Rattle.std.proofs.Common.{ℕ, [], ◌∷◌, ◌++◌, ◌≤◌, ◌∙◌, inr, sym, ap, refl, subst, append-nil, lit<}
-use Rattle.std.specs.Prelude.{Err, IfSome}
+use Rattle.std.proofs.Common.{ℕ, List, [], ◌∷◌, ◌++◌, ◌≤◌, ◌∙◌, inr, sym, ap, refl, subst, append-nil, lit<}
+use Rattle.std.specs.Prelude.{Option, Err, IfSome}
 use Rattle.tele_io.specs.Bytes.{Appends, AppendsPart, HaveRisen}
 use Rattle.tele_lines.specs.Answer.{Good, Bad}
 use Rattle.tele_lines.specs.Progress.{version_of, unread}
@@ -14,7 +14,8 @@ use Rattle.tele_run.proofs.CutLemmas.{task_rounds-open, task_rounds-bad}
 use Rattle.tele_run.proofs.DueRoundLemmas.{rounds_went_if, rounds_ended_if}
 use Rattle.tele_run.proofs.RanLemmas.{words_here}
 use Rattle.tele_run.proofs.steps.step.Goals as goal
-use Rattle.tele_run.proofs.steps.step.Goals.{in-Ok-Some+in-Err, in-Ok-None+in-Err-end_round, in-Err-Bad+in-Err-name, in-Err-Read+in-Err-pass_on}
+use Rattle.tele_run.proofs.steps.step.Goals.{in-Ok-Some+in-Err, in-Ok-None+in-Err-end_round}
+use Rattle.tele_run.proofs.steps.step.Goals.{in-Err-Bad+in-Err-name, in-Err-Read+in-Err-pass_on}
 
 -- the input has ended, and the open round was answered
 pub returns-in-Ok-end_round-clause-ends : goal.returns-in-Ok-end_round-clause-ends
@@ -164,30 +165,34 @@ returns-clause-part g c _ =
     let tasks = c.args.round.now.tasks in
     let before = g.O.Sink.written c.args.out.now in
     let told = unread c.args.lines.now (g.S.Source.left c.args.source.now) in
+    let Parts = λ (now : Option (List ℕ)). IfSome told (λ bytes. AppendsPart before now (due was bytes).text) in
     elim c.match-next.branch [
       | in-Ok-Some+in-Err w ↦
           let v = w.version.result in
-          subst (λ out. IfSome told (λ bytes. AppendsPart before (g.O.Sink.written out) (due was bytes).text)) (sym w.out-is)
+          subst Parts (ap g.O.Sink.written (sym w.out-is))
           (part_if was _ (asked v tasks) (Good w.in-Ok-Some.line.number v w.in-Ok-Some.line.item ∷ []) _ _ _ _ _
-          (same_lines c.args.lines.now c.next.new.self v tasks w.version.ensures.value c.requires.chosen c.next.ensures.steady)
+          (same_lines c.args.lines.now c.next.new.self v tasks w.version.ensures.value c.requires.chosen
+          c.next.ensures.steady)
           (status-taken v tasks w.in-Ok-Some.line.number w.in-Ok-Some.line.item)
           (rw (← w.version.ensures.value) at (rw w.in-Ok-Some.field-0-is at w.in-Ok-Some.ensures.line)) w.in-Err.ensures.part)
       | in-Ok-None+in-Err-end_round w ↦
           let v = w.version-in-Ok-None.result in
-          subst (λ out. IfSome told (λ bytes. AppendsPart before (g.O.Sink.written out) (due was bytes).text)) (sym w.out-is)
+          subst Parts (ap g.O.Sink.written (sym w.out-is))
           (ended_part_if was (asked v tasks) [] _ _ _
-          (same_lines c.args.lines.now c.next.new.self v tasks w.version-in-Ok-None.ensures.value c.requires.chosen c.next.ensures.steady)
+          (same_lines c.args.lines.now c.next.new.self v tasks w.version-in-Ok-None.ensures.value c.requires.chosen
+          c.next.ensures.steady)
           (rw w.in-Ok-None.field-0-is at w.in-Ok-None.ensures.none)
           (subst (AppendsPart _ _) (at_end v (map_in c.args.round.now) tasks) w.in-Err-end_round.ensures.part))
       | in-Err-Bad+in-Err-name w ↦
           let v = w.version-in-Err-Bad.result in
-          subst (λ out. IfSome told (λ bytes. AppendsPart before (g.O.Sink.written out) (due was bytes).text)) (sym w.out-is)
+          subst Parts (ap g.O.Sink.written (sym w.out-is))
           (ended_part_if was (asked v tasks) (Bad w.in-Err-Bad.line w.in-Err-Bad.cause ∷ []) _ _ _
-          (same_lines c.args.lines.now c.next.new.self v tasks w.version-in-Err-Bad.ensures.value c.requires.chosen c.next.ensures.steady)
+          (same_lines c.args.lines.now c.next.new.self v tasks w.version-in-Err-Bad.ensures.value c.requires.chosen
+          c.next.ensures.steady)
           (w.in-Err-Bad.ensures.bad w.in-Err-Bad.line w.in-Err-Bad.cause (ap Err w.in-Err-Bad.field-0-is) c.requires.going)
           w.in-Err-name.ensures.part)
       | in-Err-Read+in-Err-pass_on w ↦
-          subst (λ out. IfSome told (λ bytes. AppendsPart before (g.O.Sink.written out) (due was bytes).text)) (sym w.out-is)
+          subst Parts (ap g.O.Sink.written (sym w.out-is))
           (none_if was _ _ _ w.pass_on.ensures.same)
     ]
 
