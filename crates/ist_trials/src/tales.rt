@@ -90,61 +90,44 @@ fn tales_that_have_an_order_are_let_through(rt: HostRuntime) -> Result<(), Fail>
 }
 
 #[test]
-fn tales_that_have_no_order_are_refused(rt: HostRuntime) -> Result<(), Fail> {
+fn tales_that_have_no_order_are_refused(rt: HostRuntime) {
+    let alloc = rt.alloc();
     let put_101 = (Put(1, 101), Some(100));
     let put_201 = (Put(1, 201), Some(101));
+    let gone = (Remove(1), Some(100));
+    let again = (Remove(1), Some(101));
+    let anew = (Put(1, 101), None);
+    let late = (Find(1), Some(101));
     let end = [AT_201];
-    // what each thread was told, the pairs at the close, what is wrong
-    let cases: [(&[(Asked, Reply)], &[(Asked, Reply)], &[Pair], Misfit); 9] = [
-        (
-            &[put_101],
-            &[(Put(1, 201), Some(100))],
-            &end,
-            Misfit::ReplacedTwice { value: 100 },
-        ),
-        (
-            &[(Remove(1), Some(100)), (Put(1, 101), None)],
-            &[(Remove(1), Some(101)), (Put(1, 101), None)],
-            &[AT_101],
-            Misfit::WrittenTwice { value: 101 },
-        ),
-        (&[put_101], &[put_201], &[AT_101], Misfit::NotAtClose),
-        (&[put_101], &[put_201], &[], Misfit::NotAtClose),
-        (&[], &[put_201], &end, Misfit::OutOfReach),
-        (
-            &[put_201, put_101],
-            &[],
-            &end,
-            Misfit::OutOfOrder { key: 1, value: 101 },
-        ),
-        (
-            &[put_101],
-            &[put_201, (Find(1), Some(101))],
-            &end,
-            Misfit::OutOfOrder { key: 1, value: 101 },
-        ),
-        (
-            &[put_101, put_201],
-            &[(Find(1), None)],
-            &end,
-            Misfit::NotFound { key: 1 },
-        ),
-        (
-            &[put_101, put_201],
-            &[(Find(2), Some(101))],
-            &end,
-            Misfit::NeverThere { key: 2, value: 101 },
-        ),
+    // what each thread was told, the pairs at the close
+    let found = [
+        judged(alloc, &[put_101], &[(Put(1, 201), Some(100))], &end),
+        judged(alloc, &[gone, anew], &[again, anew], &[AT_101]),
+        judged(alloc, &[put_101], &[put_201], &[AT_101]),
+        judged(alloc, &[put_101], &[put_201], &[]),
+        judged(alloc, &[], &[put_201], &end),
+        judged(alloc, &[put_201, put_101], &[], &end),
+        judged(alloc, &[put_101], &[put_201, late], &end),
+        judged(alloc, &[put_101, put_201], &[(Find(1), None)], &end),
+        judged(alloc, &[put_101, put_201], &[(Find(2), Some(101))], &end),
     ];
-    for (one, two, closing, misfit) in cases {
-        assert_eq!(rt;
-            judged(rt.alloc(), one, two, closing),
-            Err(misfit),
-            "{} and {} told",
-            one.len(),
-            two.len()
-        );
-    }
+    // what is wrong with each
+    let misfits = [
+        Misfit::ReplacedTwice { value: 100 },
+        Misfit::WrittenTwice { value: 101 },
+        Misfit::NotAtClose,
+        Misfit::NotAtClose,
+        Misfit::OutOfReach,
+        Misfit::OutOfOrder { key: 1, value: 101 },
+        Misfit::OutOfOrder { key: 1, value: 101 },
+        Misfit::NotFound { key: 1 },
+        Misfit::NeverThere { key: 2, value: 101 },
+    ];
+    assert_eq!(rt; found, misfits.map(Err));
+}
+
+#[test]
+fn tales_that_go_around_are_refused(rt: HostRuntime) {
     // each thread saw the other's life of key 2 before its own
     let one = [
         (Find(2), Some(202)),
@@ -158,7 +141,6 @@ fn tales_that_have_no_order_are_refused(rt: HostRuntime) -> Result<(), Fail> {
     ];
     let kept = [Pair { key: 1, value: 100 }];
     assert_eq!(rt; judged(rt.alloc(), &one, &two, &kept), Err(Misfit::Around));
-    Ok(())
 }
 
 // Judges two frozen trees of a map that had 100 at key 1. One thread put 101 there, and then 201 at key 2;
@@ -181,26 +163,28 @@ fn frozen_so(alloc: Global, one: &[Pair], two: &[Pair]) -> Result<(), Misfit> {
 }
 
 #[test]
-fn frozen_trees_that_are_no_moments_are_refused(rt: HostRuntime) -> Result<(), Fail> {
+fn frozen_trees_that_are_no_moments_are_refused(rt: HostRuntime) {
+    let alloc = rt.alloc();
     let first = Pair { key: 1, value: 100 };
     let second = Pair { key: 2, value: 201 };
     let third = Pair { key: 3, value: 301 };
     let later = Pair { key: 3, value: 302 };
     let none = Pair { key: 3, value: 303 };
-    // two frozen trees, what is wrong
-    let cases: [(&[Pair], &[Pair], Result<(), Misfit>); 5] = [
-        (&[first, third], &[AT_101, second, later], Ok(())),
-        (&[first], &[first, second], Err(Misfit::Torn { key: 2 })),
-        (&[first, later], &[AT_101, third], Err(Misfit::Crossed)),
-        (&[AT_101, third], &[first, later], Err(Misfit::Crossed)),
-        (
-            &[none],
-            &[first],
-            Err(Misfit::NeverThere { key: 3, value: 303 }),
-        ),
+    // two frozen trees
+    let found = [
+        frozen_so(alloc, &[first, third], &[AT_101, second, later]),
+        frozen_so(alloc, &[first], &[first, second]),
+        frozen_so(alloc, &[first, later], &[AT_101, third]),
+        frozen_so(alloc, &[AT_101, third], &[first, later]),
+        frozen_so(alloc, &[none], &[first]),
     ];
-    for (one, two, misfit) in cases {
-        assert_eq!(rt; frozen_so(rt.alloc(), one, two), misfit, "{one:?} {two:?}");
-    }
-    Ok(())
+    // what is wrong with each
+    let misfits = [
+        Ok(()),
+        Err(Misfit::Torn { key: 2 }),
+        Err(Misfit::Crossed),
+        Err(Misfit::Crossed),
+        Err(Misfit::NeverThere { key: 3, value: 303 }),
+    ];
+    assert_eq!(rt; found, misfits);
 }
