@@ -1,6 +1,6 @@
 //! Bytes in and out, the lanes of a round, and what is drawn from a seed, call by call: tests alone.
 //!
-//! Read `bytes.rt`; `recorders.rt`, then `lanes.rt` and `stealing.rt`; and `draws.rt`. Stands on `tele_io`, `tele_lanes`,
+//! Read `bytes.rt`; `recorders.rt`, then `lanes.rt`, `meetings.rt` and `stealing.rt`; and `draws.rt`. Stands on `tele_io`, `tele_lanes`,
 //! `tele_steal` and `ist_draws`.
 #![tactic(auto)]
 
@@ -10,6 +10,8 @@ mod bytes;
 mod draws;
 #[cfg(test)]
 mod lanes;
+#[cfg(test)]
+mod meetings;
 #[cfg(test)]
 mod recorders;
 #[cfg(test)]

@@ -1,8 +1,8 @@
 use Rattle.std.proofs.Common.{[], ◌∷◌, ◌≤◌, length}
 use Rattle.std.proofs.lemmas.List.Elements.{All-cons, All-nil}
 use Rattle.tele_lanes.specs.declared.lanes.Lane.{Lane}
-use Rattle.tele_units.specs.declared.lanes.Meeting.{Meeting}
-use Rattle.tele_units.proofs.lanes.meet.Goals as goal
+use Rattle.tele_units.specs.declared.meetings.Meeting.{Meeting}
+use Rattle.tele_units.proofs.meetings.meet.Goals as goal
 
 -- a lane has room for the answers to its tasks
 abbrev HasRoom : Lane Meeting (Unit {0}) → Type 0
