@@ -26,19 +26,19 @@ fn number_option<'a>(alloc: Global, name: &'a str, low: u64, high: u64) -> Arg<'
 fn sized<'a>(alloc: Global) -> Result<Command<'a>, AllocError>
     ensures value { IfOk result (λ c. app_of c ≡ sized) }
 {
-    let workers = number_option(alloc, "workers", 1, 64);
-    let words = number_option(alloc, "words", 64, 268_435_456);
-    Command::new(alloc, "tele").arg(workers)?.arg(words)
+    Command::new(alloc, "tele")
+        .arg(number_option(alloc, "workers", 1, 64))?
+        .arg(number_option(alloc, "words", 64, 268_435_456))
 }
 
 /// The command with its five options.
 fn command<'a>(alloc: Global) -> Result<Command<'a>, AllocError>
     ensures value { IfOk result (λ c. app_of c ≡ tele) }
 {
-    let generate = number_option(alloc, "generate", 0, 1_048_576);
-    let seed = number_option(alloc, "seed", 0, u64::MAX);
-    let steal = number_option(alloc, "steal", 0, 1);
-    sized(alloc)?.arg(generate)?.arg(seed)?.arg(steal)
+    sized(alloc)?
+        .arg(number_option(alloc, "generate", 0, 1_048_576))?
+        .arg(number_option(alloc, "seed", 0, u64::MAX))?
+        .arg(number_option(alloc, "steal", 0, 1))
 }
 
 /// What the command makes of some words.
