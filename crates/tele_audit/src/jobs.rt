@@ -1,7 +1,8 @@
 //! What a command line asks for. Its words are read by hand.
 ghost use Rattle.std.specs.Prelude.{◌≡◌, map, string_bytes};
-ghost use Rattle.tele_lines.specs.Numerals.{numeral_value};
 ghost use Rattle.tele_audit.specs.Jobs.{job_of, job_named, job_between};
+
+use tele_lines::number;
 
 /// What is asked of a dump.
 #[derive(Clone, Copy, Debug, PartialEq, Eq, Drop)]
@@ -58,22 +59,4 @@ fn interval(word: &str, first: &str, last: &str) -> Job
         (Some(first), Some(last)) => Job::Tell(Question::Between { first, last }),
         _ => Job::Refuse,
     }
-}
-
-/// The number that some bytes are: one or more ASCII digits that say less than 2^64.
-fn number(bytes: &[u8]) -> Option<u64>
-    ensures value { result ≡ numeral_value bytes.now }
-{
-    if bytes.is_empty() {
-        return None;
-    }
-    let mut value: u64 = 0;
-    for &byte in bytes {
-        if !byte.is_ascii_digit() {
-            return None;
-        }
-        let digit = u64::from(byte - b'0');
-        value = value.checked_mul(10)?.checked_add(digit)?;
-    }
-    Some(value)
 }

@@ -1,17 +1,14 @@
 //! What the program writes about a dump.
 ghost use Rattle.std.specs.Prelude.{◌≡◌, ◌≤◌, length, Err, OnOk, OnErr};
-ghost use Rattle.std.specs.List.{flat_map};
 ghost use Rattle.tele_io.specs.Bytes.{HaveRisen, Appends, AppendsPart};
-ghost use Rattle.tele_lines.specs.declared.items.Version.TheVariants.{One};
-ghost use Rattle.tele_lines.specs.Answer.{pair_text};
 ghost use Rattle.tele_audit.specs.Runs.{counts_text, said, flaw_word, flaw_text};
 
 use crate::audits::Audited;
 use crate::flaws::Flaw;
 use crate::jobs::Question;
 use crate::pieces::Piece;
-use ist_core::Pair;
 use tele_io::{Sink, SinkFault, write_whole};
+use tele_lines::{Version, print_pairs};
 
 /// The line that tells how many keys, used words and words there are.
 fn counts_line(told: &Audited) -> Piece
@@ -24,18 +21,6 @@ fn counts_line(told: &Audited) -> Piece
     line.push_decimal(told.used());
     line.push(b" words ");
     line.push_decimal(told.words());
-    line.push(b"\n");
-    line
-}
-
-/// The line of a pair.
-fn pair_line(pair: Pair) -> Piece
-    ensures value { result ≡ pair_text One pair }
-{
-    let mut line = Piece::new();
-    line.push_decimal(pair.key);
-    line.push(b" ");
-    line.push_decimal(pair.value);
     line.push(b"\n");
     line
 }
@@ -72,23 +57,6 @@ fn flaw_line(flaw: Flaw) -> Piece
     line
 }
 
-/// Writes each pair on a line of its own.
-fn write_pairs<O: Sink>(out: &mut O, pairs: &[Pair]) -> Result<(), SinkFault>
-    ensures printed { OnOk result (Appends (O.written out.old) (O.written out.new)
-        (flat_map (pair_text One) pairs.now)) }
-    ensures failed { result ≡ Err SinkFault.Failed →
-        HaveRisen (O.faults out.old) (O.faults out.new) }
-    ensures part { OnErr result (AppendsPart (O.written out.old) (O.written out.new)
-        (flat_map (pair_text One) pairs.now)) }
-    ensures counted { O.faults out.old ≤ O.faults out.new }
-{
-    for pair in pairs {
-        let line = pair_line(*pair);
-        write_whole(out, line.as_slice())?;
-    }
-    Ok(())
-}
-
 /// Writes the answer to a question about a dump.
 pub(crate) fn write_answer<O: Sink>(
     out: &mut O,
@@ -105,7 +73,9 @@ pub(crate) fn write_answer<O: Sink>(
 {
     match question {
         Question::Counts => write_whole(out, counts_line(told).as_slice()),
-        Question::Between { first, last } => write_pairs(out, told.list(first, last)),
+        Question::Between { first, last } => {
+            print_pairs(out, Version::One, told.list(first, last))
+        },
     }
 }
 

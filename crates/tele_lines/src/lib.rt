@@ -14,6 +14,6 @@ mod texts;
 mod words;
 
 pub use items::{Cause, Item, Line, LineFault, Version};
-pub use numerals::{shifted, signed};
-pub use printing::{print_answer, print_bad, print_interval};
+pub use numerals::{number, shifted, signed};
+pub use printing::{print_answer, print_bad, print_interval, print_pairs};
 pub use reader::Lines;

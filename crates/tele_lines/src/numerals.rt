@@ -29,8 +29,9 @@ pub fn signed(kept: u64) -> i64
     }
 }
 
-/// The number that some bytes are: one or more ASCII digits that say less than 2^64.
-fn number(bytes: &[u8]) -> Option<u64>
+/// The number that some bytes are, or none: one or more ASCII digits, and nothing else, that say less than
+/// 2^64.
+pub fn number(bytes: &[u8]) -> Option<u64>
     ensures value { result ≡ numeral_value bytes.now }
 {
     if bytes.is_empty() {

@@ -140,8 +140,12 @@ pub fn print_interval<O: Sink>(
     print_pairs(out, version, pairs)
 }
 
-/// Prints each pair on a line of its own.
-fn print_pairs<O: Sink>(out: &mut O, version: Version, pairs: &[Pair]) -> Result<(), SinkFault>
+/// Prints each pair on a line of its own: its timestamp, a space and its reading, in version 2 the kept numbers
+/// less 2^63.
+///
+/// Each line goes out by one `write_whole`, and it takes no memory of its own. After a refusal, which
+/// is the sink's, a prefix of the text may have been written.
+pub fn print_pairs<O: Sink>(out: &mut O, version: Version, pairs: &[Pair]) -> Result<(), SinkFault>
     ensures printed { OnOk result (Appends (O.written out.old) (O.written out.new)
         (flat_map (pair_text version) pairs.now)) }
 
