@@ -64,8 +64,7 @@ none_taken who leaves none stuck done rest h =
 -- one leaf
 pub one_good : (v : View) → IsSound v → (leaves : List ℕ) → HaveLeaves (now v) leaves
     → length leaves ≡ 1 → IsGoodBase (slice_index_or leaves 0 0)
-one_good v s leaves have one =
-    at leaves have.0 have.1 one
+one_good v s leaves have one = at leaves have.0 have.1 one
   where
     at : (bases : List ℕ) (placed : List PlacedLeaf) → ArePlaced (now v) bases placed
         → length bases ≡ 1 → IsGoodBase (slice_index_or bases 0 0)

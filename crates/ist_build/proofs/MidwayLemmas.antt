@@ -69,8 +69,7 @@ part_placed v w b n j bases leaves a =
 pub length-share_of : {A : Type 0} (n j : ℕ) (xs : List A) → length xs ≡ n → j < degree n
     → length (share_of n j xs) ≡ part_len n j
 length-share_of n j xs many less =
-    let all = part_end-le n j less in
-    let rest = length-drop (part_start n j) xs in
+    let all = part_end-le n j less in let rest = length-drop (part_start n j) xs in
     length-take-le (part_len n j) (drop (part_start n j) xs) (omega arith)
 
 pub some_first : {A : Type 0} (xs : List A) → 1 ≤ length xs → (x : A) × (ys : List A) × (xs ≡ x ∷ ys)
